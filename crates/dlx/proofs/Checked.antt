@@ -1,0 +1,16 @@
+-- The examples hold: the single claim about the rules.
+use mathlib.Core.Path.{_≡_, refl}
+use mathlib.Core.Bool.{true}
+use mathlib.Core.List.{_++_}
+use lib.Count.{trailingZeros}
+use Rattle.dlx.specs.Words.{extendedBy, readIn, holds}
+use Rattle.dlx.specs.Instructions.{registerType, instructionOf}
+use Rattle.dlx.specs.Processor.{specialOf, withSpecial}
+use Rattle.dlx.specs.Interrupts.{levelOf, interrupted}
+use Rattle.dlx.specs.Execute.{written, valueOf, overflowsOf, operated, reached, loads, stores, movedTo, effectOf}
+use Rattle.dlx.specs.Machine.{executed, fetched, loaded, stored, accessed, settled, retabled, step, steps}
+use Rattle.dlx.specs.Examples.{once, booted, r, interrupt, pair, is-ill, papers, traps, all}
+
+pub checked : all (papers ++ traps) ≡ true
+unfolding all papers traps r interrupt pair is-ill once booted step steps fetched executed loaded stored accessed settled retabled instructionOf registerType effectOf written valueOf overflowsOf operated reached loads stores movedTo specialOf withSpecial interrupted levelOf trailingZeros extendedBy readIn holds
+checked = refl

@@ -1,0 +1,81 @@
+-- Two memories that answer alike make steps alike. Isolation and simulation are instances.
+use mathlib.Core.Path.{_≡_, refl, ap, subst}
+use mathlib.Core.Bool.{Bool, true, false}
+use Prim.Native.Nat.{ℕ, zero, suc}
+use Rattle.dlx.specs.Choice.{if_then_else_}
+use Rattle.dlx.specs.Words.{aligned}
+use Rattle.dlx.specs.Processor.{user}
+use Rattle.dlx.specs.Machine.{Access, Ops, Core, Outcome, executed, fetched, loaded, stored, accessed, settled, retabled, step, steps}
+use Rattle.dlx.specs.declared.partition.Table.{Table}
+use Rattle.dlx.specs.declared.partition.Processor.{Processor}
+use Rattle.dlx.specs.declared.execute.Change.{Change}
+use Rattle.dlx.specs.declared.execute.Change.the-variants.{Plain, Special, Retable, Cause, Return}
+use Rattle.dlx.specs.declared.execute.Effect.{Effect}
+use Rattle.dlx.specs.declared.execute.Effect.the-variants.{Done, Load, Store}
+
+module _ {S S′ : Type 0} (R : S → S′ → Type 0) where
+  -- the same answer, and related memories
+  pub record Both {A : Type 0} (g : A × S) (g′ : A × S′) : Type 0 where
+    pub same : g .0 ≡ g′ .0
+    pub rest : R (g .1) (g′ .1)
+
+  -- related memories answer every access alike, and stay related
+  pub record Like (O : Ops S) (O′ : Ops S′) : Type 0 where
+    pub tables : (s : S) (s′ : S′) → R s s′ → O .table s ≡ O′ .table s′
+    pub reads : (s : S) (s′ : S′) → R s s′ → (u : Bool) (a : ℕ) → Both (O .read s u a) (O′ .read s′ u a)
+    pub writes : (s : S) (s′ : S′) → R s s′ → (u : Bool) (a : ℕ) (f : ℕ → ℕ) → Both (O .write s u a f) (O′ .write s′ u a f)
+    pub retables : (s : S) (s′ : S′) → R s s′ → (t : Table) → R (O .retable s t) (O′ .retable s′ t)
+
+module _ {S S′ : Type 0} (R : S → S′ → Type 0) (O : Ops S) (O′ : Ops S′) (L : Like R O O′) where
+  either-like : {A : Type 0} (b : Bool) {g h : A × S} {g′ h′ : A × S′} → Both R g g′ → Both R h h′ → Both R (if b then g else h) (if b then g′ else h′)
+  either-like true k l = k
+  either-like false k l = l
+
+  fetched-like : (c : Core) (s : S) (s′ : S′) → R s s′ → Both R (fetched O (c, s)) (fetched O′ (c, s′))
+  unfolding fetched
+  fetched-like c s s′ r =
+      let g = L .reads s s′ r (user (c .processor)) (c .processor .dpc) in
+      either-like (aligned (c .processor .dpc))
+      (record { same = rw (g .same, L .tables s s′ r); rest = g .rest })
+      (record { same = refl; rest = r })
+
+  accessed-like : (p : Processor) (e : Effect) (s : S) (s′ : S′) → R s s′ → Both R (accessed O p e s) (accessed O′ p e s′)
+  unfolding accessed
+  accessed-like p (Done c) s s′ r = record { same = refl; rest = r }
+  accessed-like p (Load d a) s s′ r =
+      let g = L .reads s s′ r (user p) a in
+      record { same = rw (g .same); rest = g .rest }
+  accessed-like p (Store a v) s s′ r =
+      let g = L .writes s s′ r (user p) a (λ _. v) in
+      record { same = rw (g .same); rest = g .rest }
+
+  retabled-like : (c : Change) (s : S) (s′ : S′) → R s s′ → R (retabled O c s) (retabled O′ c s′)
+  unfolding retabled
+  retabled-like (Plain d v target) s s′ r = r
+  retabled-like (Special n v) s s′ r = r
+  retabled-like (Retable t) s s′ r = L .retables s s′ r t
+  retabled-like (Cause causes datum) s s′ r = r
+  retabled-like Return s s′ r = r
+
+  settled-like : (c : Core) (g : Change × S) (g′ : Change × S′) → Both R g g′ → Both R (settled c (g .0), retabled O (g .0) (g .1)) (settled c (g′ .0), retabled O′ (g′ .0) (g′ .1))
+  settled-like c g g′ b =
+      subst (λ x. Both R (settled c (g .0), retabled O (g .0) (g .1)) (settled c x, retabled O′ x (g′ .1))) (b .same)
+      (record { same = refl; rest = retabled-like (g .0) (g .1) (g′ .1) (b .rest) })
+
+  effect-like : (p : Processor) (g : Effect × S) (g′ : Effect × S′) → Both R g g′ → Both R (accessed O p (g .0) (g .1)) (accessed O′ p (g′ .0) (g′ .1))
+  effect-like p g g′ b =
+      subst (λ x. Both R (accessed O p (g .0) (g .1)) (accessed O′ p x (g′ .1))) (b .same)
+      (accessed-like p (g .0) (g .1) (g′ .1) (b .rest))
+
+  pub step-like : (m : Core × S) (m′ : Core × S′) → Both R m m′ → Both R (step O m) (step O′ m′)
+  unfolding step
+  step-like m m′ b =
+      subst (λ c. Both R (step O m) (step O′ (c, m′ .1))) (b .same)
+      (settled-like (m .0) _ _ (effect-like (m .0 .processor) _ _ (fetched-like (m .0) (m .1) (m′ .1) (b .rest))))
+
+  pub steps-like : (n : ℕ) (m : Core × S) (m′ : Core × S′) → Both R m m′ → Both R (steps O n m) (steps O′ n m′)
+  unfolding steps
+  steps-like zero m m′ b = b
+  steps-like (suc n) m m′ b =
+      let k = step-like _ _ (steps-like n m m′ b) in
+      record { same = ap (λ o. o .core) (k .same); rest = k .rest }

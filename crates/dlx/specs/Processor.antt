@@ -1,0 +1,69 @@
+-- The processor: DPC, PC and the special registers. PTO and PTL stand apart, in the table.
+use mathlib.Core.Bool.{Bool}
+use Prim.Native.Nat.{ℕ, _+_, _%_, _^_}
+use lib.Dec.{eqb}
+use Rattle.dlx.specs.Choice.{if_then_else_}
+use Rattle.dlx.specs.Words.{plus}
+use Rattle.dlx.specs.declared.partition.Table.{Table}
+use Rattle.dlx.specs.declared.partition.Processor.{Processor}
+use Rattle.dlx.specs.declared.partition.Partition.{Partition}
+
+-- MODE 0 is system, 1 user
+abbrev pub user : Processor → Bool
+user p = eqb (p .mode) 1
+
+-- at boot: all registers zero but PC = 4, the step counter 0
+abbrev pub freshProcessor : Processor
+freshProcessor =
+    record { dpc = 0; pc = 4; sr = 0; esr = 0; eca = 0; epc = 0; edpc = 0; edata = 0; mode = 0; emode = 0 }
+
+abbrev pub freshOf : ℕ → Partition
+freshOf n = record { pages = n; processor = freshProcessor; table = record { pto = 0; ptl = 0 }; counter = 0 }
+
+-- the special register of number n, at most 9
+unfoldable pub specialOf : Processor → Table → ℕ → ℕ
+specialOf p t n =
+    if eqb n 0 then p .sr else
+    if eqb n 1 then p .esr else
+    if eqb n 2 then p .eca else
+    if eqb n 3 then p .epc else
+    if eqb n 4 then p .edpc else
+    if eqb n 5 then p .edata else
+    if eqb n 6 then p .mode else
+    if eqb n 7 then t .pto else
+    if eqb n 8 then t .ptl else
+    p .emode
+
+-- special n of the processor becomes v; MODE and EMODE take a value modulo 2
+unfoldable pub withSpecial : Processor → ℕ → ℕ → Processor
+withSpecial p n v = record {
+  dpc = p .dpc;
+  pc = p .pc;
+  sr = if eqb n 0 then v else p .sr;
+  esr = if eqb n 1 then v else p .esr;
+  eca = if eqb n 2 then v else p .eca;
+  epc = if eqb n 3 then v else p .epc;
+  edpc = if eqb n 4 then v else p .edpc;
+  edata = if eqb n 5 then v else p .edata;
+  mode = if eqb n 6 then v % 2 else p .mode;
+  emode = if eqb n 9 then v % 2 else p .emode;
+}
+
+-- DPC' = PC, and PC' = a target
+abbrev pub wentTo : Processor → ℕ → Processor
+wentTo p target = record {
+  dpc = p .pc;
+  pc = target;
+  sr = p .sr;
+  esr = p .esr;
+  eca = p .eca;
+  epc = p .epc;
+  edpc = p .edpc;
+  edata = p .edata;
+  mode = p .mode;
+  emode = p .emode;
+}
+
+-- unless stated, PC' = PC + 4
+abbrev pub behind : Processor → ℕ
+behind p = plus (p .pc) 4

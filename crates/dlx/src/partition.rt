@@ -1,0 +1,159 @@
+// The partition: its page count, its processor, its table's registers and its step counter. Its 32 registers are lent beside it.
+ghost use mathlib.Core.Path.{_≡_};
+ghost use Rattle.dlx.specs.Processor.{freshOf, specialOf, withSpecial, wentTo};
+
+// PTO and PTL: where the guest's page table begins, in pages, and how many entries it has. Nothing but a change of table changes them.
+pub struct Table {
+    pub pto: u32,
+    pub ptl: u32,
+}
+
+// The program counters and the special registers but PTO and PTL.
+pub struct Processor {
+    pub dpc: u32,
+    pub pc: u32,
+    pub sr: u32,
+    pub esr: u32,
+    pub eca: u32,
+    pub epc: u32,
+    pub edpc: u32,
+    pub edata: u32,
+    pub mode: u32,
+    pub emode: u32,
+}
+
+pub struct Partition {
+    pub pages: u32,
+    pub processor: Processor,
+    pub table: Table,
+    pub counter: u64,
+}
+
+impl Partition {
+    // The special registers' numbers.
+    pub const SR: u32 = 0;
+
+    pub const ESR: u32 = 1;
+
+    pub const ECA: u32 = 2;
+
+    pub const EPC: u32 = 3;
+
+    pub const EDPC: u32 = 4;
+
+    pub const EDATA: u32 = 5;
+
+    pub const MODE: u32 = 6;
+
+    pub const PTO: u32 = 7;
+
+    pub const PTL: u32 = 8;
+
+    pub const EMODE: u32 = 9;
+
+    // The bits of the cause word: ill is bit 1, ovf bit 6.
+    pub const ILL: u32 = 2;
+
+    pub const MAL: u32 = 4;
+
+    pub const PFF: u32 = 8;
+
+    pub const PFLS: u32 = 16;
+
+    pub const TRAP: u32 = 32;
+
+    pub const OVF: u32 = 64;
+
+    // The state of a partition with so many pages at boot.
+    pub fn fresh(pages: u32) -> Partition
+        ensures { λ r. ⌜ r ≡ freshOf pages ⌝ }
+    {
+        Partition {
+            pages,
+            processor: Processor {
+                dpc: 0,
+                pc: 4,
+                sr: 0,
+                esr: 0,
+                eca: 0,
+                epc: 0,
+                edpc: 0,
+                edata: 0,
+                mode: 0,
+                emode: 0,
+            },
+            table: Table { pto: 0, ptl: 0 },
+            counter: 0,
+        }
+    }
+}
+
+// The special register of number n, at most 9, as movs2i reads it.
+pub fn special(p: Processor, t: Table, n: u32) -> u32
+    ensures { λ r. ⌜ r ≡ specialOf p t n ⌝ }
+{
+    match n {
+        Partition::SR => p.sr,
+        Partition::ESR => p.esr,
+        Partition::ECA => p.eca,
+        Partition::EPC => p.epc,
+        Partition::EDPC => p.edpc,
+        Partition::EDATA => p.edata,
+        Partition::MODE => p.mode,
+        Partition::PTO => t.pto,
+        Partition::PTL => t.ptl,
+        _ => p.emode,
+    }
+}
+
+// The processor with v in the special register of number n. PTO and PTL do not stand in it.
+pub fn set_special(p: Processor, n: u32, v: u32) -> Processor
+    ensures { λ r. ⌜ r ≡ withSpecial p n v ⌝ }
+{
+    let mut r = p;
+    match n {
+        Partition::SR => {
+            r.sr = v;
+            r
+        }
+        Partition::ESR => {
+            r.esr = v;
+            r
+        }
+        Partition::ECA => {
+            r.eca = v;
+            r
+        }
+        Partition::EPC => {
+            r.epc = v;
+            r
+        }
+        Partition::EDPC => {
+            r.edpc = v;
+            r
+        }
+        Partition::EDATA => {
+            r.edata = v;
+            r
+        }
+        Partition::MODE => {
+            r.mode = v % 2;
+            r
+        }
+        Partition::EMODE => {
+            r.emode = v % 2;
+            r
+        }
+        _ => r,
+    }
+}
+
+// On to the delayed instruction, with the target behind it.
+pub fn go(p: Processor, target: u32) -> Processor
+    ensures { λ r. ⌜ r ≡ wentTo p target ⌝ }
+{
+    let mut r = p;
+    r.dpc = p.pc;
+    r.pc = target;
+    r
+}
