@@ -17,13 +17,15 @@ use Rattle.dlx.specs.Processor.{user, specialOf, withSpecial, wentTo, be
 use Rattle.dlx.specs.Interrupts.{unmasked, levelOf, interrupted, returned, savesOld, bringsDatum}
 use Rattle.dlx.specs.Instructions.{instructionOf, registerType, Formed}
 use Rattle.dlx.specs.Execute.{reg, written, valueOf, overflowsOf, operated, reached, loads, stores, inSystem, movedTo, effectOf}
-use Rattle.dlx.specs.Machine.{Access, fault, word, Ops, Core, core, Outcome, executed, fetched, loaded, stored, accessed, settled, retabled, step, Places}
+use Rattle.dlx.specs.Machine.{Ops, Core, core, Outcome, executed, fetched, loaded, stored, accessed, settled, retabled, step, Places}
 use Rattle.dlx.specs.declared.partition.Table.{Table}
 use Rattle.dlx.specs.declared.partition.Processor.{Processor}
 use Rattle.dlx.specs.declared.instruction.Operation.{Operation}
 use Rattle.dlx.specs.declared.instruction.Operation.the-variants.{Add, Sub, And, Or, Xor, Test}
 use Rattle.dlx.specs.declared.instruction.Instruction.{Instruction}
 use Rattle.dlx.specs.declared.instruction.Instruction.the-variants.{Lw, Sw, Immediate, Lhgi, Beqz, Bnez, Jr, Jalr, J, Jal, Trap, Rfe, Register, Movs2i, Movi2s, Ill}
+use Rattle.dlx.specs.declared.execute.Access.{Access}
+use Rattle.dlx.specs.declared.execute.Access.the-variants.{Fault, Word}
 use Rattle.dlx.specs.declared.execute.Change.{Change}
 use Rattle.dlx.specs.declared.execute.Change.the-variants.{Plain, Special, Retable, Cause, Return}
 use Rattle.dlx.specs.declared.execute.Effect.{Effect}
@@ -141,8 +143,8 @@ KeptEffect (Load d a) = (d < 32) × (a < 2 ^ 32)
 KeptEffect (Store a v) = (a < 2 ^ 32) × (v < 2 ^ 32)
 
 abbrev pub KeptAccess : Access → Type 0
-KeptAccess fault = Unit
-KeptAccess (word w) = w < 2 ^ 32
+KeptAccess Fault = Unit
+KeptAccess (Word w) = w < 2 ^ 32
 
 pub change-places : (c : Change) → KeptChange c → Places c
 change-places (Plain d v target) h = h .0
@@ -337,8 +339,8 @@ pub record Keeps {S : Type 0} (I : S → Type 0) (O : Ops S) : Type 0 where
 module _ {S : Type 0} (I : S → Type 0) (O : Ops S) (K : Keeps I O) where
   executed-kept : (c : Core) (t : Table) (x : Access) → Kept c → KeptTable t → KeptEffect (executed c t x)
   unfolding executed
-  executed-kept c t fault h k = (omega arith, h .processor .dpc)
-  executed-kept c t (word w) h k =
+  executed-kept c t Fault h k = (omega arith, h .processor .dpc)
+  executed-kept c t (Word w) h k =
       effect-kept (c .processor) t (c .registers) (h .processor) k (h .registers) (instructionOf w) (instruction-formed w)
 
   fetched-kept : (c : Core) (s : S) → Kept c → I s → KeptEffect (fetched O (c, s) .0) × I (fetched O (c, s) .1)
@@ -351,13 +353,13 @@ module _ {S : Type 0} (I : S → Type 0) (O : Ops S) (K : Keeps I O) where
 
   loaded-kept : (p : Processor) (d a : ℕ) (x : Access) → d < 32 → a < 2 ^ 32 → KeptAccess x → KeptChange (loaded p d a x)
   unfolding loaded
-  loaded-kept p d a fault l h k = (omega arith, h)
-  loaded-kept p d a (word w) l h k = (l, k, omega arith)
+  loaded-kept p d a Fault l h k = (omega arith, h)
+  loaded-kept p d a (Word w) l h k = (l, k, omega arith)
 
-  stored-kept : (p : Processor) (a : ℕ) (x : Access) → a < 2 ^ 32 → KeptChange (stored p a x)
+  stored-kept : (p : Processor) (a : ℕ) (made : Bool) → a < 2 ^ 32 → KeptChange (stored p a made)
   unfolding stored
-  stored-kept p a fault h = (omega arith, h)
-  stored-kept p a (word w) h = (omega arith, omega arith, omega arith)
+  stored-kept p a made h =
+      either KeptChange made (λ _. (omega arith, omega arith, omega arith)) (λ _. (omega arith, h))
 
   accessed-kept : (p : Processor) (e : Effect) (s : S) → KeptEffect e → I s → KeptChange (accessed O p e s .0) × I (accessed O p e s .1)
   unfolding accessed

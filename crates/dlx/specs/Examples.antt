@@ -9,7 +9,8 @@ use Rattle.dlx.specs.Choice.{if_then_else_}
 use Rattle.dlx.specs.Processor.{freshProcessor}
 use Rattle.dlx.specs.Interrupts.{levelOf}
 use Rattle.dlx.specs.Execute.{reg}
-use Rattle.dlx.specs.Machine.{Access, fault, word, Ops, Core, core, Outcome, step, steps}
+use Rattle.dlx.specs.Machine.{Ops, Core, core, Outcome, step, steps}
+use Rattle.dlx.specs.declared.execute.Access.the-variants.{Fault, Word}
 use Rattle.dlx.specs.declared.partition.Table.{Table}
 use Rattle.dlx.specs.declared.partition.Processor.{Processor}
 
@@ -19,13 +20,13 @@ pub record Flat : Type 0 where
   pub table : Table
   pub words : List ℕ
 
-abbrev inside : Flat → ℕ → Access
-inside s a = if ltb (a / 4) (length (s .words)) then word (getD (s .words) (a / 4) 0) else fault
+abbrev inside : Flat → ℕ → Bool
+inside s a = ltb (a / 4) (length (s .words))
 
 abbrev flat : Ops Flat
 flat = record {
   table = λ s. s .table;
-  read = λ s u a. (inside s a, s);
+  read = λ s u a. (if inside s a then Word (getD (s .words) (a / 4) 0) else Fault, s);
   write = λ s u a f. (inside s a, record { table = s .table; words = set (s .words) (a / 4) (f (getD (s .words) (a / 4) 0)) });
   retable = λ s t. record { table = t; words = s .words };
 }

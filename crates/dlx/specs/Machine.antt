@@ -14,22 +14,19 @@ use Rattle.dlx.specs.declared.partition.Table.{Table}
 use Rattle.dlx.specs.declared.partition.Processor.{Processor}
 use Rattle.dlx.specs.declared.execute.Change.{Change}
 use Rattle.dlx.specs.declared.execute.Change.the-variants.{Plain, Special, Retable, Cause, Return}
+use Rattle.dlx.specs.declared.execute.Access.{Access}
+use Rattle.dlx.specs.declared.execute.Access.the-variants.{Fault, Word}
 use Rattle.dlx.specs.declared.execute.Effect.{Effect}
 use Rattle.dlx.specs.declared.execute.Effect.the-variants.{Done, Load, Store}
 
 -- ---- the memory
 
--- what an access gives
-pub data Access : Type 0 where
-  fault : Access
-  word : ℕ → Access
-
 -- A memory with states S. An access says whether it is made in user mode, and names the word by any byte address in it. It may change the
--- state (a shadow is filled). A write takes an update of the word. `retable` changes PTO and PTL.
+-- state (a shadow is filled). A write takes an update of the word, and answers whether it was made. `retable` changes PTO and PTL.
 pub record Ops (S : Type 0) : Type 0 where
   pub table : S → Table
   pub read : S → Bool → ℕ → Access × S
-  pub write : S → Bool → ℕ → (ℕ → ℕ) → Access × S
+  pub write : S → Bool → ℕ → (ℕ → ℕ) → Bool × S
   pub retable : S → Table → S
 
 -- ---- what a guest is beside its memory, and what a step makes of it
@@ -52,8 +49,8 @@ outcome c b = record { core = c; calls = b }
 -- ---- the step
 
 unfoldable pub executed : Core → Table → Access → Effect
-executed c t fault = Done (Cause pff (c .processor .dpc))
-executed c t (word w) = effectOf (c .processor) t (c .registers) (instructionOf w)
+executed c t Fault = Done (Cause pff (c .processor .dpc))
+executed c t (Word w) = effectOf (c .processor) t (c .registers) (instructionOf w)
 
 -- the fetch at DPC, and what its word asks for
 unfoldable pub fetched : {S : Type 0} → Ops S → Core × S → Effect × S
@@ -63,12 +60,11 @@ fetched O m =
     if aligned (p .dpc) then (executed (m .0) (O .table (m .1)) (g .0), g .1) else (Done (Cause mal 0), m .1)
 
 unfoldable pub loaded : Processor → ℕ → ℕ → Access → Change
-loaded p d a fault = Cause pfls a
-loaded p d a (word w) = Plain d w (behind p)
+loaded p d a Fault = Cause pfls a
+loaded p d a (Word w) = Plain d w (behind p)
 
-unfoldable pub stored : Processor → ℕ → Access → Change
-stored p a fault = Cause pfls a
-stored p a (word w) = Plain 0 0 (behind p)
+unfoldable pub stored : Processor → ℕ → Bool → Change
+stored p a made = if made then Plain 0 0 (behind p) else Cause pfls a
 
 -- the data access
 unfoldable pub accessed : {S : Type 0} → Ops S → Processor → Effect → S → Change × S

@@ -44,6 +44,12 @@ pub enum Effect {
     Store(u32, u32),
 }
 
+// What reading a word at an address gives.
+pub enum Access {
+    Fault,
+    Word(u32),
+}
+
 // A step's processor, and whether the guest calls the hypervisor: a trap taken in system mode.
 pub struct Settled {
     pub processor: Processor,

@@ -1,0 +1,5 @@
+pub mod Entries
+pub mod Walk
+pub mod Memory
+pub mod Premises
+pub mod Examples
