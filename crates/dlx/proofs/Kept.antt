@@ -17,7 +17,7 @@ use Rattle.dlx.specs.Processor.{user, specialOf, withSpecial, wentTo, be
 use Rattle.dlx.specs.Interrupts.{unmasked, levelOf, interrupted, returned, savesOld, bringsDatum}
 use Rattle.dlx.specs.Instructions.{instructionOf, registerType, Formed}
 use Rattle.dlx.specs.Execute.{reg, written, valueOf, overflowsOf, operated, reached, loads, stores, inSystem, movedTo, effectOf}
-use Rattle.dlx.specs.Machine.{Ops, Core, core, Outcome, executed, fetched, loaded, stored, accessed, settled, retabled, step, Places}
+use Rattle.dlx.specs.Machine.{Ops, Core, core, Outcome, executed, fetched, loaded, stored, accessed, settled, retabled, step}
 use Rattle.dlx.specs.declared.partition.Table.{Table}
 use Rattle.dlx.specs.declared.partition.Processor.{Processor}
 use Rattle.dlx.specs.declared.instruction.Operation.{Operation}
@@ -145,13 +145,6 @@ KeptEffect (Store a v) = (a < 2 ^ 32) × (v < 2 ^ 32)
 abbrev pub KeptAccess : Access → Type 0
 KeptAccess Fault = Unit
 KeptAccess (Word w) = w < 2 ^ 32
-
-pub change-places : (c : Change) → KeptChange c → Places c
-change-places (Plain d v target) h = h .0
-change-places (Special n v) h = tt
-change-places (Retable t) h = tt
-change-places (Cause causes datum) h = tt
-change-places Return h = tt
 
 -- ---- the registers
 

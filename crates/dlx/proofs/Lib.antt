@@ -1,4 +1,5 @@
 pub mod Checked
 pub mod Kept
 pub mod Like
+pub mod Places
 pub mod Signed

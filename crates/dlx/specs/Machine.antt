@@ -101,6 +101,23 @@ unfoldable pub steps : {S : Type 0} → Ops S → ℕ → Core × S → Core × 
 steps O zero m = m
 steps O (suc n) m = let o = step O (steps O n m) in (o .0 .core, o .1)
 
+-- ---- a stretch: up to so many steps, ending early after a step that calls the hypervisor
+
+-- `made`: how many steps; `called`: whether the last one called
+pub record Stretch (S : Type 0) : Type 0 where
+  pub made : ℕ
+  pub called : Bool
+  pub core : Core
+  pub memory : S
+
+-- up to k steps more, where so many are made
+unfoldable pub stretchFrom : {S : Type 0} → Ops S → ℕ → ℕ → Core × S → Stretch S
+stretchFrom O zero made m = record { made = made; called = false; core = m .0; memory = m .1 }
+stretchFrom O (suc k) made m =
+    let o = step O m in
+    if o .0 .calls then record { made = suc made; called = true; core = o .0 .core; memory = o .1 }
+    else stretchFrom O k (suc made) (o .0 .core, o .1)
+
 -- the register that a change names exists
 abbrev pub Places : Change → Type 0
 Places (Plain d v target) = d < 32

@@ -1,3 +1,11 @@
 pub mod Checked
+pub mod Entries
+pub mod Instance
+pub mod Isolation
+pub mod Kept
 pub mod Places
 pub mod Served
+pub mod Shadow
+pub mod Simulation
+pub mod Tests
+pub mod Steps

@@ -1,6 +1,5 @@
-use mathlib.Core.Path.{sym, ap, subst}
+use Rattle.translate.proofs.Served.{served-inside}
 use Rattle.translate.specs.Memory.{hostReads, hostRead}
-use Rattle.translate.proofs.Served.{OwnEntry, served-own, own-inside}
 use native.Mathlib.Omega.{arith}
 use borrow.Author.Tests.{eq-eqb, ne-eqb}
 use borrow.Author.Needs.{needs}
@@ -27,9 +26,7 @@ mul-t21 c = search needs
 
 shared-slice-read-t23 : tie.Need-shared-slice-read-t23
 shared-slice-read-t23 c = let s = c .before .before .before .before .before .before .before .before .before .before .before in
-    let e = ap (λ g. g .0) (c .before .before .before .before .before .before .serve .ensures) in
-    let o = subst (λ v. OwnEntry (s .args .frames .now) (s .args .pages) v) (sym e) (served-own _ _ _ (s .pre .1) (s .args .user) (s .args .a)) in
-    let i = own-inside (s .pre .0) (o (eq-eqb _ _ (c .before .before .before .if1 .taken))) in
+    let i = served-inside _ _ _ _ _ _ (s .pre .0) (s .pre .1) (c .before .before .before .before .before .before .serve .ensures) (eq-eqb _ _ (c .before .before .before .if1 .taken)) in
     omega (arith, c .before .wide2 .ensures, c .before .before .wide .ensures)
 
 same-length : tie.Need-same-length

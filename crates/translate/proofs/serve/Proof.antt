@@ -1,5 +1,5 @@
+use Rattle.translate.proofs.Entries.{placed-listed}
 use Rattle.translate.specs.Memory.{served}
-use Rattle.translate.proofs.Served.{placed-listed}
 use borrow.Author.Needs.{needs}
 use Rattle.translate.proofs.serve.Statement.{statement}
 use Rattle.translate.proofs.serve.Tie as tie

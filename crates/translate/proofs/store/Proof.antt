@@ -1,11 +1,10 @@
+use Rattle.translate.proofs.Served.{served-inside, written-is}
+use Rattle.translate.proofs.Entries.{placed-listed}
 use mathlib.Core.Path.{_∙_}
-use Rattle.translate.proofs.Served.{written-is}
 use Prim.Native.Nat.{_+_, _-_, _*_}
 use lib.ListN.{length-take, length-drop}
 use borrow.Rule.Slice.PartMut.{set-mid-at}
-use mathlib.Core.Path.{sym, ap, subst}
 use Rattle.translate.specs.Memory.{hostWrites, hostWritten}
-use Rattle.translate.proofs.Served.{OwnEntry, served-own, own-inside, placed-listed}
 use native.Mathlib.Omega.{arith}
 use borrow.Author.Tests.{eq-eqb, ne-eqb}
 use borrow.Author.Needs.{needs}
@@ -55,9 +54,7 @@ part-put-start c = search needs
 
 part-put-end : tie.Need-part-put-end
 part-put-end c = let s = c .before .before .before .before .before .before .before .before .before .before .before in
-    let e = ap (λ g. g .0) (c .before .before .before .before .before .serve .ensures) in
-    let o = subst (λ v. OwnEntry (s .args .frames .now) (s .args .pages) v) (sym e) (served-own _ _ _ (s .pre .1) (s .args .user) (s .args .a)) in
-    let i = own-inside (s .pre .0) (o (eq-eqb _ _ (c .before .before .if1 .left))) in
+    let i = served-inside _ _ _ _ _ _ (s .pre .0) (s .pre .1) (c .before .before .before .before .before .serve .ensures) (eq-eqb _ _ (c .before .before .if1 .left)) in
     omega (arith, c .wide .ensures)
 
 wide-requires-2 : tie.Need-wide-requires-2
@@ -81,9 +78,7 @@ returns-3 c = let s = c .before .before .before .before .before .before .before 
     let f = c .before .before .before .before .before .before .before .before .before .wide in
     let b = f .result * 1024 in
     let m = s .args .words .now in
-    let e = ap (λ g. g .0) (c .before .before .before .before .before .before .before .before .before .before .before .before .before .before .serve .ensures) in
-    let o = subst (λ v. OwnEntry (s .args .frames .now) (s .args .pages) v) (sym e) (served-own _ _ _ (s .pre .1) (s .args .user) (s .args .a)) in
-    let i = own-inside (s .pre .0) (o (eq-eqb _ _ (c .before .before .before .before .before .before .before .before .before .before .before .if1 .left))) in
+    let i = served-inside _ _ _ _ _ _ (s .pre .0) (s .pre .1) (c .before .before .before .before .before .before .before .before .before .before .before .before .before .before .serve .ensures) (eq-eqb _ _ (c .before .before .before .before .before .before .before .before .before .before .before .if1 .left)) in
     simp (← c .before .before .before .before .before .before .before .before .before .before .before .before .before .before .serve .ensures)
     (written-is _ _ _ _ _ _ _ _ _ _
     (eq-eqb _ _ (c .before .before .before .before .before .before .before .before .before .before .before .if1 .left))

@@ -1,0 +1,84 @@
+-- The register that a step's change names exists.
+use mathlib.Core.Bool.{Bool, _&&_}
+use mathlib.Core.List.{List}
+use Prim.Native.Nat.{ℕ, _<_}
+use Prim.{Unit, tt}
+use native.Mathlib.Omega.{arith}
+use lib.Dec.{eqb}
+use Rattle.dlx.specs.Choice.{if_then_else_}
+use Rattle.dlx.specs.Words.{aligned}
+use Rattle.dlx.specs.Instructions.{instructionOf, Formed}
+use Rattle.dlx.specs.Processor.{user}
+use Rattle.dlx.specs.Interrupts.{unmasked}
+use Rattle.dlx.specs.Execute.{overflowsOf, operated, reached, loads, stores, inSystem, movedTo, effectOf}
+use Rattle.dlx.specs.Machine.{Ops, Core, executed, fetched, loaded, stored, accessed, Places}
+use Rattle.dlx.specs.declared.partition.Table.{Table}
+use Rattle.dlx.specs.declared.partition.Processor.{Processor}
+use Rattle.dlx.specs.declared.instruction.Operation.{Operation}
+use Rattle.dlx.specs.declared.instruction.Instruction.{Instruction}
+use Rattle.dlx.specs.declared.instruction.Instruction.the-variants.{Lw, Sw, Immediate, Lhgi, Beqz, Bnez, Jr, Jalr, J, Jal, Trap, Rfe, Register, Movs2i, Movi2s, Ill}
+use Rattle.dlx.specs.declared.execute.Access.{Access}
+use Rattle.dlx.specs.declared.execute.Access.the-variants.{Fault, Word}
+use Rattle.dlx.specs.declared.execute.Effect.{Effect}
+use Rattle.dlx.specs.declared.execute.Effect.the-variants.{Done, Load, Store}
+use Rattle.dlx.proofs.Kept.{either, instruction-formed}
+
+abbrev pub PlacesEffect : Effect → Type 0
+PlacesEffect (Done c) = Places c
+PlacesEffect (Load d a) = d < 32
+PlacesEffect (Store a v) = Unit
+
+operated-places : (op : Operation) (d x y sr next : ℕ) → d < 32 → PlacesEffect (operated op d x y sr next)
+unfolding operated
+operated-places op d x y sr next l = either PlacesEffect (unmasked sr && overflowsOf op x y) (λ _. tt) (λ _. l)
+
+reached-places : (a : ℕ) (e : Effect) → PlacesEffect e → PlacesEffect (reached a e)
+unfolding reached
+reached-places a e h = either PlacesEffect (aligned a) (λ _. h) (λ _. tt)
+
+moved-places : (t : Table) (n v : ℕ) → Places (movedTo t n v)
+unfolding movedTo
+moved-places t n v = either Places (eqb n 7) (λ _. tt) λ _. either Places (eqb n 8) (λ _. tt) λ _. tt
+
+system-places : (p : Processor) (e : Effect) → PlacesEffect e → PlacesEffect (inSystem p e)
+system-places p e h = either PlacesEffect (user p) (λ _. tt) (λ _. h)
+
+effect-places : (p : Processor) (t : Table) (r : List ℕ) (i : Instruction) → Formed i → PlacesEffect (effectOf p t r i)
+unfolding effectOf loads stores
+effect-places p t r (Lw d s i) f = reached-places _ _ (f .0)
+effect-places p t r (Sw d s i) f = reached-places _ _ tt
+effect-places p t r (Immediate op d s i) f = operated-places op d _ _ _ _ (f .0)
+effect-places p t r (Lhgi d i) f = f .0
+effect-places p t r (Beqz s i) f = omega arith
+effect-places p t r (Bnez s i) f = omega arith
+effect-places p t r (Jr s) f = omega arith
+effect-places p t r (Jalr s) f = omega arith
+effect-places p t r (J i) f = omega arith
+effect-places p t r (Jal i) f = omega arith
+effect-places p t r (Trap i) f = tt
+effect-places p t r Rfe f = system-places p _ tt
+effect-places p t r (Register op d s s′) f = operated-places op d _ _ _ _ (f .0)
+effect-places p t r (Movs2i d n) f = system-places p _ (f .0)
+effect-places p t r (Movi2s n s) f = system-places p _ (moved-places t n _)
+effect-places p t r Ill f = tt
+
+executed-places : (c : Core) (t : Table) (x : Access) → PlacesEffect (executed c t x)
+unfolding executed
+executed-places c t Fault = tt
+executed-places c t (Word w) = effect-places _ t _ (instructionOf w) (instruction-formed w)
+
+module _ {S : Type 0} (O : Ops S) where
+  pub fetched-places : (c : Core) (s : S) → PlacesEffect (fetched O (c, s) .0)
+  unfolding fetched
+  fetched-places c s =
+      either (λ (g : Effect × S). PlacesEffect (g .0)) (aligned (c .processor .dpc)) (λ _. executed-places c _ _) (λ _. tt)
+
+  pub accessed-places : (p : Processor) (e : Effect) (s : S) → PlacesEffect e → Places (accessed O p e s .0)
+  unfolding accessed loaded stored
+  accessed-places p (Done c) s h = h
+  accessed-places p (Load d a) s h = go (O .read s (user p) a .0)
+    where
+      go : (x : Access) → Places (loaded p d a x)
+      go Fault = tt
+      go (Word w) = h
+  accessed-places p (Store a v) s h = either Places (O .write s (user p) a (λ _. v) .0) (λ _. omega arith) (λ _. tt)

@@ -1,0 +1,98 @@
+use Rattle.dlx.specs.Machine.{accessed, loaded, stored}
+use borrow.Author.Needs.{needs}
+use Rattle.engine.proofs.access.Statement.{statement}
+use Rattle.engine.proofs.access.Tie as tie
+
+wrapping-add-u32-requires : tie.Need-wrapping-add-u32-requires
+wrapping-add-u32-requires c κs = search needs
+
+enum-known-e : tie.Need-enum-known-e
+enum-known-e c = search needs
+
+enum-known-e-2 : tie.Need-enum-known-e-2
+enum-known-e-2 c = search needs
+
+load-requires : tie.Need-load-requires
+load-requires c κs = search needs
+
+enum-told : tie.Need-enum-told
+enum-told c = search needs
+
+enum-known-w : tie.Need-enum-known-w
+enum-known-w c = search needs
+
+enum-known-e-3 : tie.Need-enum-known-e-3
+enum-known-e-3 c = search needs
+
+store-requires : tie.Need-store-requires
+store-requires c κs = search needs
+
+same-length : tie.Need-same-length
+same-length c = search needs
+
+same-length-2 : tie.Need-same-length-2
+same-length-2 c = search needs
+
+returns : tie.Need-returns
+unfolding accessed stored
+returns c = simp (c .before .before .before .before .before .before .before .before .before .before .e3 .given .1, ← c .before .before .before .before .before .store .ensures, c .if1 .taken, c .before .before .before .before .before .before .before .before .before .before .before .before .wrapping-add-u32 .ensures)
+
+returns-2 : tie.Need-returns-2
+unfolding accessed
+returns-2 c = simp (c .before .e .given .1)
+
+same-length-3 : tie.Need-same-length-3
+same-length-3 c = search needs
+
+same-length-4 : tie.Need-same-length-4
+same-length-4 c = search needs
+
+returns-3 : tie.Need-returns-3
+unfolding accessed loaded
+returns-3 c = simp (c .before .before .before .before .before .before .before .before .before .e2 .given .1, ← c .before .before .before .before .load .ensures, c .enum-told .given .1)
+
+same-length-5 : tie.Need-same-length-5
+same-length-5 c = search needs
+
+same-length-6 : tie.Need-same-length-6
+same-length-6 c = search needs
+
+returns-4 : tie.Need-returns-4
+unfolding accessed loaded
+returns-4 c = simp (c .before .before .before .before .before .before .before .before .before .before .e2 .given .1, ← c .before .before .before .before .before .load .ensures, c .before .w .given .1, c .before .before .before .before .before .before .before .before .before .before .before .before .wrapping-add-u32 .ensures)
+
+same-length-7 : tie.Need-same-length-7
+same-length-7 c = search needs
+
+same-length-8 : tie.Need-same-length-8
+same-length-8 c = search needs
+
+returns-5 : tie.Need-returns-5
+unfolding accessed stored
+returns-5 c = simp (c .before .before .before .before .before .before .before .before .before .before .e3 .given .1, ← c .before .before .before .before .before .store .ensures, c .if1 .left)
+
+pub access-spec : {M : Type 1} → statement M
+access-spec =
+    tie.close
+    (tie.spec
+    wrapping-add-u32-requires
+    enum-known-e
+    enum-known-e-2
+    load-requires
+    enum-told
+    enum-known-w
+    enum-known-e-3
+    store-requires
+    same-length
+    same-length-2
+    returns
+    returns-2
+    same-length-3
+    same-length-4
+    returns-3
+    same-length-5
+    same-length-6
+    returns-4
+    same-length-7
+    same-length-8
+    returns-5)

@@ -1,0 +1,20 @@
+-- What the engine's answers stand for, with the arrays beside them.
+use mathlib.Core.List.{List}
+use Prim.Native.Nat.{ℕ}
+use Rattle.dlx.specs.Machine.{Outcome, outcome, core, Stretch}
+use Rattle.translate.specs.Memory.{Host, host}
+use Rattle.engine.specs.declared.Stepped.{Stepped}
+use Rattle.engine.specs.declared.Stretched.{Stretched}
+
+-- a step's answer, with the registers, the host's words and the shadow at exit
+abbrev pub outcomeOf : Stepped → List ℕ → List ℕ → List ℕ → Outcome × Host
+outcomeOf r regs words shadow = (outcome (core (r .processor) regs) (r .calls), host (r .table) words shadow)
+
+-- a stretch's
+abbrev pub stretchOf : Stretched → List ℕ → List ℕ → List ℕ → Stretch Host
+stretchOf r regs words shadow = record {
+  made = r .made;
+  called = r .called;
+  core = core (r .processor) regs;
+  memory = host (r .table) words shadow;
+}

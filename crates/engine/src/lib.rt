@@ -1,0 +1,171 @@
+// The interpreter: one guest step through the shadow, and a stretch of steps, on lent arrays. The processor's numbers go by value.
+ghost use mathlib.Core.Path.{_≡_};
+ghost use mathlib.Core.List.{List};
+ghost use Prim.Native.Nat.{ℕ};
+ghost use lib.ListN.{length};
+ghost use Rattle.dlx.specs.Machine.{core, fetched, accessed, retabled, step, stretchFrom};
+ghost use Rattle.translate.specs.Memory.{host, hostMemory};
+ghost use Rattle.translate.specs.Premises.{Placed, Shadowed};
+ghost use Rattle.engine.specs.Answers.{outcomeOf, stretchOf};
+use dlx::execute::Access;
+use dlx::execute::Change;
+use dlx::execute::Effect;
+use dlx::partition::Partition;
+use dlx::partition::Processor;
+use dlx::partition::Table;
+
+// What a step leaves beside the arrays, and whether the guest calls the hypervisor: a trap taken in system mode.
+pub struct Stepped {
+    pub processor: Processor,
+    pub table: Table,
+    pub calls: bool,
+}
+
+// What a stretch leaves beside the arrays: how many steps were made, and whether the last one called.
+pub struct Stretched {
+    pub processor: Processor,
+    pub table: Table,
+    pub made: u32,
+    pub called: bool,
+}
+
+// The fetch at DPC, and what its word asks for.
+fn fetch(
+    p: Processor,
+    t: Table,
+    pages: u32,
+    regs: &[u32],
+    frames: &[u32],
+    shadow: &mut [u32],
+    words: &[u32],
+) -> Effect
+    requires { ⌜ length (now regs) ≡ 32 ⌝ ∗ ⌜ Placed (now frames) pages (length (now words)) ⌝ ∗ ⌜ Shadowed (now frames) pages (now shadow) ⌝ }
+    ensures { λ r. ⌜ (r, host t (now (words .entry)) (now (shadow .exit))) ≡ fetched (hostMemory (now (frames .entry)) pages) (core p (now (regs .entry)), host t (now (words .entry)) (now (shadow .entry))) ⌝ }
+{
+    let dpc = p.dpc;
+    if dpc % 4 != 0 {
+        return Effect::Done(Change::Cause(Partition::MAL, 0));
+    }
+    match translate::load(words, frames, shadow, pages, t, p.mode == 1, dpc) {
+        Access::Fault => Effect::Done(Change::Cause(Partition::PFF, dpc)),
+        Access::Word(w) => dlx::execute::execute(p, t, regs, dlx::instruction::read_instruction(w)),
+    }
+}
+
+// The data access, where the instruction asks for one.
+fn access(
+    p: Processor,
+    t: Table,
+    pages: u32,
+    frames: &[u32],
+    shadow: &mut [u32],
+    words: &mut [u32],
+    e: Effect,
+) -> Change
+    requires { ⌜ Placed (now frames) pages (length (now words)) ⌝ ∗ ⌜ Shadowed (now frames) pages (now shadow) ⌝ }
+    ensures { λ r. ⌜ (r, host t (now (words .exit)) (now (shadow .exit))) ≡ accessed (hostMemory (now (frames .entry)) pages) p e (host t (now (words .entry)) (now (shadow .entry))) ⌝ }
+{
+    let next = std::num::wrapping_add_u32(p.pc, 4);
+    match e {
+        Effect::Done(c) => c,
+        Effect::Load(rd, a) => match translate::load(
+            words,
+            frames,
+            shadow,
+            pages,
+            t,
+            p.mode == 1,
+            a,
+        ) {
+            Access::Fault => Change::Cause(Partition::PFLS, a),
+            Access::Word(w) => Change::Plain(rd, w, next),
+        },
+        Effect::Store(a, v) => {
+            if translate::store(words, frames, shadow, pages, t, p.mode == 1, a, v) {
+                return Change::Plain(0, 0, next);
+            }
+            Change::Cause(Partition::PFLS, a)
+        }
+    }
+}
+
+// The table after a change. A change of PTO or PTL empties the shadow.
+fn retable(t: Table, shadow: &mut [u32], c: Change) -> Table
+    requires { ⌜ length (now shadow) ≡ 256 ⌝ }
+    ensures { λ r. ⌜ ((fr ws : List ℕ) (n : ℕ) → host r ws (now (shadow .exit)) ≡ retabled (hostMemory fr n) c (host t ws (now (shadow .entry)))) ⌝ }
+{
+    match c {
+        Change::Plain(_, _, _) => t,
+        Change::Special(_, _) => t,
+        Change::Retable(n) => {
+            translate::clear(shadow);
+            n
+        }
+        Change::Cause(_, _) => t,
+        Change::Return => t,
+    }
+}
+
+// One guest step: fetch, data access, then emptying.
+pub fn step(
+    p: Processor,
+    t: Table,
+    pages: u32,
+    regs: &mut [u32],
+    frames: &[u32],
+    shadow: &mut [u32],
+    words: &mut [u32],
+) -> Stepped
+    requires { ⌜ length (now regs) ≡ 32 ⌝ ∗ ⌜ Placed (now frames) pages (length (now words)) ⌝ ∗ ⌜ Shadowed (now frames) pages (now shadow) ⌝ }
+    ensures { λ r. ⌜ outcomeOf r (now (regs .exit)) (now (words .exit)) (now (shadow .exit)) ≡ step (hostMemory (now (frames .entry)) pages) (core p (now (regs .entry)), host t (now (words .entry)) (now (shadow .entry))) ⌝ }
+{
+    let e = fetch(p, t, pages, regs, frames, shadow, words);
+    let c = access(p, t, pages, frames, shadow, words, e);
+    let s = dlx::execute::settle(p, regs, c);
+    let n = retable(t, shadow, c);
+    let q = s.processor;
+    Stepped {
+        processor: q,
+        table: n,
+        calls: s.calls,
+    }
+}
+
+// Up to k steps of one partition, ending early after one that calls the hypervisor.
+pub fn stretch(
+    p: Processor,
+    t: Table,
+    pages: u32,
+    regs: &mut [u32],
+    frames: &[u32],
+    shadow: &mut [u32],
+    words: &mut [u32],
+    k: u32,
+) -> Stretched
+    requires { ⌜ length (now regs) ≡ 32 ⌝ ∗ ⌜ Placed (now frames) pages (length (now words)) ⌝ ∗ ⌜ Shadowed (now frames) pages (now shadow) ⌝ }
+    ensures { λ r. ⌜ stretchOf r (now (regs .exit)) (now (words .exit)) (now (shadow .exit)) ≡ stretchFrom (hostMemory (now (frames .entry)) pages) k 0 (core p (now (regs .entry)), host t (now (words .entry)) (now (shadow .entry))) ⌝ }
+{
+    let mut processor = p;
+    let mut table = t;
+    let mut made: u32 = 0;
+    while made < k {
+        let s = step(processor, table, pages, regs, frames, shadow, words);
+        processor = s.processor;
+        table = s.table;
+        made += 1;
+        if s.calls {
+            return Stretched {
+                processor,
+                table,
+                made,
+                called: true,
+            };
+        }
+    }
+    Stretched {
+        processor,
+        table,
+        made,
+        called: false,
+    }
+}
