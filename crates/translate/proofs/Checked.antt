@@ -12,8 +12,8 @@ use Rattle.dlx.specs.Machine.{executed, fetched, loaded, stored, accessed, sett
 use Rattle.translate.specs.Entries.{judged, composed}
 use Rattle.translate.specs.Walk.{walked, direct}
 use Rattle.translate.specs.Memory.{hosted, given, filled, looked, served, hostRead, emptied, hostWritten, hostReads, hostWrites}
-use Rattle.translate.specs.Examples.{compositions, reads, writes, gives, faults, shadow, words, accesses, booted, stepped, all}
+use Rattle.translate.specs.Examples.{compositions, reads, writes, gives, faults, shadow, words, accesses, booted, stepped, once, user, interrupt, single, all}
 
-pub checked : all (compositions ++ (accesses ++ stepped)) ≡ true
-unfolding all compositions accesses stepped reads writes gives faults shadow words booted judged composed walked direct hosted given filled looked served hostRead emptied hostWritten hostReads hostWrites step steps fetched executed loaded stored accessed settled retabled instructionOf registerType effectOf written valueOf overflowsOf operated reached loads stores movedTo specialOf withSpecial interrupted levelOf trailingZeros extendedBy readIn holds
+pub checked : all (compositions ++ (accesses ++ (stepped ++ single))) ≡ true
+unfolding all compositions accesses stepped single once user interrupt reads writes gives faults shadow words booted judged composed walked direct hosted given filled looked served hostRead emptied hostWritten hostReads hostWrites step steps fetched executed loaded stored accessed settled retabled instructionOf registerType effectOf written valueOf overflowsOf operated reached loads stores movedTo specialOf withSpecial interrupted levelOf trailingZeros extendedBy readIn holds
 checked = refl

@@ -147,6 +147,59 @@ stepped =
     ∷ (let p = booted 3 program .0 .processor in eqb (p .eca) 2 && eqb (p .edpc) 12 && eqb (p .epc) 16)
     ∷ []
 
+-- ---- single steps of the guest of three pages, with register 1 = 9
+
+abbrev at : ℕ → ℕ → ℕ → Processor
+at dpc pc mode =
+    record { dpc = dpc; pc = pc; sr = 0; esr = 0; eca = 0; epc = 0; edpc = 0; edata = 95; mode = mode; emode = 0 }
+
+-- the word w at the host's word i, and a shadow
+unfoldable pub once : Processor → ℕ → ℕ → List ℕ → Outcome × Host
+once p i w sh = step (hostMemory frames 3) (core p (set zeros 1 9), host (table 1 5) (set memory i w) sh)
+
+-- at guest address 0, in user mode, through an empty shadow
+unfoldable pub user : ℕ → Outcome × Host
+user w = once (at 0 4 1) 2048 w freshShadow
+
+unfoldable pub interrupt : Outcome × Host → ℕ → ℕ → ℕ → ℕ → Bool
+interrupt m eca edpc epc edata =
+    let p = m .0 .core .processor in
+    eqb (p .eca) eca && eqb (p .edpc) edpc && eqb (p .epc) epc && eqb (p .edata) edata
+
+unfoldable pub single : List Bool
+single =
+    -- 0xF8000007 in system mode: ECA 32, EDATA 7, the guest calls; in user mode it doesn't, and the fetch fills
+    interrupt (once (at 0 4 0) 2048 0xF8000007 freshShadow) 32 4 8 7
+    ∷ once (at 0 4 0) 2048 0xF8000007 freshShadow .0 .calls
+    ∷ interrupt (user 0xF8000007) 32 4 8 7
+    ∷ not (user 0xF8000007 .0 .calls)
+    ∷ eqb (shadow (user 0xF8000007 .1) 0) (entryOf 2 0)
+    -- fill, then ill: what is filled stays
+    ∷ interrupt (user 0) 2 4 8 95
+    ∷ eqb (shadow (user 0 .1) 0) (entryOf 2 0)
+    -- a user store through the mapped page 1 into entry 2 of the table empties shadow 2
+    ∷ eqb (words (once (at 0 4 1) 2048 0xAC011008 (set freshShadow 2 (entryOf 1 1)) .1) 2) 9
+    ∷ eqb (shadow (once (at 0 4 1) 2048 0xAC011008 (set freshShadow 2 (entryOf 1 1)) .1) 2) 0
+    ∷ eqb (shadow (user 0xAC011008 .1) 1) (entryOf 0 0)
+    -- a store into entry 0 empties the entry that its own fetch filled
+    ∷ eqb (words (user 0xAC011000 .1) 0) 9
+    ∷ eqb (shadow (user 0xAC011000 .1) 0) 0
+    -- a store to the protected page 2: pfls with the address and the old pair, the entry is filled, nothing is written
+    ∷ interrupt (user 0xAC012000) 16 0 4 0x2000
+    ∷ eqb (shadow (user 0xAC012000 .1) 2) (entryOf 1 1)
+    ∷ eqb (words (user 0xAC012000 .1) 1024) 22
+    -- a load in a delay slot whose entry is not valid: the pair of the slot and the branch's target is saved
+    ∷ interrupt (once (at 4 64 1) 2049 0x8C014000 freshShadow) 16 4 64 0x4000
+    -- a fetch outside: pff with DPC
+    ∷ interrupt (once (at 0x4000 0x4004 1) 2048 0 freshShadow) 8 0x4000 0x4004 0x4000
+    -- a misaligned data address fills nothing
+    ∷ interrupt (user 0xAC011006) 4 4 8 95
+    ∷ eqb (shadow (user 0xAC011006 .1) 1) 0
+    -- movi2s to PTO empties all, and changes PTO
+    ∷ eqb (shadow (once (at 0 4 0) 2048 0x002001D1 (set freshShadow 2 (entryOf 1 1)) .1) 2) 0
+    ∷ eqb (once (at 0 4 0) 2048 0x002001D1 freshShadow .1 .table .pto) 9
+    ∷ []
+
 unfoldable pub all : List Bool → Bool
 all [] = true
 all (b ∷ bs) = b && all bs
