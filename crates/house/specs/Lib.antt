@@ -1,0 +1,6 @@
+pub mod Lists
+pub mod House
+pub mod Damage
+pub mod Boot
+pub mod Turns
+pub mod Calls

@@ -1,0 +1,93 @@
+-- Turns, and the host step.
+use mathlib.Core.Bool.{Bool, true, false, _||_}
+use mathlib.Core.List.{List}
+use Prim.Native.Nat.{ℕ, zero, suc, _+_, _-_, _*_, _%_, _^_}
+use lib.Dec.{eqb}
+use lib.ListN.{getD, set}
+use Rattle.dlx.specs.Choice.{if_then_else_}
+use Rattle.dlx.specs.Machine.{core, Outcome, step}
+use Rattle.dlx.specs.declared.partition.Partition.{Partition}
+use Rattle.translate.specs.Memory.{Host, host, hostMemory}
+use Rattle.house.specs.Lists.{inner, outer}
+use Rattle.house.specs.House.{partition, pagesOf, registersOf, framesOf, shadowOf}
+use Rattle.house.specs.declared.House.{House}
+
+-- the house and the lent memory
+pub record World : Type 0 where
+  pub house : House
+  pub memory : List ℕ
+
+abbrev pub world : House → List ℕ → World
+world h m = record { house = h; memory = m }
+
+-- ---- the next running partition in cyclic order, itself if alone
+
+abbrev pub following : ℕ → ℕ → ℕ
+following n i = if eqb (i + 1) n then 0 else i + 1
+
+-- of the k partitions after i
+unfoldable pub nextFrom : List Bool → ℕ → ℕ → ℕ → ℕ
+nextFrom r n i zero = i
+nextFrom r n i (suc k) = if getD r (following n i) false then following n i else nextFrom r n (following n i) k
+
+abbrev pub nextOf : List Bool → ℕ → ℕ → ℕ
+nextOf r n i = nextFrom r n i n
+
+-- whose turn it is, and how many steps it has left
+pub record Turn : Type 0 where
+  pub current : ℕ
+  pub left : ℕ
+
+abbrev pub turn : ℕ → ℕ → Turn
+turn c l = record { current = c; left = l }
+
+-- the turn passes, with q steps left
+abbrev pub passed : House → Turn
+passed h = turn (nextOf (h .running) (h .count) (h .current)) (h .q)
+
+-- after a step of the current partition: at 0 left, or after a trap taken in system mode
+unfoldable pub turnAfter : House → Bool → Turn
+turnAfter h calls = if eqb (h .left) 1 || calls then passed h else turn (h .current) (h .left - 1)
+
+-- ---- the host step
+
+-- the guest step of partition i
+unfoldable pub guestStep : World → ℕ → Outcome × Host
+guestStep w i =
+    let h = w .house in
+    step (hostMemory (framesOf h i) (pagesOf h i))
+    (core (partition h i .processor) (registersOf h i), host (partition h i .table) (w .memory) (shadowOf h i))
+
+-- the partition after its step: its counter goes up by 1, modulo 2^64
+abbrev pub counted : Partition → Outcome × Host → Partition
+counted p o = record {
+  pages = p .pages;
+  processor = o .0 .core .processor;
+  table = o .1 .table;
+  counter = (p .counter + 1) % 2 ^ 64;
+}
+
+-- the house in which partition i's step came to o, and the turn to t
+unfoldable pub settledHouse : House → ℕ → Outcome × Host → Turn → House
+settledHouse h i o t = record {
+  count = h .count;
+  q = h .q;
+  words = h .words;
+  current = t .current;
+  left = t .left;
+  running = h .running;
+  parts = set (h .parts) i (counted (partition h i) o);
+  regs = outer (i * 32) 32 (h .regs) (o .0 .core .registers);
+  frames = h .frames;
+  shadows = outer (i * 256) 256 (h .shadows) (o .1 .shadow);
+}
+
+unfoldable pub stepWith : House → Outcome × Host → World
+stepWith h o = world (settledHouse h (h .current) o (turnAfter h (o .0 .calls))) (o .1 .words)
+
+unfoldable pub hostStep : World → World
+hostStep w = stepWith (w .house) (guestStep w (w .house .current))
+
+unfoldable pub hostSteps : ℕ → World → World
+hostSteps zero w = w
+hostSteps (suc n) w = hostStep (hostSteps n w)

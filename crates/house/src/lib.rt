@@ -1,0 +1,68 @@
+// The house: one state for up to 8 partitions. Partition i's registers stand at 32 * i, its frame list and its shadow at 256 * i.
+ghost use mathlib.Core.Path.{_≡_};
+ghost use Rattle.house.specs.House.{noHouse};
+use dlx::partition::Partition;
+use dlx::partition::Processor;
+use dlx::partition::Table;
+
+pub struct House {
+    pub count: u32,
+    pub q: u32,
+    pub words: u32,
+    pub current: u32,
+    pub left: u32,
+    pub running: [bool; 8],
+    pub parts: [Partition; 8],
+    pub regs: [u32; 256],
+    pub frames: [u32; 2048],
+    pub shadows: [u32; 2048],
+}
+
+// A call's answer: 01's number, its detail, and the house.
+pub struct Answer {
+    pub number: u32,
+    pub detail: u64,
+    pub house: House,
+}
+
+impl House {
+    // The house of no partitions, every number in it 0.
+    pub fn none() -> House
+        ensures { λ r. ⌜ r ≡ noHouse ⌝ }
+    {
+        let unused = Partition {
+            pages: 0,
+            processor: Processor {
+                dpc: 0,
+                pc: 0,
+                sr: 0,
+                esr: 0,
+                eca: 0,
+                epc: 0,
+                edpc: 0,
+                edata: 0,
+                mode: 0,
+                emode: 0,
+            },
+            table: Table { pto: 0, ptl: 0 },
+            counter: 0,
+        };
+        let running = [false; 8];
+        let parts = [unused; 8];
+        let regs = [0u32; 256];
+        let frames = [0u32; 2048];
+        let shadows = [0u32; 2048];
+        House {
+            count: 0,
+            q: 0,
+            words: 0,
+            current: 0,
+            left: 0,
+            running,
+            parts,
+            regs,
+            frames,
+            shadows,
+        }
+    }
+}
