@@ -1,17 +1,19 @@
--- The register that a step's change names exists.
+-- The register that a step's change names exists, and a step keeps the number of registers.
+use mathlib.Core.Path.{_≡_, refl}
 use mathlib.Core.Bool.{Bool, _&&_}
 use mathlib.Core.List.{List}
 use Prim.Native.Nat.{ℕ, _<_}
 use Prim.{Unit, tt}
 use native.Mathlib.Omega.{arith}
 use lib.Dec.{eqb}
+use lib.ListN.{length, set, length-set}
 use Rattle.dlx.specs.Choice.{if_then_else_}
 use Rattle.dlx.specs.Words.{aligned}
 use Rattle.dlx.specs.Instructions.{instructionOf, Formed}
 use Rattle.dlx.specs.Processor.{user}
 use Rattle.dlx.specs.Interrupts.{unmasked}
-use Rattle.dlx.specs.Execute.{overflowsOf, operated, reached, loads, stores, inSystem, movedTo, effectOf}
-use Rattle.dlx.specs.Machine.{Ops, Core, executed, fetched, loaded, stored, accessed, Places}
+use Rattle.dlx.specs.Execute.{written, overflowsOf, operated, reached, loads, stores, inSystem, movedTo, effectOf}
+use Rattle.dlx.specs.Machine.{Ops, Core, executed, fetched, loaded, stored, accessed, settled, step, Places}
 use Rattle.dlx.specs.declared.partition.Table.{Table}
 use Rattle.dlx.specs.declared.partition.Processor.{Processor}
 use Rattle.dlx.specs.declared.instruction.Operation.{Operation}
@@ -19,6 +21,8 @@ use Rattle.dlx.specs.declared.instruction.Instruction.{Instruction}
 use Rattle.dlx.specs.declared.instruction.Instruction.the-variants.{Lw, Sw, Immediate, Lhgi, Beqz, Bnez, Jr, Jalr, J, Jal, Trap, Rfe, Register, Movs2i, Movi2s, Ill}
 use Rattle.dlx.specs.declared.execute.Access.{Access}
 use Rattle.dlx.specs.declared.execute.Access.the-variants.{Fault, Word}
+use Rattle.dlx.specs.declared.execute.Change.{Change}
+use Rattle.dlx.specs.declared.execute.Change.the-variants.{Plain, Special, Retable, Cause, Return}
 use Rattle.dlx.specs.declared.execute.Effect.{Effect}
 use Rattle.dlx.specs.declared.execute.Effect.the-variants.{Done, Load, Store}
 use Rattle.dlx.proofs.Kept.{either, instruction-formed}
@@ -82,3 +86,21 @@ module _ {S : Type 0} (O : Ops S) where
       go Fault = tt
       go (Word w) = h
   accessed-places p (Store a v) s h = either Places (O .write s (user p) a (λ _. v) .0) (λ _. omega arith) (λ _. tt)
+
+-- ---- how many registers there are
+
+written-count : (r : List ℕ) (d v : ℕ) → length (written r d v) ≡ length r
+unfolding written
+written-count r d v = either (λ (l : List ℕ). length l ≡ length r) (eqb d 0) {x = r} {y = set r d v} (λ _. refl) (λ _. length-set r d v)
+
+settled-count : (c : Core) (x : Change) → length (settled c x .core .registers) ≡ length (c .registers)
+unfolding settled
+settled-count c (Plain d v target) = written-count (c .registers) d v
+settled-count c (Special n v) = refl
+settled-count c (Retable t) = refl
+settled-count c (Cause causes datum) = refl
+settled-count c Return = refl
+
+pub step-count : {S : Type 0} (O : Ops S) (c : Core) (s : S) → length (step O (c, s) .0 .core .registers) ≡ length (c .registers)
+unfolding step
+step-count O c s = settled-count c _

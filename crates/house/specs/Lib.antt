@@ -3,4 +3,5 @@ pub mod House
 pub mod Damage
 pub mod Boot
 pub mod Turns
+pub mod Sound
 pub mod Calls

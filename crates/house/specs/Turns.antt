@@ -5,7 +5,7 @@ use Prim.Native.Nat.{ℕ, zero, suc, _+_, _-_, _*_, _%_, _^_}
 use lib.Dec.{eqb}
 use lib.ListN.{getD, set}
 use Rattle.dlx.specs.Choice.{if_then_else_}
-use Rattle.dlx.specs.Machine.{core, Outcome, step}
+use Rattle.dlx.specs.Machine.{Ops, Core, core, Outcome, step, Stretch}
 use Rattle.dlx.specs.declared.partition.Partition.{Partition}
 use Rattle.translate.specs.Memory.{Host, host, hostMemory}
 use Rattle.house.specs.Lists.{inner, outer}
@@ -51,12 +51,17 @@ turnAfter h calls = if eqb (h .left) 1 || calls then passed h else turn (h .curr
 
 -- ---- the host step
 
--- the guest step of partition i
+-- partition i as a guest, and its guest step
+abbrev pub guest : World → ℕ → Core × Host
+guest w i =
+    let p = partition (w .house) i in
+    (core (p .processor) (registersOf (w .house) i), host (p .table) (w .memory) (shadowOf (w .house) i))
+
+abbrev pub guestMemory : House → ℕ → Ops Host
+guestMemory h i = hostMemory (framesOf h i) (pagesOf h i)
+
 unfoldable pub guestStep : World → ℕ → Outcome × Host
-guestStep w i =
-    let h = w .house in
-    step (hostMemory (framesOf h i) (pagesOf h i))
-    (core (partition h i .processor) (registersOf h i), host (partition h i .table) (w .memory) (shadowOf h i))
+guestStep w i = step (guestMemory (w .house) i) (guest w i)
 
 -- the partition after its step: its counter goes up by 1, modulo 2^64
 abbrev pub counted : Partition → Outcome × Host → Partition
@@ -91,3 +96,34 @@ hostStep w = stepWith (w .house) (guestStep w (w .house .current))
 unfoldable pub hostSteps : ℕ → World → World
 hostSteps zero w = w
 hostSteps (suc n) w = hostStep (hostSteps n w)
+
+-- ---- a stretch of host steps in one turn
+
+-- partition i after a stretch
+abbrev pub countedOn : Partition → Stretch Host → Partition
+countedOn p r = record {
+  pages = p .pages;
+  processor = r .core .processor;
+  table = r .memory .table;
+  counter = (p .counter + r .made) % 2 ^ 64;
+}
+
+-- the house in which a stretch of partition i came to r, and the turn to t
+unfoldable pub stretchedHouse : House → ℕ → Stretch Host → Turn → House
+stretchedHouse h i r t = record {
+  count = h .count;
+  q = h .q;
+  words = h .words;
+  current = t .current;
+  left = t .left;
+  running = h .running;
+  parts = set (h .parts) i (countedOn (partition h i) r);
+  regs = outer (i * 32) 32 (h .regs) (r .core .registers);
+  frames = h .frames;
+  shadows = outer (i * 256) 256 (h .shadows) (r .memory .shadow);
+}
+
+-- the turn after so many steps of it, the last of which may have called
+unfoldable pub turnBehind : House → ℕ → Bool → Turn
+turnBehind h made called =
+    if eqb (h .left) made || called then passed h else turn (h .current) (h .left - made)

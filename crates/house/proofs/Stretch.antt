@@ -1,0 +1,172 @@
+-- A stretch of the current partition, of at most the steps left, is so many host steps.
+use mathlib.Core.Path.{_≡_, refl, sym, ap, subst, _∙_}
+use mathlib.Core.Bool.{Bool, true, false, _||_}
+use mathlib.Core.List.{List}
+use Prim.Native.Nat.{ℕ, zero, suc, _+_, _-_, _*_, _%_, _^_, _<_, _≤_}
+use native.Mathlib.Omega.{arith}
+use borrow.Author.Tests.{eq-eqb, ne-eqb}
+use lib.Dec.{eqb}
+use lib.ListN.{length, getD, set}
+use lib.Seq.{set-set, getD-set-same}
+use Rattle.dlx.specs.Choice.{if_then_else_}
+use Rattle.dlx.specs.Machine.{Ops, Core, core, Outcome, outcome, step, Stretch, stretchFrom}
+use Rattle.dlx.specs.declared.partition.Partition.{Partition}
+use Rattle.translate.specs.Memory.{Host, host, hostMemory}
+use Rattle.translate.proofs.Tests.{by-eq}
+use Rattle.house.specs.Lists.{inner, outer}
+use Rattle.house.specs.House.{noPartition, partition, pagesOf, registersOf, framesOf, shadowOf}
+use Rattle.house.specs.Turns.{World, world, Turn, turn, passed, turnAfter, guest, guestMemory, guestStep, counted, settledHouse, stepWith, hostStep, hostSteps, countedOn, stretchedHouse, turnBehind}
+use Rattle.house.specs.Sound.{Shaped, Sound}
+use Rattle.house.specs.declared.House.{House}
+use Rattle.house.proofs.Parts.{outer-outer}
+use Rattle.house.proofs.Turns.{settled-partition, settled-registers, settled-shadow, step-keeps, step-registers, sound-step}
+
+-- ---- the count is carried along
+
+bumped : {S : Type 0} → Stretch S → Stretch S
+bumped r = record { made = suc (r .made); called = r .called; core = r .core; memory = r .memory }
+
+module _ {S : Type 0} (O : Ops S) where
+  made-on : (k a : ℕ) (m : Core × S) → stretchFrom O k (suc a) m ≡ bumped (stretchFrom O k a m)
+  unfolding stretchFrom bumped
+  made-on zero a m = refl
+  made-on (suc k) a m = go (step O m .0 .calls) refl (made-on k (suc a) (step O m .0 .core, step O m .1))
+    where
+      go : (b : Bool) → step O m .0 .calls ≡ b → stretchFrom O k (suc (suc a)) (step O m .0 .core, step O m .1) ≡ bumped (stretchFrom O k (suc a) (step O m .0 .core, step O m .1)) → stretchFrom O (suc k) (suc a) m ≡ bumped (stretchFrom O (suc k) a m)
+      go true e h = simp e
+      go false e h = simp e h
+
+pub steps-from : (n : ℕ) (w : World) → hostSteps n (hostStep w) ≡ hostSteps (suc n) w
+unfolding hostSteps
+steps-from zero w = refl
+steps-from (suc n) w = ap hostStep (steps-from n w)
+
+-- ---- the house after one step, and then a stretch
+
+carried : (c j : ℕ) → ((c + 1) % 2 ^ 64 + j) % 2 ^ 64 ≡ (c + suc j) % 2 ^ 64
+carried c j = omega arith
+
+module _ (w : World) (i : ℕ) (s : Shaped (w .house)) (few : i < 8) (o : Outcome × Host) (regs : length (o .0 .core .registers) ≡ 32) (shadow : length (o .1 .shadow) ≡ 256) (t₀ : Turn) where
+  -- the stretched house of the stepped one
+  joined : (r : Stretch Host) (t : Turn) → stretchedHouse (settledHouse (w .house) i o t₀) i r t ≡ stretchedHouse (w .house) i (bumped r) t
+  unfolding stretchedHouse settledHouse bumped
+  joined r t =
+      simp (
+        getD-set-same (w .house .parts) i (counted (partition (w .house) i) o) noPartition (omega (arith, s .parts)),
+        set-set,
+        outer-outer (w .house .regs) (i * 32) 32 (omega (arith, s .regs)) (o .0 .core .registers) (r .core .registers) regs,
+        outer-outer (w .house .shadows) (i * 256) 256 (omega (arith, s .shadows)) (o .1 .shadow) (r .memory .shadow) shadow,
+        carried,
+      )
+
+  -- and its guest
+  hopped : guest (world (settledHouse (w .house) i o t₀) (o .1 .words)) i ≡ (o .0 .core, o .1)
+  hopped =
+      let p = settled-partition w i s few o regs shadow t₀ in
+      simp (p, settled-registers w i s few o regs shadow t₀, settled-shadow w i s few o regs shadow t₀)
+
+  hopped-pages : pagesOf (settledHouse (w .house) i o t₀) i ≡ pagesOf (w .house) i
+  hopped-pages = ap (λ (p : Partition). p .pages) (settled-partition w i s few o regs shadow t₀)
+
+-- ---- the turn one step on
+
+less-one : (l j : ℕ) → 0 < l → eqb (l - 1) j ≡ eqb l (suc j)
+less-one l j h =
+    by-eq l (suc j)
+    (λ e. eq-eqb (l - 1) j (omega arith) ∙ sym (eq-eqb l (suc j) e))
+    (λ d. ne-eqb (l - 1) j (λ q. d (omega arith)) ∙ sym (ne-eqb l (suc j) d))
+
+turn-on : (h : House) (o : Outcome × Host) (j : ℕ) (called : Bool) → 0 < h .left → turnBehind (settledHouse h (h .current) o (turn (h .current) (h .left - 1))) j called ≡ turnBehind h (suc j) called
+unfolding turnBehind settledHouse
+turn-on h o j called l =
+    let e : h .left - 1 - j ≡ h .left - suc j = omega arith in
+    simp (less-one (h .left) j l, e)
+
+-- ---- a stretch
+
+abbrev Made : World → Stretch Host → Type 0
+Made w r =
+    hostSteps (r .made) w ≡ world (stretchedHouse (w .house) (w .house .current) r (turnBehind (w .house) (r .made) (r .called))) (r .memory .words)
+
+abbrev once : Bool → Outcome × Host → Stretch Host
+once b o = record { made = 1; called = b; core = o .0 .core; memory = o .1 }
+
+abbrev stretched : World → ℕ → Stretch Host
+stretched w k = stretchFrom (guestMemory (w .house) (w .house .current)) k 0 (guest w (w .house .current))
+
+-- the world after one step that does not end the turn
+abbrev hop : World → World
+hop w =
+    let i = w .house .current in
+    let o = guestStep w i in
+    world (settledHouse (w .house) i o (turn i (w .house .left - 1))) (o .1 .words)
+
+module _ (w : World) (s : Sound w) where
+  made-once : (b : Bool) → guestStep w (w .house .current) .0 .calls ≡ b → Made w (once b (guestStep w (w .house .current)))
+  unfolding hostSteps hostStep stepWith turnAfter turnBehind settledHouse stretchedHouse
+  made-once b e = simp e
+
+  hop-is : guestStep w (w .house .current) .0 .calls ≡ false → 1 < w .house .left → hostStep w ≡ hop w
+  unfolding hostStep stepWith turnAfter
+  hop-is e l = simp (e, ne-eqb (w .house .left) 1 (λ q. omega arith))
+
+  stretched-called : (k : ℕ) → guestStep w (w .house .current) .0 .calls ≡ true → stretched w (suc k) ≡ once true (guestStep w (w .house .current))
+  unfolding stretchFrom guestStep
+  stretched-called k e = simp e
+
+  stretched-one : guestStep w (w .house .current) .0 .calls ≡ false → stretched w 1 ≡ once false (guestStep w (w .house .current))
+  unfolding stretchFrom guestStep
+  stretched-one e = simp e
+
+  first-is : (k : ℕ) → guestStep w (w .house .current) .0 .calls ≡ false → stretched w (suc (suc k)) ≡ stretchFrom (guestMemory (w .house) (w .house .current)) (suc k) 1 (guestStep w (w .house .current) .0 .core, guestStep w (w .house .current) .1)
+  unfolding stretchFrom guestStep
+  first-is k e = simp e
+
+  again-is : (k : ℕ) → guest (hop w) (w .house .current) ≡ (guestStep w (w .house .current) .0 .core, guestStep w (w .house .current) .1) → pagesOf (hop w .house) (w .house .current) ≡ pagesOf (w .house) (w .house .current) → stretched (hop w) (suc k) ≡ stretchFrom (guestMemory (w .house) (w .house .current)) (suc k) 0 (guestStep w (w .house .current) .0 .core, guestStep w (w .house .current) .1)
+  unfolding settledHouse
+  again-is k g p = ap (λ (n : ℕ). stretchFrom (hostMemory (framesOf (w .house) (w .house .current)) n) (suc k) 0 (guest (hop w) (w .house .current))) p ∙ ap (λ (m : Core × Host). stretchFrom (guestMemory (w .house) (w .house .current)) (suc k) 0 m) g
+
+  stretched-on : (k : ℕ) → guestStep w (w .house .current) .0 .calls ≡ false → stretched w (suc (suc k)) ≡ bumped (stretched (hop w) (suc k))
+  stretched-on k e =
+      let i = w .house .current in
+      let o = guestStep w i in
+      let f : i < 8 = omega (arith, s .here, s .few) in
+      let c = step-keeps w s .shadowed .count in
+      let t = turn i (w .house .left - 1) in
+      first-is k e
+      ∙ made-on (guestMemory (w .house) i) (suc k) 0 (o .0 .core, o .1)
+      ∙ ap bumped (sym (again-is k (hopped w i (s .shaped) f o (step-registers w s) c t) (hopped-pages w i (s .shaped) f o (step-registers w s) c t)))
+
+  hop-sound : guestStep w (w .house .current) .0 .calls ≡ false → 1 < w .house .left → Sound (hop w)
+  hop-sound e l = subst Sound (hop-is e l) (sound-step w s)
+
+  made-on-hop : (r : Stretch Host) → guestStep w (w .house .current) .0 .calls ≡ false → 1 < w .house .left → Made (hop w) r → Made w (bumped r)
+  unfolding bumped settledHouse
+  made-on-hop r e l h =
+      let i = w .house .current in
+      let o = guestStep w i in
+      let f : i < 8 = omega (arith, s .here, s .few) in
+      let t = turn i (w .house .left - 1) in
+      sym (steps-from (r .made) w)
+      ∙ ap (hostSteps (r .made)) (hop-is e l)
+      ∙ h
+      ∙ ap (λ (x : House). world x (r .memory .words))
+          (ap (λ (u : Turn). stretchedHouse (settledHouse (w .house) i o t) i r u) (turn-on (w .house) o (r .made) (r .called) (s .left))
+          ∙ joined w i (s .shaped) f o (step-registers w s) (step-keeps w s .shadowed .count) t r (turnBehind (w .house) (suc (r .made)) (r .called)))
+
+hop-left : (w : World) (k : ℕ) → suc k < w .house .left → k < hop w .house .left
+unfolding settledHouse
+hop-left w k l = omega arith
+
+-- a stretch of 1 to `left` steps is as many host steps as it made
+pub stretch-is : (k : ℕ) (w : World) → Sound w → k < w .house .left → Made w (stretched w (suc k))
+stretch-is zero w s l = go (guestStep w (w .house .current) .0 .calls) refl
+  where
+    go : (b : Bool) → guestStep w (w .house .current) .0 .calls ≡ b → Made w (stretched w 1)
+    go true e = rw (stretched-called w s 0 e) (made-once w s true e)
+    go false e = rw (stretched-one w s e) (made-once w s false e)
+stretch-is (suc k) w s l = go (guestStep w (w .house .current) .0 .calls) refl (λ s′ l′. stretch-is k (hop w) s′ l′)
+  where
+    go : (b : Bool) → guestStep w (w .house .current) .0 .calls ≡ b → (Sound (hop w) → k < hop w .house .left → Made (hop w) (stretched (hop w) (suc k))) → Made w (stretched w (suc (suc k)))
+    go true e h = rw (stretched-called w s (suc k) e) (made-once w s true e)
+    go false e h = rw (stretched-on w s k e) (made-on-hop w s _ e (omega arith) (h (hop-sound w s e (omega arith)) (hop-left w k l)))
