@@ -3,6 +3,7 @@ use mathlib.Core.Path.{_≡_, refl, sym, ap, subst, _∙_}
 use mathlib.Core.Bool.{Bool, true, false, _||_}
 use mathlib.Core.List.{List}
 use Prim.Native.Nat.{ℕ, zero, suc, _+_, _-_, _*_, _%_, _^_, _<_, _≤_}
+use native.Mathlib.Nat.{add-zero, add-suc}
 use native.Mathlib.Omega.{arith}
 use borrow.Author.Tests.{eq-eqb, ne-eqb}
 use lib.Dec.{eqb}
@@ -11,13 +12,15 @@ use lib.Seq.{set-set, getD-set-same}
 use Rattle.dlx.specs.Choice.{if_then_else_}
 use Rattle.dlx.specs.Machine.{Ops, Core, core, Outcome, outcome, step, Stretch, stretchFrom}
 use Rattle.dlx.specs.declared.partition.Partition.{Partition}
+use Rattle.dlx.proofs.Kept.{either}
 use Rattle.translate.specs.Memory.{Host, host, hostMemory}
 use Rattle.translate.proofs.Tests.{by-eq}
 use Rattle.house.specs.Lists.{inner, outer}
 use Rattle.house.specs.House.{noPartition, partition, pagesOf, registersOf, framesOf, shadowOf}
-use Rattle.house.specs.Turns.{World, world, Turn, turn, passed, turnAfter, guest, guestMemory, guestStep, counted, settledHouse, stepWith, hostStep, hostSteps, countedOn, stretchedHouse, turnBehind}
+use Rattle.house.specs.Turns.{World, world, turn, turnAfter, guest, guestMemory, guestStep, counted, settledHouse, stepWith, hostStep, hostSteps, countedOn, stretchedHouse, turnOf}
 use Rattle.house.specs.Sound.{Shaped, Sound}
 use Rattle.house.specs.declared.House.{House}
+use Rattle.house.specs.declared.Turn.{Turn}
 use Rattle.house.proofs.Parts.{outer-outer}
 use Rattle.house.proofs.Turns.{settled-partition, settled-registers, settled-shadow, step-keeps, step-registers, sound-step}
 
@@ -76,8 +79,8 @@ less-one l j h =
     (λ e. eq-eqb (l - 1) j (omega arith) ∙ sym (eq-eqb l (suc j) e))
     (λ d. ne-eqb (l - 1) j (λ q. d (omega arith)) ∙ sym (ne-eqb l (suc j) d))
 
-turn-on : (h : House) (o : Outcome × Host) (j : ℕ) (called : Bool) → 0 < h .left → turnBehind (settledHouse h (h .current) o (turn (h .current) (h .left - 1))) j called ≡ turnBehind h (suc j) called
-unfolding turnBehind settledHouse
+turn-on : (h : House) (o : Outcome × Host) (j : ℕ) (called : Bool) → 0 < h .left → turnAfter (settledHouse h (h .current) o (turn (h .current) (h .left - 1))) j called ≡ turnAfter h (suc j) called
+unfolding turnOf settledHouse
 turn-on h o j called l =
     let e : h .left - 1 - j ≡ h .left - suc j = omega arith in
     simp (less-one (h .left) j l, e)
@@ -86,12 +89,12 @@ turn-on h o j called l =
 
 abbrev Made : World → Stretch Host → Type 0
 Made w r =
-    hostSteps (r .made) w ≡ world (stretchedHouse (w .house) (w .house .current) r (turnBehind (w .house) (r .made) (r .called))) (r .memory .words)
+    hostSteps (r .made) w ≡ world (stretchedHouse (w .house) (w .house .current) r (turnAfter (w .house) (r .made) (r .called))) (r .memory .words)
 
 abbrev once : Bool → Outcome × Host → Stretch Host
 once b o = record { made = 1; called = b; core = o .0 .core; memory = o .1 }
 
-abbrev stretched : World → ℕ → Stretch Host
+abbrev pub stretched : World → ℕ → Stretch Host
 stretched w k = stretchFrom (guestMemory (w .house) (w .house .current)) k 0 (guest w (w .house .current))
 
 -- the world after one step that does not end the turn
@@ -103,11 +106,11 @@ hop w =
 
 module _ (w : World) (s : Sound w) where
   made-once : (b : Bool) → guestStep w (w .house .current) .0 .calls ≡ b → Made w (once b (guestStep w (w .house .current)))
-  unfolding hostSteps hostStep stepWith turnAfter turnBehind settledHouse stretchedHouse
+  unfolding hostSteps hostStep stepWith turnOf settledHouse stretchedHouse
   made-once b e = simp e
 
   hop-is : guestStep w (w .house .current) .0 .calls ≡ false → 1 < w .house .left → hostStep w ≡ hop w
-  unfolding hostStep stepWith turnAfter
+  unfolding hostStep stepWith turnOf
   hop-is e l = simp (e, ne-eqb (w .house .left) 1 (λ q. omega arith))
 
   stretched-called : (k : ℕ) → guestStep w (w .house .current) .0 .calls ≡ true → stretched w (suc k) ≡ once true (guestStep w (w .house .current))
@@ -151,8 +154,8 @@ module _ (w : World) (s : Sound w) where
       ∙ ap (hostSteps (r .made)) (hop-is e l)
       ∙ h
       ∙ ap (λ (x : House). world x (r .memory .words))
-          (ap (λ (u : Turn). stretchedHouse (settledHouse (w .house) i o t) i r u) (turn-on (w .house) o (r .made) (r .called) (s .left))
-          ∙ joined w i (s .shaped) f o (step-registers w s) (step-keeps w s .shadowed .count) t r (turnBehind (w .house) (suc (r .made)) (r .called)))
+      (ap (λ (u : Turn). stretchedHouse (settledHouse (w .house) i o t) i r u) (turn-on (w .house) o (r .made) (r .called) (s .left))
+      ∙ joined w i (s .shaped) f o (step-registers w s) (step-keeps w s .shadowed .count) t r (turnAfter (w .house) (suc (r .made)) (r .called)))
 
 hop-left : (w : World) (k : ℕ) → suc k < w .house .left → k < hop w .house .left
 unfolding settledHouse
@@ -170,3 +173,42 @@ stretch-is (suc k) w s l = go (guestStep w (w .house .current) .0 .calls) refl (
     go : (b : Bool) → guestStep w (w .house .current) .0 .calls ≡ b → (Sound (hop w) → k < hop w .house .left → Made (hop w) (stretched (hop w) (suc k))) → Made w (stretched w (suc (suc k)))
     go true e h = rw (stretched-called w s (suc k) e) (made-once w s true e)
     go false e h = rw (stretched-on w s k e) (made-on-hop w s _ e (omega arith) (h (hop-sound w s e (omega arith)) (hop-left w k l)))
+
+-- ---- how many steps a stretch makes
+
+module _ {S : Type 0} (O : Ops S) where
+  made-most : (k a : ℕ) (m : Core × S) → (a ≤ stretchFrom O k a m .made) × (stretchFrom O k a m .made ≤ a + k)
+  unfolding stretchFrom
+  made-most zero a m = (omega arith, omega arith)
+  made-most (suc k) a m =
+      let h = made-most k (suc a) (step O m .0 .core, step O m .1) in
+      either (λ (r : Stretch S). (a ≤ r .made) × (r .made ≤ a + suc k)) (step O m .0 .calls)
+      (λ _. (omega arith, omega arith))
+      (λ _. (omega arith, omega arith))
+
+  made-some : (k : ℕ) (m : Core × S) → 0 < stretchFrom O (suc k) 0 m .made
+  unfolding stretchFrom
+  made-some k m =
+      let h = made-most k 1 (step O m .0 .core, step O m .1) in
+      either (λ (r : Stretch S). 0 < r .made) (step O m .0 .calls) (λ _. omega arith) (λ _. omega arith)
+
+-- a stretch of n steps at most, where 0 < n and n is at most the steps left
+pub record Turned (w : World) (n : ℕ) (r : Stretch Host) : Type 0 where
+  pub some : 0 < r .made
+  pub most : r .made ≤ n
+  pub steps : hostSteps (r .made) w ≡ world (stretchedHouse (w .house) (w .house .current) r (turnAfter (w .house) (r .made) (r .called))) (r .memory .words)
+
+pub turned : (n : ℕ) (w : World) → Sound w → 0 < n → n ≤ w .house .left → Turned w n (stretched w n)
+turned zero w s p l = absurd (omega arith)
+turned (suc k) w s p l = record {
+  some = made-some (guestMemory (w .house) (w .house .current)) k (guest w (w .house .current));
+  most = omega (arith, made-most (guestMemory (w .house) (w .house .current)) (suc k) 0 (guest w (w .house .current)) .1);
+  steps = stretch-is k w s (omega arith);
+}
+
+-- ---- steps after steps
+
+pub steps-add : (m n : ℕ) (w : World) → hostSteps n (hostSteps m w) ≡ hostSteps (m + n) w
+unfolding hostSteps
+steps-add m zero w = simp add-zero
+steps-add m (suc n) w = simp add-suc (ap hostStep (steps-add m n w))

@@ -19,9 +19,10 @@ use Rattle.translate.proofs.Steps.{Whole, step-whole}
 use Rattle.translate.proofs.Tests.{by-test, by-eq}
 use Rattle.house.specs.Lists.{inner, outer}
 use Rattle.house.specs.House.{noPartition, partition, pagesOf, registersOf, framesOf, shadowOf}
-use Rattle.house.specs.Turns.{World, world, following, nextFrom, nextOf, Turn, turn, passed, turnAfter, guest, guestMemory, guestStep, counted, settledHouse, stepWith, hostStep, hostSteps}
+use Rattle.house.specs.Turns.{World, world, following, nextFrom, nextOf, turn, turnAfter, guest, guestMemory, guestStep, counted, settledHouse, stepWith, hostStep, hostSteps, turnOf}
 use Rattle.house.specs.Sound.{Shaped, SoundPartition, Sound}
 use Rattle.house.specs.declared.House.{House}
+use Rattle.house.specs.declared.Turn.{Turn}
 use Rattle.house.proofs.Parts.{inner-length, outer-length, inner-outer, inner-other, inner-above}
 
 -- ---- whose turn it is
@@ -36,6 +37,21 @@ next-below r n i zero h = h
 next-below r n i (suc k) h =
     let f = following-below n i h in
     either (λ x. x < n) (getD r (following n i) false) (λ _. f) (λ _. next-below r n (following n i) k f)
+
+-- the search, one partition on
+module _ (r : List Bool) (n i tried : ℕ) where
+  pub next-done : n ≤ tried → i ≡ nextFrom r n i (n - tried)
+  unfolding nextFrom
+  next-done h = let e : n - tried ≡ 0 = omega arith in simp e
+
+  module _ (less : tried < n) where
+    pub next-found : getD r (following n i) false ≡ true → following n i ≡ nextFrom r n i (n - tried)
+    unfolding nextFrom
+    next-found h = let e : n - tried ≡ suc (n - (tried + 1)) = omega arith in simp (e, h)
+
+    pub next-on : getD r (following n i) false ≡ false → nextFrom r n (following n i) (n - (tried + 1)) ≡ nextFrom r n i (n - tried)
+    unfolding nextFrom
+    next-on h = let e : n - tried ≡ suc (n - (tried + 1)) = omega arith in rw e (simp h)
 
 -- ---- another partition's part
 
@@ -106,15 +122,15 @@ module _ (w : World) (s : Sound w) where
       step-count (guestMemory (w .house) (w .house .current)) _ _
       ∙ inner-length (w .house .regs) (w .house .current * 32) 32 (omega (arith, s .shaped .regs, s .here, s .few))
 
-  pub turn-here : (calls : Bool) → turnAfter (w .house) calls .current < w .house .count
-  unfolding turnAfter
+  pub turn-here : (calls : Bool) → turnAfter (w .house) 1 calls .current < w .house .count
+  unfolding turnOf
   turn-here calls =
       either (λ (t : Turn). t .current < w .house .count) (eqb (w .house .left) 1 || calls)
       (λ _. next-below (w .house .running) (w .house .count) (w .house .current) (w .house .count) (s .here))
       (λ _. s .here)
 
-  pub turn-left : (calls : Bool) → 0 < turnAfter (w .house) calls .left
-  unfolding turnAfter
+  pub turn-left : (calls : Bool) → 0 < turnAfter (w .house) 1 calls .left
+  unfolding turnOf
   turn-left calls =
       either (λ (t : Turn). 0 < t .left) (eqb (w .house .left) 1 || calls)
       (λ _. s .turns)
@@ -137,25 +153,25 @@ module _ (w : World) (s : Sound w) where
         let k = step-keeps .shadowed .count in
         by-eq j i
         (λ e.
-          let p = ap (λ (x : Partition). x .pages) (settled-partition w i (s .shaped) f o step-registers k t) in
-          subst (λ (x : ℕ). SoundPartition (world (settledHouse (w .house) i o t) (o .1 .words)) x) (sym e)
-          (record {
-            placed = rw p (rw (step-keeps .long) (s .each i (s .here) .placed));
-            shadowed = rw (p, settled-shadow w i (s .shaped) f o step-registers k t) (step-keeps .shadowed);
-          }))
+        let p = ap (λ (x : Partition). x .pages) (settled-partition w i (s .shaped) f o step-registers k t) in
+        subst (λ (x : ℕ). SoundPartition (world (settledHouse (w .house) i o t) (o .1 .words)) x) (sym e)
+        (record {
+          placed = rw p (rw (step-keeps .long) (s .each i (s .here) .placed));
+          shadowed = rw (p, settled-shadow w i (s .shaped) f o step-registers k t) (step-keeps .shadowed);
+        }))
         (λ d.
-          let p = other-pages w i (s .shaped) f o step-registers k t j small d in
-          record {
-            placed = rw p (rw (step-keeps .long) (s .each j l .placed));
-            shadowed = rw (p, other-shadow w i (s .shaped) f o step-registers k t j small d) (s .each j l .shadowed);
-          })
+        let p = other-pages w i (s .shaped) f o step-registers k t j small d in
+        record {
+          placed = rw p (rw (step-keeps .long) (s .each j l .placed));
+          shadowed = rw (p, other-shadow w i (s .shaped) f o step-registers k t j small d) (s .each j l .shadowed);
+        })
 
   pub sound-step : Sound (hostStep w)
   unfolding hostStep stepWith settledHouse
   sound-step =
       let i = w .house .current in
       let o = guestStep w i in
-      let t = turnAfter (w .house) (o .0 .calls) in
+      let t = turnAfter (w .house) 1 (o .0 .calls) in
       record {
         shaped = settled-shaped w i (s .shaped) (omega (arith, s .here, s .few)) o step-registers (step-keeps .shadowed .count) t;
         few = s .few;

@@ -11,8 +11,9 @@ use Rattle.house.specs.Lists.{outer, listFrom, any}
 use Rattle.house.specs.House.{noHouse, pagesOf, runs, framesOf}
 use Rattle.house.specs.Damage.{damaged}
 use Rattle.house.specs.Boot.{Verdict, verdict, case, firstOf, bootVerdict, bootedHouse}
-use Rattle.house.specs.Turns.{World, world, nextOf, Turn, turn, hostSteps}
+use Rattle.house.specs.Turns.{World, world, nextOf, turn, hostSteps}
 use Rattle.house.specs.declared.House.{House}
+use Rattle.house.specs.declared.Turn.{Turn}
 
 -- a call's answer, with the memory that it leaves
 pub record Answered : Type 0 where

@@ -11,6 +11,7 @@ use Rattle.translate.specs.Memory.{Host, host, hostMemory}
 use Rattle.house.specs.Lists.{inner, outer}
 use Rattle.house.specs.House.{partition, pagesOf, registersOf, framesOf, shadowOf}
 use Rattle.house.specs.declared.House.{House}
+use Rattle.house.specs.declared.Turn.{Turn}
 
 -- the house and the lent memory
 pub record World : Type 0 where
@@ -33,21 +34,15 @@ nextFrom r n i (suc k) = if getD r (following n i) false then following n i else
 abbrev pub nextOf : List Bool → ℕ → ℕ → ℕ
 nextOf r n i = nextFrom r n i n
 
--- whose turn it is, and how many steps it has left
-pub record Turn : Type 0 where
-  pub current : ℕ
-  pub left : ℕ
-
 abbrev pub turn : ℕ → ℕ → Turn
 turn c l = record { current = c; left = l }
 
--- the turn passes, with q steps left
-abbrev pub passed : House → Turn
-passed h = turn (nextOf (h .running) (h .count) (h .current)) (h .q)
+-- The turn of c, who had l left, after so many steps of it: at 0 left, or after a trap taken in system mode, it passes, with q left.
+unfoldable pub turnOf : List Bool → ℕ → ℕ → ℕ → ℕ → ℕ → Bool → Turn
+turnOf r n q c l made calls = if eqb l made || calls then turn (nextOf r n c) q else turn c (l - made)
 
--- after a step of the current partition: at 0 left, or after a trap taken in system mode
-unfoldable pub turnAfter : House → Bool → Turn
-turnAfter h calls = if eqb (h .left) 1 || calls then passed h else turn (h .current) (h .left - 1)
+abbrev pub turnAfter : House → ℕ → Bool → Turn
+turnAfter h made calls = turnOf (h .running) (h .count) (h .q) (h .current) (h .left) made calls
 
 -- ---- the host step
 
@@ -88,7 +83,7 @@ settledHouse h i o t = record {
 }
 
 unfoldable pub stepWith : House → Outcome × Host → World
-stepWith h o = world (settledHouse h (h .current) o (turnAfter h (o .0 .calls))) (o .1 .words)
+stepWith h o = world (settledHouse h (h .current) o (turnAfter h 1 (o .0 .calls))) (o .1 .words)
 
 unfoldable pub hostStep : World → World
 hostStep w = stepWith (w .house) (guestStep w (w .house .current))
@@ -123,7 +118,17 @@ stretchedHouse h i r t = record {
   shadows = outer (i * 256) 256 (h .shadows) (r .memory .shadow);
 }
 
--- the turn after so many steps of it, the last of which may have called
-unfoldable pub turnBehind : House → ℕ → Bool → Turn
-turnBehind h made called =
-    if eqb (h .left) made || called then passed h else turn (h .current) (h .left - made)
+-- the house h with what a host step may change
+abbrev pub houseAt : House → ℕ → ℕ → List Partition → List ℕ → List ℕ → House
+houseAt h current left parts regs shadows = record {
+  count = h .count;
+  q = h .q;
+  words = h .words;
+  current = current;
+  left = left;
+  running = h .running;
+  parts = parts;
+  regs = regs;
+  frames = h .frames;
+  shadows = shadows;
+}

@@ -18,6 +18,12 @@ pub struct House {
     pub shadows: [u32; 2048],
 }
 
+// Whose turn it is, and how many steps it has left; none current is 0 and 0.
+pub struct Turn {
+    pub current: u32,
+    pub left: u32,
+}
+
 // A call's answer: 01's number, its detail, and the house.
 pub struct Answer {
     pub number: u32,

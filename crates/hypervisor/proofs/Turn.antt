@@ -1,0 +1,76 @@
+-- One turn of the run's loop, in the terms in which the lent parts come back.
+use mathlib.Core.Path.{_≡_, refl, sym, ap, subst, _∙_}
+use mathlib.Core.Bool.{Bool}
+use mathlib.Core.List.{List, _++_}
+use Prim.Native.Nat.{ℕ, _+_, _-_, _*_, _%_, _^_, _<_, _≤_}
+use native.Mathlib.Nat.{add-sub-cancel-left}
+use native.Mathlib.Omega.{arith}
+use borrow.Author.Tests.{leb-true, leb-false}
+use lib.Dec.{leb}
+use lib.ListN.{length, getD, set, take, drop}
+use Rattle.dlx.specs.Choice.{if_then_else_}
+use Rattle.dlx.specs.Machine.{core, stretchFrom}
+use Rattle.dlx.proofs.Kept.{either}
+use Rattle.dlx.specs.declared.partition.Partition.{Partition}
+use Rattle.translate.specs.Memory.{host, hostMemory}
+use Rattle.translate.specs.Premises.{Placed, Shadowed}
+use Rattle.engine.specs.declared.Stretched.{Stretched}
+use Rattle.engine.specs.Answers.{stretchOf}
+use Rattle.house.specs.Lists.{inner, outer}
+use Rattle.house.specs.House.{noPartition}
+use Rattle.house.specs.Turns.{World, world, turnOf, hostSteps, stretchedHouse, houseAt}
+use Rattle.house.specs.Sound.{Sound}
+use Rattle.house.specs.declared.House.{House}
+use Rattle.house.specs.declared.Turn.{Turn}
+use Rattle.house.proofs.Parts.{inner-length}
+use Rattle.house.proofs.Stretch.{Turned, turned, stretched}
+
+-- the part of a list that is lent from i * s on, and the list when it is back
+abbrev lent : ℕ → ℕ → List ℕ → List ℕ
+lent i s l = take (i * s + s - i * s) (drop (i * s) l)
+
+abbrev back : ℕ → ℕ → List ℕ → List ℕ → List ℕ
+back i s l k = take (i * s) l ++ (k ++ drop (i * s + s - i * s) (drop (i * s) l))
+
+module _ (h : House) (current left : ℕ) (parts : List Partition) (regs shadows m : List ℕ) where
+  abbrev here : World
+  here = world (houseAt h current left parts regs shadows) m
+
+  module _ (s : Stretched) (regs′ m′ shadow′ : List ℕ) (n : ℕ) where
+    -- the stretch that the engine was asked for
+    abbrev Asked : ℕ → Type 0
+    Asked i =
+        stretchOf s regs′ m′ shadow′
+        ≡ stretchFrom (hostMemory (lent i 256 (h .frames)) (getD parts i noPartition .pages)) n 0 (core (getD parts i noPartition .processor) (lent i 32 regs), host (getD parts i noPartition .table) m (lent i 256 shadows))
+
+    pub asked-turned : (i : ℕ) → i ≡ current → Asked i → Sound here → 0 < n → n ≤ left → Turned here n (stretchOf s regs′ m′ shadow′)
+    unfolding inner
+    asked-turned i q a o p l =
+        subst (Turned here n)
+        (sym (simp add-sub-cancel-left at (subst Asked q a)))
+        (turned n here o p l)
+
+    -- the house that the loop's body makes of its answer
+    abbrev Made : Turn → ℕ → ℕ → World
+    Made t counter i =
+        world (houseAt h (t .current) (t .left) (set parts i (record { pages = getD parts i noPartition .pages; processor = s .processor; table = s .table; counter = counter })) (back i 32 regs regs′) (back i 256 shadows shadow′)) m′
+
+    pub after-turn : (i : ℕ) (t : Turn) (counter : ℕ) → i ≡ current → Turned here n (stretchOf s regs′ m′ shadow′) → t ≡ turnOf (h .running) (h .count) (h .q) current left (s .made) (s .called) → counter ≡ (getD parts i noPartition .counter + s .made) % 2 ^ 64 → Made t counter i ≡ hostSteps (s .made) here
+    unfolding stretchedHouse outer
+    after-turn i t counter q d e c = rw q (simp (add-sub-cancel-left, e, rw q at c) (sym (d .steps)))
+
+  -- what the engine asks of the lent parts
+  pub asked-sound : (i : ℕ) → i ≡ current → Sound here → (length (lent i 32 regs) ≡ 32) × (Placed (lent i 256 (h .frames)) (getD parts i noPartition .pages) (length m) × Shadowed (lent i 256 (h .frames)) (getD parts i noPartition .pages) (lent i 256 shadows))
+  unfolding inner
+  asked-sound i q o =
+      rw q
+      (simp add-sub-cancel-left
+      (inner-length regs (current * 32) 32 (omega (arith, o .here, o .few, o .shaped .regs)), (o .each current (o .here) .placed, o .each current (o .here) .shadowed)))
+
+-- the limit of a turn
+pub limited : (l r n : ℕ) → n ≡ (if leb l r then l else r) → 0 < l → 0 < r → (0 < n) × (n ≤ l) × (n ≤ r)
+limited l r n e p q =
+    subst (λ (x : ℕ). (0 < x) × (x ≤ l) × (x ≤ r)) (sym e)
+    (either (λ (x : ℕ). (0 < x) × (x ≤ l) × (x ≤ r)) (leb l r)
+    (λ b. let h = leb-true l r b in (omega arith, omega arith, omega arith))
+    (λ b. let h = leb-false l r b in (omega arith, omega arith, omega arith)))

@@ -1,0 +1,2 @@
+// The calls of the house as code, each equal to its definition in `house`.
+pub mod run;

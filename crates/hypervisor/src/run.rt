@@ -1,0 +1,140 @@
+// Runs: turns of the current partition, each a stretch of the engine's.
+ghost use mathlib.Core.Path.{_≡_};
+ghost use Prim.Native.Nat.{_<_, _≤_};
+ghost use lib.Dec.{leb};
+ghost use Rattle.dlx.specs.Choice.{if_then_else_};
+ghost use Rattle.house.specs.Turns.{world, following as followingOf, nextOf, turnOf, hostSteps};
+ghost use Rattle.house.specs.Sound.{Sound};
+use dlx::partition::Partition;
+use dlx::words::wide;
+use house::House;
+use house::Turn;
+
+// The partition after i, in cyclic order.
+fn following(n: u32, i: u32) -> u32
+    requires { ⌜ i < n ⌝ }
+    ensures { λ r. ⌜ r ≡ followingOf n i ⌝ }
+{
+    if i + 1 == n {
+        return 0;
+    }
+    i + 1
+}
+
+// The next running partition after i, itself if alone.
+pub fn next(running: &[bool; 8], n: u32, i: u32) -> u32
+    requires { ⌜ n ≤ 8 ⌝ ∗ ⌜ i < n ⌝ }
+    ensures { λ r. ⌜ r ≡ nextOf (now (running .entry)) n i ⌝ }
+{
+    let mut at = i;
+    let mut tried: u32 = 0;
+    while tried < n {
+        at = following(n, at);
+        if running[wide(at)] {
+            return at;
+        }
+        tried += 1;
+    }
+    at
+}
+
+// The turn of the current partition after so many steps of it.
+fn turn(
+    running: &[bool; 8],
+    n: u32,
+    q: u32,
+    current: u32,
+    left: u32,
+    made: u32,
+    called: bool,
+) -> Turn
+    requires { ⌜ n ≤ 8 ⌝ ∗ ⌜ current < n ⌝ ∗ ⌜ made ≤ left ⌝ }
+    ensures { λ r. ⌜ r ≡ turnOf (now (running .entry)) n q current left made called ⌝ }
+{
+    if left == made {
+        return Turn {
+            current: next(running, n, current),
+            left: q,
+        };
+    }
+    if called {
+        return Turn {
+            current: next(running, n, current),
+            left: q,
+        };
+    }
+    Turn {
+        current,
+        left: left - made,
+    }
+}
+
+// The smaller of the steps left and the steps still to make.
+fn limit(left: u32, rest: u32) -> u32
+    ensures { λ r. ⌜ r ≡ (if leb left rest then left else rest) ⌝ }
+{
+    if left <= rest {
+        return left;
+    }
+    rest
+}
+
+// k host steps. The arrays are in locals; a turn lends the partition's parts of them.
+pub fn steps(h: House, memory: &mut [u32], k: u32) -> House
+    requires { ⌜ Sound (world h (now memory)) ⌝ }
+    ensures { λ r. ⌜ world r (now (memory .exit)) ≡ hostSteps k (world h (now (memory .entry))) ⌝ }
+{
+    let count = h.count;
+    let q = h.q;
+    let running = h.running;
+    let frames = h.frames;
+    let mut parts = h.parts;
+    let mut regs = h.regs;
+    let mut shadows = h.shadows;
+    let mut current = h.current;
+    let mut left = h.left;
+    let mut made: u32 = 0;
+    while made < k {
+        let i = wide(current);
+        let p = parts[i];
+        let a = i * 32;
+        let b = a + 32;
+        let c = i * 256;
+        let d = c + 256;
+        let n = limit(left, k - made);
+        let s = engine::stretch(
+            p.processor,
+            p.table,
+            p.pages,
+            &mut regs[a..b],
+            &frames[c..d],
+            &mut shadows[c..d],
+            memory,
+            n,
+        );
+        let processor = s.processor;
+        let table = s.table;
+        parts[i] = Partition {
+            pages: p.pages,
+            processor,
+            table,
+            counter: std::num::wrapping_add_u64(p.counter, s.made as u64),
+        };
+        let t = turn(&running, count, q, current, left, s.made, s.called);
+        current = t.current;
+        left = t.left;
+        made += s.made;
+    }
+    House {
+        count,
+        q,
+        words: h.words,
+        current,
+        left,
+        running,
+        parts,
+        regs,
+        frames,
+        shadows,
+    }
+}
