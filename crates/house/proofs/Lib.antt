@@ -1,3 +1,5 @@
+pub mod Lists
 pub mod Parts
-pub mod Turns
 pub mod Stretch
+pub mod Turns
+pub mod Undamaged
