@@ -12,7 +12,7 @@ use Rattle.translate.specs.Entries.{number, valid}
 use Rattle.translate.specs.Walk.{entries}
 use Rattle.translate.specs.Premises.{Placed, Own, Shadowed}
 use Rattle.translate.proofs.Entries.{empty-invalid}
-use Rattle.translate.proofs.Tests.{by-test}
+use Rattle.translate.proofs.Tests.{by-test, and-left}
 use Rattle.house.specs.Lists.{any, between}
 use Rattle.house.specs.House.{partition, pagesOf, runs, framesOf, shadowOf}
 use Rattle.house.specs.Damage.{wholeFrames, outsideLimits, stands, frameTwice, turnWrong, registersWrong, entryWrong, shadowWrong, unusedWrong, damaged}
@@ -21,10 +21,6 @@ use Rattle.house.specs.Sound.{Shaped, SoundPartition, Sound}
 use Rattle.house.specs.declared.House.{House}
 use Rattle.house.proofs.Lists.{or-left, or-right, and-right, one-way, any-at, any-none, any-yes}
 use Rattle.house.proofs.Parts.{inner-length}
-
-and-left : (a b : Bool) → (a && b) ≡ true → a ≡ true
-and-left true b e = refl
-and-left false b e = cc
 
 -- a test by `between` that came out well
 within : (a n b : ℕ) → not (between a n b) ≡ false → (a ≤ n) × (n ≤ b)

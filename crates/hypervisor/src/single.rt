@@ -1,0 +1,98 @@
+// What start, stop, empty and read-out do to one partition, where nothing refuses them.
+ghost use mathlib.Core.Path.{_≡_};
+ghost use mathlib.Core.Bool.{false};
+ghost use mathlib.Core.List.{_++_};
+ghost use Prim.Native.Nat.{_+_, _*_, _<_, _≤_};
+ghost use lib.ListN.{length, getD, drop};
+ghost use Rattle.house.specs.Lists.{any, listFrom};
+ghost use Rattle.house.specs.Turns.{turn};
+ghost use Rattle.house.specs.Calls.{withTurn, started, stopped, emptiedHouse};
+ghost use Rattle.translate.specs.Memory.{hostWord};
+ghost use Rattle.translate.specs.Premises.{Placed};
+use crate::run::next;
+use dlx::words::wide;
+use house::House;
+
+// Some partition below n runs.
+pub fn any_runs(running: &[bool; 8], n: usize) -> bool
+    requires { ⌜ n ≤ 8 ⌝ }
+    ensures { λ r. ⌜ r ≡ any (λ j. getD (now (running .entry)) j false) n ⌝ }
+{
+    let mut i = 0;
+    while i < n {
+        if running[i] {
+            return true;
+        }
+        i += 1;
+    }
+    false
+}
+
+// The house with other flags and another turn.
+fn with_turn(h: House, running: [bool; 8], current: u32, left: u32) -> House
+    ensures { λ r. ⌜ r ≡ withTurn h running (turn current left) ⌝ }
+{
+    let mut r = h;
+    r.running = running;
+    r.current = current;
+    r.left = left;
+    r
+}
+
+pub fn start(h: House, i: u32) -> House
+    requires { ⌜ i < 8 ⌝ }
+    ensures { λ r. ⌜ r ≡ started h i ⌝ }
+{
+    let mut running = h.running;
+    running[wide(i)] = true;
+    if h.left == 0 {
+        return with_turn(h, running, i, h.q);
+    }
+    with_turn(h, running, h.current, h.left)
+}
+
+pub fn stop(h: House, i: u32) -> House
+    requires { ⌜ h .count ≤ 8 ⌝ ∗ ⌜ i < h .count ⌝ }
+    ensures { λ r. ⌜ r ≡ stopped h i ⌝ }
+{
+    let mut running = h.running;
+    running[wide(i)] = false;
+    if h.left == 0 {
+        return with_turn(h, running, h.current, h.left);
+    }
+    if h.current != i {
+        return with_turn(h, running, h.current, h.left);
+    }
+    let n = h.count;
+    if any_runs(&running, wide(n)) {
+        let c = next(&running, n, i);
+        return with_turn(h, running, c, h.q);
+    }
+    with_turn(h, running, 0, 0)
+}
+
+pub fn empty(h: House, i: u32) -> House
+    requires { ⌜ i < 8 ⌝ }
+    ensures { λ r. ⌜ r ≡ emptiedHouse h i ⌝ }
+{
+    let mut shadows = h.shadows;
+    let a = wide(i) * 256;
+    let b = a + 256;
+    translate::clear(&mut shadows[a..b]);
+    let mut r = h;
+    r.shadows = shadows;
+    r
+}
+
+// The guest's words from one on, into the first of an output.
+pub fn read(frames: &[u32], pages: u32, words: &[u32], from: usize, count: usize, out: &mut [u32])
+    requires { ⌜ Placed (now frames) pages (length (now words)) ⌝ ∗ ⌜ from + count ≤ pages * 1024 ⌝ ∗ ⌜ count ≤ length (now out) ⌝ }
+    ensures { λ r. ⌜ now (out .exit) ≡ listFrom (λ j. hostWord (now (frames .entry)) (now (words .entry)) (from + j)) 0 count ++ drop count (now (out .entry)) ⌝ }
+{
+    let mut j = 0;
+    while j < count {
+        let g = from + j;
+        out[j] = words[wide(frames[g / 1024]) * 1024 + g % 1024];
+        j += 1;
+    }
+}
