@@ -133,7 +133,7 @@ module _ (h : House) (e : damaged h ≡ false) where
       (r .0, r .1, eqb-true _ _ (r .2))
 
   module _ (m : List ℕ) (s : Shaped h) (size : length m ≡ h .words) where
-    sound-partition : (i : ℕ) → i < h .count → SoundPartition (world h m) i
+    pub sound-partition : (i : ℕ) → i < h .count → SoundPartition (world h m) i
     sound-partition i l =
         let c = count-within in
         let len = inner-length (h .shadows) (i * 256) 256 (omega (arith, s .shadows)) in

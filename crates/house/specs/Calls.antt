@@ -112,6 +112,10 @@ emptyCall w i = unlessRefused (oneVerdict (w .house) i) w (world (emptiedHouse (
 
 -- ---- read-out of so many words from the guest byte address a of partition i, into an output
 
+-- not a multiple of 4, or address + 4 × count, unwrapped, above 4,096 × the page count
+abbrev pub beyondOf : ℕ → ℕ → ℕ → Bool
+beyondOf pages a count = not (eqb (a % 4) 0) || ltb (4096 * pages) (a + 4 * count)
+
 unfoldable pub readVerdict : World → ℕ → ℕ → ℕ → List ℕ → Verdict
 readVerdict w i a count out =
     let h = w .house in
@@ -119,7 +123,7 @@ readVerdict w i a count out =
     (case (damaged h) 8 0
     ∷ case (not (eqb (length (w .memory)) (h .words))) 9 0
     ∷ case (leb (h .count) i) 10 0
-    ∷ case (not (eqb (a % 4) 0) || ltb (4096 * pagesOf h i) (a + 4 * count)) 12 0
+    ∷ case (beyondOf (pagesOf h i) a count) 12 0
     ∷ case (ltb (length out) count) 13 0
     ∷ [])
     (verdict 0 count)
@@ -129,12 +133,16 @@ unfoldable pub readOut : World → ℕ → ℕ → ℕ → List ℕ → List ℕ
 readOut w i a count out =
     listFrom (λ j. hostWord (framesOf (w .house) i) (w .memory) (a / 4 + j)) 0 count ++ drop count out
 
--- what is read, and the output after it
+-- a read-out's answer, with the output that it leaves; house and memory stay as they were
 pub record Read : Type 0 where
   pub verdict : Verdict
+  pub house : House
   pub output : List ℕ
+
+abbrev pub read : Verdict → House → List ℕ → Read
+read v h out = record { verdict = v; house = h; output = out }
 
 unfoldable pub readCall : World → ℕ → ℕ → ℕ → List ℕ → Read
 readCall w i a count out =
     let v = readVerdict w i a count out in
-    record { verdict = v; output = if eqb (v .number) 0 then readOut w i a count out else out }
+    read v (w .house) (if eqb (v .number) 0 then readOut w i a count out else out)
