@@ -3,3 +3,4 @@ pub mod Kept
 pub mod Like
 pub mod Places
 pub mod Signed
+pub mod Xor

@@ -73,7 +73,6 @@ pub fn read_instruction(w: u32) -> Instruction
     let rs1 = wide(w / 2097152 % 32);
     let rd = wide(w / 65536 % 32);
     let imm = extend(0x8000, w);
-    let far = extend(0x200_0000, w);
     match opcode {
         35 => Instruction::Lw(rd, rs1, imm),
         43 => Instruction::Sw(rd, rs1, imm),
@@ -88,9 +87,9 @@ pub fn read_instruction(w: u32) -> Instruction
         5 => Instruction::Bnez(rs1, imm),
         22 => Instruction::Jr(rs1),
         23 => Instruction::Jalr(rs1),
-        2 => Instruction::J(far),
-        3 => Instruction::Jal(far),
-        62 => Instruction::Trap(far),
+        2 => Instruction::J(extend(0x200_0000, w)),
+        3 => Instruction::Jal(extend(0x200_0000, w)),
+        62 => Instruction::Trap(extend(0x200_0000, w)),
         63 => Instruction::Rfe,
         0 => read_register_type(w),
         _ => Instruction::Ill,

@@ -1,6 +1,6 @@
 // Words of 32 bits: signed readings, the eight tests, overflow, sign extension.
 ghost use mathlib.Core.Path.{_≡_};
-ghost use Prim.Native.Nat.{_^_, _<_, _≤_};
+ghost use Prim.Native.Nat.{ℕ, _^_, _≤_};
 ghost use Rattle.dlx.specs.Words.{readingOf, holds, outsideOf, sumOverflows, differenceOverflows, testOf, extendedBy};
 
 // A word read as a two's complement number.
@@ -58,18 +58,13 @@ pub fn difference_overflows(x: u32, y: u32) -> bool
     outside(z)
 }
 
-// The low field of x with 2 * half values, sign-extended to a word.
+// The low field of x with 2 * half values, where half is a power of 2, sign-extended to a word: its highest bit is flipped, and half taken away.
 pub fn extend(half: u32, x: u32) -> u32
-    requires { ⌜ (0 < half) × (half ≤ 2 ^ 30) ⌝ }
+    requires { ⌜ ((k : ℕ) × (k ≤ 30) × (half ≡ 2 ^ k)) ⌝ }
     ensures { λ r. ⌜ r ≡ extendedBy half x ⌝ }
 {
-    let values = half * 2;
-    let field = x % values;
-    if field < half {
-        field
-    } else {
-        field + (0xFFFF_FFFF - values + 1)
-    }
+    let field = x % (half * 2);
+    std::num::wrapping_sub_u32(field ^ half, half)
 }
 
 // A word as an index.

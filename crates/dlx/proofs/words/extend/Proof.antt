@@ -1,34 +1,34 @@
+use Rattle.dlx.proofs.Xor.{flip-extends, half-small}
 use Rattle.dlx.specs.Words.{extendedBy}
-use borrow.Author.Tests.{lt-ltb, le-ltb}
-use Prim.Native.Nat.{_*_}
-use native.Mathlib.Nat.{mod-lt}
+use lib.Bits.{bitXor}
+use Prim.Native.Nat.{ℕ, _+_, _*_, _%_, _^_}
+use mathlib.Core.Path.{_≡_, sym, subst}
 use native.Mathlib.Omega.{arith}
 use borrow.Author.Needs.{needs}
 use Rattle.dlx.proofs.words.extend.Statement.{statement}
 use Rattle.dlx.proofs.words.extend.Tie as tie
+use Rattle.dlx.proofs.words.extend.Reads as reads
+use Rattle.dlx.proofs.words.extend.Lts as lts
+use Rattle.std.proofs.num.wrapping_sub_u32.Reads as wrapping-sub-u32-reads
 
-mul-values : tie.Need-mul-values
-mul-values c = search needs
+-- src/words.rt:66:22
+mul-field : tie.Need-mul-field
+mul-field c = let h = half-small _ (c .pre) in omega arith
 
+-- src/words.rt:66:17
 rem-field : tie.Need-rem-field
-rem-field c = search needs
+rem-field c = let h = half-small _ (c .pre) in omega arith
 
-sub-result : tie.Need-sub-result
-sub-result c = search needs
+-- src/words.rt:67:5
+wrapping-sub-u32-requires : tie.Need-wrapping-sub-u32-requires
+wrapping-sub-u32-requires c κs = search needs
 
-add-result : tie.Need-add-result
-add-result c = search needs
-
-add-result-2 : tie.Need-add-result-2
-add-result-2 c = let a = c .before .args in record { fits = omega (arith, mod-lt (a .x) {m = a .half * 2} (omega arith)) }
-
+-- src/words.rt:62:1
 returns : tie.Need-returns
-unfolding extendedBy
-returns c = simp (lt-ltb _ _ (c .if1 .taken))
-
-returns-2 : tie.Need-returns-2
-unfolding extendedBy
-returns-2 c = simp (le-ltb _ _ (c .if1 .left)) (omega arith)
+returns c = let s = c .before in
+    let q = s .pre .2 in
+    subst (λ (h : ℕ). c .wrapping-sub-u32 .result ≡ extendedBy h (s .args .x)) (sym q)
+    (flip-extends (s .pre .0) (s .args .x) (c .wrapping-sub-u32 .result) (s .pre .1) (omega arith) (subst (λ (h : ℕ). (c .wrapping-sub-u32 .result + h) % 2 ^ 32 ≡ bitXor (s .args .x % (h * 2)) h) q (c .wrapping-sub-u32 .ensures)))
 
 pub extend-spec : {M : Type 1} → statement M
-extend-spec = tie.close (tie.spec mul-values rem-field sub-result add-result add-result-2 returns returns-2)
+extend-spec = tie.close (tie.spec mul-field rem-field wrapping-sub-u32-requires returns)
