@@ -1,6 +1,4 @@
 // The calls of the house as code, each equal to its definition in `house`.
-pub mod boot;
 pub mod calls;
-pub mod damage;
 pub mod run;
 pub mod single;

@@ -10,23 +10,9 @@ ghost use Rattle.house.specs.Calls.{withTurn, started, stopped, emptiedHouse};
 ghost use Rattle.translate.specs.Memory.{hostWord};
 ghost use Rattle.translate.specs.Premises.{Placed};
 use crate::run::next;
+use damage::any_runs;
 use dlx::words::wide;
 use house::House;
-
-// Some partition below n runs.
-pub fn any_runs(running: &[bool; 8], n: usize) -> bool
-    requires { ⌜ n ≤ 8 ⌝ }
-    ensures { λ r. ⌜ r ≡ any (λ j. getD (now (running .entry)) j false) n ⌝ }
-{
-    let mut i = 0;
-    while i < n {
-        if running[i] {
-            return true;
-        }
-        i += 1;
-    }
-    false
-}
 
 // The house with other flags and another turn.
 fn with_turn(h: House, running: [bool; 8], current: u32, left: u32) -> House

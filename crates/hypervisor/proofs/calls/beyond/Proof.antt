@@ -1,33 +1,25 @@
 use Prim.Native.Nat.{_+_, _*_}
-use borrow.Author.Tests.{lt-ltb, le-ltb, lt-leb, le-leb, eq-eqb, ne-eqb}
+use borrow.Author.Tests.{lt-ltb, eq-eqb, ne-eqb}
 use native.Mathlib.Omega.{arith}
 use borrow.Author.Needs.{needs}
 use Rattle.hypervisor.proofs.calls.beyond.Statement.{statement}
 use Rattle.hypervisor.proofs.calls.beyond.Tie as tie
-use Rattle.hypervisor.proofs.calls.beyond.Reads as reads
-use Rattle.hypervisor.proofs.calls.beyond.Lts as lts
 
--- src/calls.rt:155:9
 returns : tie.Need-returns
 returns c = simp (ne-eqb _ _ (c .if1 .taken))
 
--- src/calls.rt:157:16
 mul-room : tie.Need-mul-room
 mul-room c = search needs
 
--- src/calls.rt:159:9
 returns-2 : tie.Need-returns-2
 returns-2 c = simp (eq-eqb _ _ (c .before .if1 .left), lt-ltb (4096 * c .before .before .args .pages) (c .before .before .args .address + 4 * c .before .before .args .count) (omega (arith, c .if2 .taken)))
 
--- src/calls.rt:161:29
 mul-result : tie.Need-mul-result
 mul-result c = search needs
 
--- src/calls.rt:161:12
 add-result : tie.Need-add-result
 add-result c = search needs
 
--- src/calls.rt:151:1
 returns-3 : tie.Need-returns-3
 returns-3 c = simp (eq-eqb _ _ (c .before .if1 .left))
 

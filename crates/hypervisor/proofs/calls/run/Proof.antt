@@ -4,71 +4,52 @@ use Rattle.house.specs.Calls.{runVerdict, runCall}
 use Rattle.hypervisor.proofs.Read.{unmapped}
 use Rattle.house.proofs.Undamaged.{sound}
 use mathlib.Core.Path.{sym, _∙_}
-use borrow.Author.Tests.{lt-ltb, le-ltb, lt-leb, le-leb, eq-eqb, ne-eqb}
+use borrow.Author.Tests.{lt-ltb, le-ltb, eq-eqb, ne-eqb}
 use borrow.Author.Needs.{needs}
 use Rattle.hypervisor.proofs.calls.run.Statement.{statement}
 use Rattle.hypervisor.proofs.calls.run.Tie as tie
-use Rattle.hypervisor.proofs.calls.run.Reads as reads
-use Rattle.hypervisor.proofs.calls.run.Lts as lts
-use Rattle.dlx.proofs.words.wide.Reads as wide-reads
-use Rattle.hypervisor.proofs.calls.refused.Reads as refused-reads
-use Rattle.hypervisor.proofs.damage.damaged.Reads as damaged-reads
-use Rattle.hypervisor.proofs.run.steps.Reads as steps-reads
 
--- src/calls.rt:29:8
 damaged-requires : tie.Need-damaged-requires
 damaged-requires c κs = search needs
 
--- src/calls.rt:30:9
 refused-requires : tie.Need-refused-requires
 refused-requires c κs = search needs
 
--- src/calls.rt:30:9
 returns : tie.Need-returns
 unfolding runCall runVerdict firstOf
 returns c = simp (c .refused .ensures, (sym (c .before .before .damaged .ensures) ∙ c .before .if1 .taken))
 
--- src/calls.rt:32:24
 wide-requires : tie.Need-wide-requires
 wide-requires c κs = search needs
 
--- src/calls.rt:33:9
 refused-requires-2 : tie.Need-refused-requires-2
 refused-requires-2 c κs = search needs
 
--- src/calls.rt:33:9
 returns-2 : tie.Need-returns-2
 unfolding runCall runVerdict firstOf
 returns-2 c = simp (c .refused2 .ensures, (sym (c .before .before .before .before .damaged .ensures) ∙ c .before .before .before .if1 .left), ne-eqb _ _ (simp (c .before .before .wide .ensures) at (c .before .if2 .taken)))
 
--- src/calls.rt:36:9
 refused-requires-3 : tie.Need-refused-requires-3
 refused-requires-3 c κs = search needs
 
--- src/calls.rt:36:9
 returns-3 : tie.Need-returns-3
 unfolding runCall runVerdict firstOf
 returns-3 c = simp (c .refused3 .ensures, (sym (c .before .before .before .before .before .damaged .ensures) ∙ c .before .before .before .before .if1 .left), eq-eqb _ _ (simp (c .before .before .before .wide .ensures) at (c .before .before .if2 .left)), lt-ltb _ _ (c .before .if3 .taken))
 
--- src/calls.rt:39:9
 refused-requires-4 : tie.Need-refused-requires-4
 refused-requires-4 c κs = search needs
 
--- src/calls.rt:39:9
 returns-4 : tie.Need-returns-4
 unfolding runCall runVerdict firstOf hostSteps
 returns-4 c = simp (c .refused4 .ensures, (sym (c .before .before .before .before .before .before .damaged .ensures) ∙ c .before .before .before .before .before .if1 .left), eq-eqb _ _ (simp (c .before .before .before .before .wide .ensures) at (c .before .before .before .if2 .left)), c .before .if4 .taken)
 
--- src/calls.rt:42:9
 refused-requires-5 : tie.Need-refused-requires-5
 refused-requires-5 c κs = search needs
 
--- src/calls.rt:42:9
 returns-5 : tie.Need-returns-5
 unfolding runCall runVerdict firstOf
 returns-5 c = simp (c .refused5 .ensures, (sym (c .before .before .before .before .before .before .before .before .damaged .ensures) ∙ c .before .before .before .before .before .before .before .if1 .left), eq-eqb _ _ (simp (c .before .before .before .before .before .before .wide .ensures) at (c .before .before .before .before .before .if2 .left)), le-ltb _ _ (c .before .before .before .before .if3 .left), ne-eqb _ _ (c .before .before .before .if4 .left), eq-eqb _ _ (c .before .if5 .taken))
 
--- src/calls.rt:44:9
 steps-requires : tie.Need-steps-requires
 steps-requires c κs = let h = c .before .before .before .before .before .before .before .before .before .before .args .h in
     sound h (sym (c .before .before .before .before .before .before .before .before .damaged .ensures) ∙ c .before .before .before .before .before .before .before .if1 .left) _
@@ -76,11 +57,9 @@ steps-requires c κs = let h = c .before .before .before .before .before .before
     (c .before .before .before .before .before .if2 .left ∙ c .before .before .before .before .before .before .wide .ensures)
     (c .before .if5 .left)
 
--- src/calls.rt:26:1
 same-length : tie.Need-same-length
 same-length c = search needs
 
--- src/calls.rt:26:1
 returns-6 : tie.Need-returns-6
 unfolding runCall runVerdict firstOf
 returns-6 c = simp (c .before .before .steps .ensures, (sym (c .before .before .before .before .before .before .before .before .before .before .before .damaged .ensures) ∙ c .before .before .before .before .before .before .before .before .before .before .if1 .left), eq-eqb _ _ (simp (c .before .before .before .before .before .before .before .before .before .wide .ensures) at (c .before .before .before .before .before .before .before .before .if2 .left)), le-ltb _ _ (c .before .before .before .before .before .before .before .if3 .left), ne-eqb _ _ (c .before .before .before .before .before .before .if4 .left), ne-eqb _ _ (c .before .before .before .before .if5 .left))

@@ -2,44 +2,31 @@ use Rattle.house.specs.Boot.{firstOf}
 use Rattle.house.specs.Calls.{oneVerdict, stopCall}
 use Rattle.house.proofs.Undamaged.{count-within}
 use mathlib.Core.Path.{sym, _∙_}
-use borrow.Author.Tests.{lt-ltb, le-ltb, lt-leb, le-leb, eq-eqb, ne-eqb}
-use native.Mathlib.Omega.{arith}
+use borrow.Author.Tests.{lt-leb, le-leb}
 use borrow.Author.Needs.{needs}
 use Rattle.hypervisor.proofs.calls.stop.Statement.{statement}
 use Rattle.hypervisor.proofs.calls.stop.Tie as tie
-use Rattle.hypervisor.proofs.calls.stop.Reads as reads
-use Rattle.hypervisor.proofs.calls.stop.Lts as lts
-use Rattle.hypervisor.proofs.calls.refused.Reads as refused-reads
-use Rattle.hypervisor.proofs.damage.damaged.Reads as damaged-reads
-use Rattle.hypervisor.proofs.single.stop.Reads as stop-reads
 
--- src/calls.rt:72:8
 damaged-requires : tie.Need-damaged-requires
 damaged-requires c κs = search needs
 
--- src/calls.rt:73:9
 refused-requires : tie.Need-refused-requires
 refused-requires c κs = search needs
 
--- src/calls.rt:73:9
 returns : tie.Need-returns
 unfolding stopCall oneVerdict firstOf
 returns c = λ m. simp (c .refused .ensures, (sym (c .before .before .damaged .ensures) ∙ c .before .if1 .taken))
 
--- src/calls.rt:76:9
 refused-requires-2 : tie.Need-refused-requires-2
 refused-requires-2 c κs = search needs
 
--- src/calls.rt:76:9
 returns-2 : tie.Need-returns-2
 unfolding stopCall oneVerdict firstOf
 returns-2 c = λ m. simp (c .refused2 .ensures, (sym (c .before .before .before .before .damaged .ensures) ∙ c .before .before .before .if1 .left), le-leb _ _ (c .before .if2 .taken))
 
--- src/calls.rt:78:9
 stop-requires : tie.Need-stop-requires
 stop-requires c κs = (count-within (c .before .before .before .before .args .h) (sym (c .before .before .before .damaged .ensures) ∙ c .before .before .if1 .left) .1, c .if2 .left)
 
--- src/calls.rt:69:1
 returns-3 : tie.Need-returns-3
 unfolding stopCall oneVerdict firstOf
 returns-3 c = λ m. simp (c .stop .ensures, (sym (c .before .before .before .before .damaged .ensures) ∙ c .before .before .before .if1 .left), lt-leb _ _ (c .before .if2 .left))

@@ -7,10 +7,6 @@ use native.Mathlib.Omega.{arith}
 use borrow.Author.Needs.{needs}
 use Rattle.hypervisor.proofs.run.next.Statement.{statement}
 use Rattle.hypervisor.proofs.run.next.Tie as tie
-use Rattle.hypervisor.proofs.run.next.Reads as reads
-use Rattle.hypervisor.proofs.run.next.Lts as lts
-use Rattle.dlx.proofs.words.wide.Reads as wide-reads
-use Rattle.hypervisor.proofs.run.following.Reads as following-reads
 
 abbrev Inv-loop : tie.InvT-loop
 Inv-loop running n i at₀ tried₀ at tried =
@@ -19,40 +15,31 @@ Inv-loop running n i at₀ tried₀ at tried =
 abbrev μ-loop : tie.MeasureT-loop
 μ-loop running n i at₀ tried₀ at tried = n - tried
 
--- src/run.rt:31:5
 loop-holds : tie.Need-loop-holds Inv-loop μ-loop
 loop-holds c = (rw sub-zero, c .pre .1, zero-le)
 
--- src/run.rt:32:9
 following-requires : tie.Need-following-requires Inv-loop μ-loop
 following-requires c κs = c .before .loop .inv .1
 
--- src/run.rt:33:20
 wide-requires : tie.Need-wide-requires Inv-loop μ-loop
 wide-requires c κs = search needs
 
--- src/run.rt:33:12
 element-copy-out-if1 : tie.Need-element-copy-out-if1 Inv-loop μ-loop
 element-copy-out-if1 c = omega (arith, following-below _ _ (c .before .before .before .loop .inv .1), c .before .following .ensures, c .wide .ensures, c .before .before .before .before .pre .0)
 
--- src/run.rt:34:13
 returns : tie.Need-returns Inv-loop μ-loop
 returns c = c .before .before .before .following .ensures ∙ next-found _ _ _ _ (c .before .before .before .before .loop-test .taken) (simp (c .before .before .wide .ensures, c .before .before .before .following .ensures) at (c .if1 .taken)) ∙ c .before .before .before .before .before .loop .inv .0
 
--- src/run.rt:36:9
 add-tried : tie.Need-add-tried Inv-loop μ-loop
 add-tried c = omega (arith, c .before .before .before .before .loop-test .taken)
 
--- src/run.rt:31:5
 loop-less : tie.Need-loop-less Inv-loop μ-loop
 loop-less c = omega (arith, c .before .before .before .before .loop-test .taken)
 
--- src/run.rt:31:5
 loop-again : tie.Need-loop-again Inv-loop μ-loop
 loop-again c = let f = c .before .before .before .following .ensures in
     (rw f (next-on _ _ _ _ (c .before .before .before .before .loop-test .taken) (simp (c .before .before .wide .ensures, f) at (c .if1 .left)) ∙ c .before .before .before .before .before .loop .inv .0), rw f (following-below _ _ (c .before .before .before .before .before .loop .inv .1)), omega (arith, c .before .before .before .before .loop-test .taken))
 
--- src/run.rt:25:1
 returns-2 : tie.Need-returns-2 Inv-loop μ-loop
 returns-2 c = next-done _ _ _ _ (c .loop-test .left) ∙ c .before .loop .inv .0
 

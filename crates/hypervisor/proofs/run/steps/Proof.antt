@@ -13,13 +13,6 @@ use native.Mathlib.Omega.{arith}
 use borrow.Author.Needs.{needs}
 use Rattle.hypervisor.proofs.run.steps.Statement.{statement}
 use Rattle.hypervisor.proofs.run.steps.Tie as tie
-use Rattle.hypervisor.proofs.run.steps.Reads as reads
-use Rattle.hypervisor.proofs.run.steps.Lts as lts
-use Rattle.dlx.proofs.words.wide.Reads as wide-reads
-use Rattle.engine.proofs.stretch.Reads as stretch-reads
-use Rattle.hypervisor.proofs.run.limit.Reads as limit-reads
-use Rattle.hypervisor.proofs.run.turn.Reads as turn-reads
-use Rattle.std.proofs.num.wrapping_add_u64.Reads as wrapping-add-u64-reads
 
 abbrev Inv-loop : tie.InvT-loop
 Inv-loop h memory₀ k count q running frames parts₀ regs₀ shadows₀ current₀ left₀ made₀ memory parts regs shadows current left made =
@@ -31,137 +24,106 @@ Inv-loop h memory₀ k count q running frames parts₀ regs₀ shadows₀ curren
 abbrev μ-loop : tie.MeasureT-loop
 μ-loop h memory₀ k count q running frames parts₀ regs₀ shadows₀ current₀ left₀ made₀ memory parts regs shadows current left made = k - made
 
--- src/run.rt:97:5
 loop-holds : tie.Need-loop-holds Inv-loop μ-loop
 unfolding hostSteps
 loop-holds c = (refl, c .before .before .before .before .before .before .pre, zero-le, refl)
 
--- src/run.rt:98:13
 wide-requires : tie.Need-wide-requires Inv-loop μ-loop
 wide-requires c κs = search needs
 
--- src/run.rt:99:17
 mul-p : tie.Need-mul-p Inv-loop μ-loop
 mul-p c = omega (arith, c .wide .ensures, c .before .before .loop .inv .1 .here, c .before .before .loop .inv .1 .few)
 
--- src/run.rt:99:17
 array-copy-out-p : tie.Need-array-copy-out-p Inv-loop μ-loop
 array-copy-out-p c = omega (arith, c .wide .ensures, c .before .before .loop .inv .1 .here, c .before .before .loop .inv .1 .few)
 
--- src/run.rt:100:17
 mul-a : tie.Need-mul-a Inv-loop μ-loop
 mul-a c = omega (arith, c .before .wide .ensures, c .before .before .before .loop .inv .1 .here, c .before .before .before .loop .inv .1 .few)
 
--- src/run.rt:101:17
 add-b : tie.Need-add-b Inv-loop μ-loop
 add-b c = omega (arith, c .before .wide .ensures, c .before .before .before .loop .inv .1 .here, c .before .before .before .loop .inv .1 .few)
 
--- src/run.rt:102:17
 mul-c : tie.Need-mul-c Inv-loop μ-loop
 mul-c c = omega (arith, c .before .wide .ensures, c .before .before .before .loop .inv .1 .here, c .before .before .before .loop .inv .1 .few)
 
--- src/run.rt:103:17
 add-d : tie.Need-add-d Inv-loop μ-loop
 add-d c = omega (arith, c .before .wide .ensures, c .before .before .before .loop .inv .1 .here, c .before .before .before .loop .inv .1 .few)
 
--- src/run.rt:104:29
 sub-limit : tie.Need-sub-limit Inv-loop μ-loop
 sub-limit c = omega (arith, c .before .before .loop-test .taken)
 
--- src/run.rt:104:13
 limit-requires : tie.Need-limit-requires Inv-loop μ-loop
 limit-requires c κs = search needs
 
--- src/run.rt:109:13
 mul-regs : tie.Need-mul-regs Inv-loop μ-loop
 mul-regs c = omega (arith, c .before .before .wide .ensures, c .before .before .before .before .loop .inv .1 .here, c .before .before .before .before .loop .inv .1 .few, c .before .before .before .before .loop .inv .1 .shaped .regs)
 
--- src/run.rt:109:13
 sub-stretch : tie.Need-sub-stretch Inv-loop μ-loop
 sub-stretch c = omega (arith, c .before .before .wide .ensures, c .before .before .before .before .loop .inv .1 .here, c .before .before .before .before .loop .inv .1 .few, c .before .before .before .before .loop .inv .1 .shaped .regs)
 
--- src/run.rt:109:13
 part-regs-start : tie.Need-part-regs-start Inv-loop μ-loop
 part-regs-start c = omega (arith, c .before .before .wide .ensures, c .before .before .before .before .loop .inv .1 .here, c .before .before .before .before .loop .inv .1 .few, c .before .before .before .before .loop .inv .1 .shaped .regs)
 
--- src/run.rt:109:13
 part-regs-end : tie.Need-part-regs-end Inv-loop μ-loop
 part-regs-end c = omega (arith, c .before .before .wide .ensures, c .before .before .before .before .loop .inv .1 .here, c .before .before .before .before .loop .inv .1 .few, c .before .before .before .before .loop .inv .1 .shaped .regs)
 
--- src/run.rt:110:13
 mul-stretch : tie.Need-mul-stretch Inv-loop μ-loop
 mul-stretch c = omega (arith, c .before .before .before .wide .ensures, c .before .before .before .before .before .loop .inv .1 .here, c .before .before .before .before .before .loop .inv .1 .few, c .before .before .before .before .before .loop .inv .1 .shaped .frames)
 
--- src/run.rt:110:13
 sub-stretch-2 : tie.Need-sub-stretch-2 Inv-loop μ-loop
 sub-stretch-2 c = omega (arith, c .before .before .before .wide .ensures, c .before .before .before .before .before .loop .inv .1 .here, c .before .before .before .before .before .loop .inv .1 .few, c .before .before .before .before .before .loop .inv .1 .shaped .frames)
 
--- src/run.rt:110:13
 part-stretch-start : tie.Need-part-stretch-start Inv-loop μ-loop
 part-stretch-start c = omega (arith, c .before .before .before .before .wide .ensures, c .before .before .before .before .before .before .loop .inv .1 .here, c .before .before .before .before .before .before .loop .inv .1 .few, c .before .before .before .before .before .before .loop .inv .1 .shaped .frames)
 
--- src/run.rt:110:13
 part-stretch-end : tie.Need-part-stretch-end Inv-loop μ-loop
 part-stretch-end c = omega (arith, c .before .before .before .before .wide .ensures, c .before .before .before .before .before .before .loop .inv .1 .here, c .before .before .before .before .before .before .loop .inv .1 .few, c .before .before .before .before .before .before .loop .inv .1 .shaped .frames)
 
--- src/run.rt:111:13
 mul-shadows : tie.Need-mul-shadows Inv-loop μ-loop
 mul-shadows c = omega (arith, c .before .before .before .before .before .wide .ensures, c .before .before .before .before .before .before .before .loop .inv .1 .here, c .before .before .before .before .before .before .before .loop .inv .1 .few, c .before .before .before .before .before .before .before .loop .inv .1 .shaped .shadows)
 
--- src/run.rt:111:13
 sub-stretch-3 : tie.Need-sub-stretch-3 Inv-loop μ-loop
 sub-stretch-3 c = omega (arith, c .before .before .before .before .before .wide .ensures, c .before .before .before .before .before .before .before .loop .inv .1 .here, c .before .before .before .before .before .before .before .loop .inv .1 .few, c .before .before .before .before .before .before .before .loop .inv .1 .shaped .shadows)
 
--- src/run.rt:111:13
 part-shadows-start : tie.Need-part-shadows-start Inv-loop μ-loop
 part-shadows-start c = omega (arith, c .before .before .before .before .before .wide .ensures, c .before .before .before .before .before .before .before .loop .inv .1 .here, c .before .before .before .before .before .before .before .loop .inv .1 .few, c .before .before .before .before .before .before .before .loop .inv .1 .shaped .shadows)
 
--- src/run.rt:111:13
 part-shadows-end : tie.Need-part-shadows-end Inv-loop μ-loop
 part-shadows-end c = omega (arith, c .before .before .before .before .before .wide .ensures, c .before .before .before .before .before .before .before .loop .inv .1 .here, c .before .before .before .before .before .before .before .loop .inv .1 .few, c .before .before .before .before .before .before .before .loop .inv .1 .shaped .shadows)
 
--- src/run.rt:105:13
 stretch-requires : tie.Need-stretch-requires Inv-loop μ-loop
 stretch-requires c κs = asked-sound (c .before .before .before .before .before .before .before .before .before .before .before .before .before .before .before .before .args .h) _ _ _ _ _ _ _ (c .before .before .before .before .before .before .before .wide .ensures) (c .before .before .before .before .before .before .before .before .before .loop .inv .1)
 
--- src/run.rt:121:60
 cast-wrapping-add-u64 : tie.Need-cast-wrapping-add-u64 Inv-loop μ-loop
 cast-wrapping-add-u64 c = search needs
 
--- src/run.rt:121:22
 wrapping-add-u64-requires : tie.Need-wrapping-add-u64-requires Inv-loop μ-loop
 wrapping-add-u64-requires c κs = search needs
 
--- src/run.rt:117:9
 mul-parts : tie.Need-mul-parts Inv-loop μ-loop
 mul-parts c = omega (arith, c .before .before .before .before .before .before .before .before .before .before .before .before .before .before .before .before .wide .ensures, c .before .before .before .before .before .before .before .before .before .before .before .before .before .before .before .before .before .before .loop .inv .1 .here, c .before .before .before .before .before .before .before .before .before .before .before .before .before .before .before .before .before .before .loop .inv .1 .few)
 
--- src/run.rt:117:9
 array-set-from-parts : tie.Need-array-set-from-parts Inv-loop μ-loop
 array-set-from-parts c = omega (arith, c .before .before .before .before .before .before .before .before .before .before .before .before .before .before .before .before .wide .ensures, c .before .before .before .before .before .before .before .before .before .before .before .before .before .before .before .before .before .before .loop .inv .1 .here, c .before .before .before .before .before .before .before .before .before .before .before .before .before .before .before .before .before .before .loop .inv .1 .few)
 
--- src/run.rt:123:13
 turn-requires : tie.Need-turn-requires Inv-loop μ-loop
 turn-requires c κs = let i = c .before .before .before .before .before .before .before .before .before .before .before .before .before .before .before .before .before .before .before .loop .inv in
     let u = limited _ _ _ (c .before .before .before .before .before .before .before .before .before .before .before .before .before .before .before .limit .ensures) (c .before .before .before .before .before .before .before .before .before .before .before .before .before .before .before .before .before .before .before .loop .inv .1 .left) (omega (arith, c .before .before .before .before .before .before .before .before .before .before .before .before .before .before .before .before .before .before .loop-test .taken)) in
     let d = asked-turned (c .before .before .before .before .before .before .before .before .before .before .before .before .before .before .before .before .before .before .before .before .before .before .before .before .before .before .args .h) _ _ _ _ _ _ _ _ _ _ _ _ (c .before .before .before .before .before .before .before .before .before .before .before .before .before .before .before .before .before .wide .ensures) (c .before .before .before .before .before .before .before .before .before .stretch .ensures) (c .before .before .before .before .before .before .before .before .before .before .before .before .before .before .before .before .before .before .before .loop .inv .1) (u .0) (u .1) in
     (i .1 .few, (i .1 .here, omega (arith, d .most)))
 
--- src/run.rt:126:9
 add-made : tie.Need-add-made Inv-loop μ-loop
 add-made c = let i = c .before .before .before .before .before .before .before .before .before .before .before .before .before .before .before .before .before .before .before .before .before .loop .inv in
     let u = limited _ _ _ (c .before .before .before .before .before .before .before .before .before .before .before .before .before .before .before .before .before .limit .ensures) (c .before .before .before .before .before .before .before .before .before .before .before .before .before .before .before .before .before .before .before .before .before .loop .inv .1 .left) (omega (arith, c .before .before .before .before .before .before .before .before .before .before .before .before .before .before .before .before .before .before .before .before .loop-test .taken)) in
     let d = asked-turned (c .before .before .before .before .before .before .before .before .before .before .before .before .before .before .before .before .before .before .before .before .before .before .before .before .before .before .before .before .args .h) _ _ _ _ _ _ _ _ _ _ _ _ (c .before .before .before .before .before .before .before .before .before .before .before .before .before .before .before .before .before .before .before .wide .ensures) (c .before .before .before .before .before .before .before .before .before .before .before .stretch .ensures) (c .before .before .before .before .before .before .before .before .before .before .before .before .before .before .before .before .before .before .before .before .before .loop .inv .1) (u .0) (u .1) in
     record { fits = omega (arith, d .most, c .before .before .before .before .before .before .before .before .before .before .before .before .before .before .before .before .before .before .before .before .loop-test .taken, c .before .before .before .before .before .before .before .before .before .before .before .before .before .before .before .before .before .before .before .before .before .before .before .before .before .before .before .before .fits .k .fits) }
 
--- src/run.rt:97:5
 loop-less : tie.Need-loop-less Inv-loop μ-loop
 loop-less c = let i = c .before .before .before .before .before .before .before .before .before .before .before .before .before .before .before .before .before .before .before .before .before .loop .inv in
     let u = limited _ _ _ (c .before .before .before .before .before .before .before .before .before .before .before .before .before .before .before .before .before .limit .ensures) (c .before .before .before .before .before .before .before .before .before .before .before .before .before .before .before .before .before .before .before .before .before .loop .inv .1 .left) (omega (arith, c .before .before .before .before .before .before .before .before .before .before .before .before .before .before .before .before .before .before .before .before .loop-test .taken)) in
     let d = asked-turned (c .before .before .before .before .before .before .before .before .before .before .before .before .before .before .before .before .before .before .before .before .before .before .before .before .before .before .before .before .args .h) _ _ _ _ _ _ _ _ _ _ _ _ (c .before .before .before .before .before .before .before .before .before .before .before .before .before .before .before .before .before .before .before .wide .ensures) (c .before .before .before .before .before .before .before .before .before .before .before .stretch .ensures) (c .before .before .before .before .before .before .before .before .before .before .before .before .before .before .before .before .before .before .before .before .before .loop .inv .1) (u .0) (u .1) in
     omega (arith, d .most, d .some, c .before .before .before .before .before .before .before .before .before .before .before .before .before .before .before .before .before .before .before .before .loop-test .taken)
 
--- src/run.rt:97:5
 loop-again : tie.Need-loop-again Inv-loop μ-loop
 loop-again c = let i = c .before .before .before .before .before .before .before .before .before .before .before .before .before .before .before .before .before .before .before .before .before .loop .inv in
     let u = limited _ _ _ (c .before .before .before .before .before .before .before .before .before .before .before .before .before .before .before .before .before .limit .ensures) (c .before .before .before .before .before .before .before .before .before .before .before .before .before .before .before .before .before .before .before .before .before .loop .inv .1 .left) (omega (arith, c .before .before .before .before .before .before .before .before .before .before .before .before .before .before .before .before .before .before .before .before .loop-test .taken)) in
@@ -169,11 +131,9 @@ loop-again c = let i = c .before .before .before .before .before .before .before
     let w = after-turn (c .before .before .before .before .before .before .before .before .before .before .before .before .before .before .before .before .before .before .before .before .before .before .before .before .before .before .before .before .args .h) _ _ _ _ _ _ _ _ _ _ _ _ _ _ (c .before .before .before .before .before .before .before .before .before .before .before .before .before .before .before .before .before .before .before .wide .ensures) d (c .before .turn .ensures) (c .before .before .before .wrapping-add-u64 .ensures) in
     (w ∙ ap (hostSteps _) (i .0) ∙ steps-add _ _ _, subst Sound (sym w) (sound-steps _ _ (i .1)), omega (arith, d .most, c .before .before .before .before .before .before .before .before .before .before .before .before .before .before .before .before .before .before .before .before .loop-test .taken), omega (arith, i .3))
 
--- src/run.rt:83:1
 same-length : tie.Need-same-length Inv-loop μ-loop
 same-length c = omega (arith, c .before .loop .inv .3)
 
--- src/run.rt:83:1
 returns : tie.Need-returns Inv-loop μ-loop
 returns c = let i = c .before .loop .inv in
     let e = le-antisymm (i .2) (c .loop-test .left) in

@@ -1,35 +1,26 @@
 use Rattle.house.specs.Turns.{turnOf}
-use borrow.Author.Tests.{lt-ltb, le-ltb, lt-leb, le-leb, eq-eqb, ne-eqb}
+use borrow.Author.Tests.{eq-eqb, ne-eqb}
 use borrow.Author.Needs.{needs}
 use Rattle.hypervisor.proofs.run.turn.Statement.{statement}
 use Rattle.hypervisor.proofs.run.turn.Tie as tie
-use Rattle.hypervisor.proofs.run.turn.Reads as reads
-use Rattle.hypervisor.proofs.run.turn.Lts as lts
-use Rattle.hypervisor.proofs.run.next.Reads as next-reads
 
--- src/run.rt:56:22
 next-requires : tie.Need-next-requires
 next-requires c κs = search needs
 
--- src/run.rt:55:9
 returns : tie.Need-returns
 unfolding turnOf
 returns c = simp (c .next .ensures, eq-eqb _ _ (c .before .if1 .taken))
 
--- src/run.rt:62:22
 next-requires-2 : tie.Need-next-requires-2
 next-requires-2 c κs = search needs
 
--- src/run.rt:61:9
 returns-2 : tie.Need-returns-2
 unfolding turnOf
 returns-2 c = simp (c .next2 .ensures, (c .before .if2 .taken), ne-eqb _ _ (c .before .before .if1 .left))
 
--- src/run.rt:68:15
 sub-t11 : tie.Need-sub-t11
 sub-t11 c = search needs
 
--- src/run.rt:42:1
 returns-3 : tie.Need-returns-3
 unfolding turnOf
 returns-3 c = simp ((c .if2 .left), ne-eqb _ _ (c .before .if1 .left))

@@ -7,44 +7,31 @@ use native.Mathlib.Omega.{arith}
 use borrow.Author.Needs.{needs}
 use Rattle.hypervisor.proofs.single.empty.Statement.{statement}
 use Rattle.hypervisor.proofs.single.empty.Tie as tie
-use Rattle.hypervisor.proofs.single.empty.Reads as reads
-use Rattle.hypervisor.proofs.single.empty.Lts as lts
-use Rattle.dlx.proofs.words.wide.Reads as wide-reads
-use Rattle.translate.proofs.clear.Reads as clear-reads
 
--- src/single.rt:79:13
 wide-requires : tie.Need-wide-requires
 wide-requires c κs = search needs
 
--- src/single.rt:79:13
 mul-a : tie.Need-mul-a
 mul-a c = search needs
 
--- src/single.rt:80:13
 add-b : tie.Need-add-b
 add-b c = search needs
 
--- src/single.rt:81:22
 mul-shadows : tie.Need-mul-shadows
 mul-shadows c = search needs
 
--- src/single.rt:81:22
 sub-clear : tie.Need-sub-clear
 sub-clear c = search needs
 
--- src/single.rt:81:22
 part-shadows-start : tie.Need-part-shadows-start
 part-shadows-start c = search needs
 
--- src/single.rt:81:22
 part-shadows-end : tie.Need-part-shadows-end
 part-shadows-end c = let l : length (c .before .before .args .h .shadows) ≡ 2048 = search needs in omega (arith, c .wide .ensures, c .before .before .pre)
 
--- src/single.rt:81:5
 clear-requires : tie.Need-clear-requires
 clear-requires c κs = search needs
 
--- src/single.rt:74:1
 returns : tie.Need-returns
 unfolding emptiedHouse outer
 returns c = simp (c .before .clear .ensures, c .before .before .before .wide .ensures, add-sub-cancel-left)

@@ -10,9 +10,6 @@ use borrow.Author.Needs.{needs}
 use native.Mathlib.Omega.{arith}
 use Rattle.hypervisor.proofs.single.read.Statement.{statement}
 use Rattle.hypervisor.proofs.single.read.Tie as tie
-use Rattle.hypervisor.proofs.single.read.Reads as reads
-use Rattle.hypervisor.proofs.single.read.Lts as lts
-use Rattle.dlx.proofs.words.wide.Reads as wide-reads
 
 abbrev Inv-loop : tie.InvT-loop
 Inv-loop frames pages words from count out₀ j₀ out j =
@@ -21,70 +18,54 @@ Inv-loop frames pages words from count out₀ j₀ out j =
 abbrev μ-loop : tie.MeasureT-loop
 μ-loop frames pages words from count out₀ j₀ out j = count - j
 
--- src/single.rt:93:5
 loop-holds : tie.Need-loop-holds Inv-loop μ-loop
 unfolding listFrom
 loop-holds c = (refl, zero-le, refl)
 
--- src/single.rt:94:17
 add-g : tie.Need-add-g Inv-loop μ-loop
 add-g c = omega (arith, c .before .before .before .before .before .pre .1 .0, c .before .before .before .before .before .pre .0 .few)
 
--- src/single.rt:95:29
 mul-wide : tie.Need-mul-wide Inv-loop μ-loop
 mul-wide c = omega (arith, c .before .before .before .before .before .pre .1 .0, c .before .before .before .before .before .pre .0 .few)
 
--- src/single.rt:95:29
 shared-slice-read-wide : tie.Need-shared-slice-read-wide Inv-loop μ-loop
 shared-slice-read-wide c = omega (arith, c .before .before .before .before .before .before .pre .1 .0, c .before .before .before .before .before .before .pre .0 .few, c .before .before .before .before .before .before .pre .0 .list, c .before .loop-test .taken)
 
--- src/single.rt:95:24
 wide-requires : tie.Need-wide-requires Inv-loop μ-loop
 wide-requires c κs = search needs
 
--- src/single.rt:95:24
 mul-out : tie.Need-mul-out Inv-loop μ-loop
 mul-out c = omega (arith, c .wide .ensures, c .before .before .before .before .before .before .before .pre .0 .inside ((c .before .before .before .before .before .before .before .args .from + c .before .before .before .loop .j) / 1024) (omega (arith, c .before .before .before .before .before .before .before .pre .1 .0, c .before .before .loop-test .taken)), c .before .before .before .before .before .before .before .pre .0 .small)
 
--- src/single.rt:95:24
 add-out : tie.Need-add-out Inv-loop μ-loop
 add-out c = omega (arith, c .wide .ensures, c .before .before .before .before .before .before .before .pre .0 .inside ((c .before .before .before .before .before .before .before .args .from + c .before .before .before .loop .j) / 1024) (omega (arith, c .before .before .before .before .before .before .before .pre .1 .0, c .before .before .loop-test .taken)), c .before .before .before .before .before .before .before .pre .0 .small)
 
--- src/single.rt:95:18
 mul-out-2 : tie.Need-mul-out-2 Inv-loop μ-loop
 mul-out-2 c = omega (arith, c .wide .ensures, c .before .before .before .before .before .before .before .pre .0 .inside ((c .before .before .before .before .before .before .before .args .from + c .before .before .before .loop .j) / 1024) (omega (arith, c .before .before .before .before .before .before .before .pre .1 .0, c .before .before .loop-test .taken)), c .before .before .before .before .before .before .before .pre .0 .small)
 
--- src/single.rt:95:18
 shared-slice-read-out : tie.Need-shared-slice-read-out Inv-loop μ-loop
 shared-slice-read-out c = omega (arith, c .before .wide .ensures, c .before .before .before .before .before .before .before .before .pre .0 .inside ((c .before .before .before .before .before .before .before .before .args .from + c .before .before .before .before .loop .j) / 1024) (omega (arith, c .before .before .before .before .before .before .before .before .pre .1 .0, c .before .before .before .loop-test .taken)), c .before .before .before .before .before .before .before .before .pre .0 .small)
 
--- src/single.rt:95:9
 mul-out-3 : tie.Need-mul-out-3 Inv-loop μ-loop
 mul-out-3 c = omega (arith, c .before .before .before .before .loop .inv .2, c .before .before .before .before .before .before .before .before .pre .1 .1, c .before .before .before .loop-test .taken)
 
--- src/single.rt:95:9
 slice-write-out : tie.Need-slice-write-out Inv-loop μ-loop
 slice-write-out c = omega (arith, c .before .before .before .before .loop .inv .2, c .before .before .before .before .before .before .before .before .pre .1 .1, c .before .before .before .loop-test .taken)
 
--- src/single.rt:96:9
 add-j : tie.Need-add-j Inv-loop μ-loop
 add-j c = omega (arith, c .before .before .before .before .loop .inv .2, c .before .before .before .before .before .before .before .before .pre .1 .1, c .before .before .before .loop-test .taken)
 
--- src/single.rt:93:5
 loop-less : tie.Need-loop-less Inv-loop μ-loop
 loop-less c = omega (arith, c .before .before .before .loop-test .taken)
 
--- src/single.rt:93:5
 loop-again : tie.Need-loop-again Inv-loop μ-loop
 loop-again c = let i = c .before .before .before .before .loop .inv in
     let s = c .before .before .before .before .before .before .before .before in
     (simp (i .0, c .before .wide .ensures) (word-more (λ k. hostWord (s .args .frames .now) (s .args .words .now) (s .args .from + k)) (s .args .out .now) (c .before .before .before .before .loop .j) (omega (arith, s .pre .1 .1, c .before .before .before .loop-test .taken))), omega (arith, c .before .before .before .loop-test .taken), simp length-set (i .2))
 
--- src/single.rt:88:1
 same-length : tie.Need-same-length Inv-loop μ-loop
 same-length c = c .before .loop .inv .2
 
--- src/single.rt:88:1
 returns : tie.Need-returns Inv-loop μ-loop
 returns c = let i = c .before .loop .inv in
     let s = c .before .before .before .before .before in

@@ -1,70 +1,51 @@
 use Rattle.house.specs.Calls.{stopped}
-use borrow.Author.Tests.{lt-ltb, le-ltb, lt-leb, le-leb, eq-eqb, ne-eqb}
+use borrow.Author.Tests.{eq-eqb, ne-eqb}
 use borrow.Author.Needs.{needs}
 use Rattle.hypervisor.proofs.single.stop.Statement.{statement}
 use Rattle.hypervisor.proofs.single.stop.Tie as tie
-use Rattle.hypervisor.proofs.single.stop.Reads as reads
-use Rattle.hypervisor.proofs.single.stop.Lts as lts
-use Rattle.dlx.proofs.words.wide.Reads as wide-reads
-use Rattle.hypervisor.proofs.run.next.Reads as next-reads
-use Rattle.hypervisor.proofs.single.any_runs.Reads as any-runs-reads
-use Rattle.hypervisor.proofs.single.with_turn.Reads as with-turn-reads
 
--- src/single.rt:59:13
 wide-requires : tie.Need-wide-requires
 wide-requires c κs = search needs
 
--- src/single.rt:59:5
 array-write-running : tie.Need-array-write-running
 array-write-running c = search needs
 
--- src/single.rt:61:9
 with-turn-requires : tie.Need-with-turn-requires
 with-turn-requires c κs = search needs
 
--- src/single.rt:61:9
 returns : tie.Need-returns
 unfolding stopped
 returns c = simp (c .with-turn .ensures, c .before .before .before .wide .ensures, eq-eqb _ _ (c .before .if1 .taken))
 
--- src/single.rt:64:9
 with-turn-requires-2 : tie.Need-with-turn-requires-2
 with-turn-requires-2 c κs = search needs
 
--- src/single.rt:64:9
 returns-2 : tie.Need-returns-2
 unfolding stopped
 returns-2 c = simp (c .with-turn2 .ensures, c .before .before .before .before .before .wide .ensures, ne-eqb _ _ (c .before .if2 .taken), ne-eqb _ _ (c .before .before .before .if1 .left))
 
--- src/single.rt:67:27
 wide-requires-2 : tie.Need-wide-requires-2
 wide-requires-2 c κs = search needs
 
--- src/single.rt:67:8
 any-runs-requires : tie.Need-any-runs-requires
 any-runs-requires c κs = search needs
 
--- src/single.rt:68:13
 next-requires : tie.Need-next-requires
 next-requires c κs = search needs
 
--- src/single.rt:69:9
 with-turn-requires-3 : tie.Need-with-turn-requires-3
 with-turn-requires-3 c κs = search needs
 
--- src/single.rt:69:9
 returns-3 : tie.Need-returns-3
 unfolding stopped
-returns-3 c = simp (c .with-turn3 .ensures, c .before .next .ensures, c .before .before .before .before .any-runs .ensures, c .before .before .before .before .before .wide2 .ensures, c .before .before .before .before .before .before .before .before .before .before .before .wide .ensures, (simp (c .before .before .before .before .any-runs .ensures, c .before .before .before .before .before .wide2 .ensures, c .before .before .before .before .before .before .before .before .before .before .before .wide .ensures) at (c .before .before .before .if3 .taken)), eq-eqb _ _ (c .before .before .before .before .before .before .before .if2 .left), ne-eqb _ _ (c .before .before .before .before .before .before .before .before .before .if1 .left))
+returns-3 c = simp (c .with-turn3 .ensures, c .before .next .ensures, c .before .before .before .before .before .before .before .before .before .before .before .wide .ensures, (simp (c .before .before .before .before .any-runs .ensures, c .before .before .before .before .before .wide2 .ensures, c .before .before .before .before .before .before .before .before .before .before .before .wide .ensures) at (c .before .before .before .if3 .taken)), eq-eqb _ _ (c .before .before .before .before .before .before .before .if2 .left), ne-eqb _ _ (c .before .before .before .before .before .before .before .before .before .if1 .left))
 
--- src/single.rt:71:5
 with-turn-requires-4 : tie.Need-with-turn-requires-4
 with-turn-requires-4 c κs = search needs
 
--- src/single.rt:54:1
 returns-4 : tie.Need-returns-4
 unfolding stopped
-returns-4 c = simp (c .with-turn4 .ensures, c .before .before .any-runs .ensures, c .before .before .before .wide2 .ensures, c .before .before .before .before .before .before .before .before .before .wide .ensures, (simp (c .before .before .any-runs .ensures, c .before .before .before .wide2 .ensures, c .before .before .before .before .before .before .before .before .before .wide .ensures) at (c .before .if3 .left)), eq-eqb _ _ (c .before .before .before .before .before .if2 .left), ne-eqb _ _ (c .before .before .before .before .before .before .before .if1 .left))
+returns-4 c = simp (c .with-turn4 .ensures, c .before .before .before .before .before .before .before .before .before .wide .ensures, (simp (c .before .before .any-runs .ensures, c .before .before .before .wide2 .ensures, c .before .before .before .before .before .before .before .before .before .wide .ensures) at (c .before .if3 .left)), eq-eqb _ _ (c .before .before .before .before .before .if2 .left), ne-eqb _ _ (c .before .before .before .before .before .before .before .if1 .left))
 
 pub stop-spec : {M : Type 1} → statement M
 stop-spec =

@@ -1,0 +1,183 @@
+-- Laws of the marks: what a frame's mark says of the lists, and that the looks by marks are the definition's searches.
+use mathlib.Core.Path.{_≡_, refl, sym, subst, ap, _∙_}
+use mathlib.Core.Bool.{Bool, true, false, not, Bool·not-not, _||_, or-true}
+use mathlib.Core.List.{List}
+use Prim.Native.Nat.{ℕ, zero, suc, _+_, _-_, _*_, _/_, _%_, _<_, _≤_}
+use native.Mathlib.Numerals.{add-one}
+use native.Mathlib.Nat.{add-sub-cancel-left}
+use native.Mathlib.Omega.{arith}
+use borrow.Author.Tests.{not-false, eqb-true, eq-eqb, ne-eqb, leb-true, leb-false}
+use lib.Dec.{eqb, leb}
+use lib.ListN.{length, getD, set, take, drop, length-set, length-replicate, getD-replicate, List·getD-eq-default}
+use lib.Seq.{getD-set-same, getD-set-other}
+use Rattle.dlx.specs.Choice.{if_then_else_}
+use Rattle.dlx.specs.declared.partition.Partition.{Partition}
+use Rattle.translate.proofs.Tests.{by-test, by-eq}
+use Rattle.translate.specs.Entries.{number}
+use Rattle.translate.specs.Walk.{entries}
+use Rattle.house.specs.Lists.{any, inner, between}
+use Rattle.house.specs.Damage.{stands, entryWrong, wholeFrames}
+use Rattle.house.proofs.Lists.{one-way, same-test, or-left, or-right, any-yes, any-at, any-none, any-same, and-right}
+use Rattle.damage.specs.Marks.{Within, shadowMarked, shadowOutside, pagesAt, partAt, pagesOutside, frameOutside, framesOutside, marked, ownersOf, twiceMarked, twiceAt, twiceIn, entryMarked, outside}
+
+-- partition i's part of a list, as the code lends it
+pub part-is : (l : List ℕ) (i : ℕ) → take (i * 256 + 256 - i * 256) (drop (i * 256) l) ≡ partAt l i
+unfolding inner
+part-is l i = simp add-sub-cancel-left
+
+-- ---- one list
+
+module _ (fr : List ℕ) (tag : ℕ) (o : List ℕ) where
+  pub marked-length : (k : ℕ) → length (marked fr tag o k) ≡ length o
+  unfolding marked
+  marked-length zero = refl
+  marked-length (suc k) = length-set (marked fr tag o k) (getD fr k 0) tag ∙ marked-length k
+
+  pub marked-more : (k : ℕ) → set (marked fr tag o k) (getD fr k 0) tag ≡ marked fr tag o (k + 1)
+  unfolding marked
+  marked-more k = rw add-one
+
+  -- a frame's mark is the tag where the frame is among the marked ones, else as it was
+  pub marked-at : (k f : ℕ) → f < length o → getD (marked fr tag o k) f 0 ≡ (if stands fr k f then tag else getD o f 0)
+  unfolding marked any
+  marked-at zero f l = refl
+  marked-at (suc k) f l =
+      by-eq f (getD fr k 0)
+      (λ q. rw (eq-eqb (getD fr k 0) f (sym q))
+      (ap (λ (x : ℕ). getD (set (marked fr tag o k) (getD fr k 0) tag) x 0) q
+      ∙ getD-set-same (marked fr tag o k) (getD fr k 0) tag 0 (omega (arith, marked-length k))))
+      (λ q. rw (ne-eqb (getD fr k 0) f (λ e. q (sym e)))
+      (getD-set-other (marked fr tag o k) (getD fr k 0) f tag 0 q ∙ marked-at k f l))
+
+  module _ (k : ℕ) (l : getD fr k 0 < length o) where
+    -- a mark at the k-th frame: it stands before, or had an owner
+    pub mark-found : (getD (marked fr tag o k) (getD fr k 0) 0 ≡ 0 → ⊥) → twiceMarked o fr k ≡ true
+    mark-found h =
+        by-test (stands fr k (getD fr k 0))
+        (λ e. rw e)
+        (λ e. rw (e, ne-eqb (getD o (getD fr k 0) 0) 0 (λ z. h (marked-at k (getD fr k 0) l ∙ rw e z))))
+
+    pub mark-free : 0 < tag → getD (marked fr tag o k) (getD fr k 0) 0 ≡ 0 → twiceMarked o fr k ≡ false
+    mark-free t h =
+        by-test (stands fr k (getD fr k 0))
+        (λ e. absurd (let z : tag ≡ 0 = rw e at (sym (marked-at k (getD fr k 0) l) ∙ h) in omega arith))
+        (λ e. let z : getD o (getD fr k 0) 0 ≡ 0 = rw e at (sym (marked-at k (getD fr k 0) l) ∙ h) in
+        rw (e, eq-eqb _ _ z))
+
+-- ---- all lists: a frame's mark is the number + 1 of the last partition that has it
+
+module _ (ps : List Partition) (fr : List ℕ) where
+  -- partition j has the frame f
+  abbrev pub has : ℕ → ℕ → Bool
+  has f j = stands (partAt fr j) (pagesAt ps j) f
+
+  pub owners-length : (n : ℕ) → length (ownersOf ps fr n) ≡ 1024
+  unfolding ownersOf
+  owners-length zero = length-replicate {A = ℕ} 1024 0
+  owners-length (suc n) = marked-length (partAt fr n) (suc n) (ownersOf ps fr n) (pagesAt ps n) ∙ owners-length n
+
+  owners-suc : (n f : ℕ) → f < 1024 → getD (ownersOf ps fr (suc n)) f 0 ≡ (if has f n then suc n else getD (ownersOf ps fr n) f 0)
+  unfolding ownersOf
+  owners-suc n f l = marked-at (partAt fr n) (suc n) (ownersOf ps fr n) (pagesAt ps n) f (omega (arith, owners-length n))
+
+  -- no mark: no partition has it
+  pub owners-none : (n f : ℕ) → f < 1024 → eqb (getD (ownersOf ps fr n) f 0) 0 ≡ not (any (has f) n)
+  unfolding any
+  owners-none zero f l = unfold ownersOf in eq-eqb _ _ (getD-replicate {A = ℕ} 1024 f 0 0 l)
+  owners-none (suc n) f l =
+      rw (owners-suc n f l)
+      (by-test (has f n)
+      (λ e. rw e (ne-eqb (suc n) 0 (λ z. omega arith)))
+      (λ e. rw e (owners-none n f l)))
+
+  -- the mark i + 1: partition i has it
+  pub owners-has : (n f i : ℕ) → f < 1024 → getD (ownersOf ps fr n) f 0 ≡ i + 1 → has f i ≡ true
+  owners-has zero f i l h = absurd (let z : getD (ownersOf ps fr 0) f 0 ≡ 0 = unfold ownersOf in getD-replicate {A = ℕ} 1024 f 0 0 l in omega arith)
+  owners-has (suc n) f i l h =
+      by-test (has f n)
+      (λ e. let z : suc n ≡ i + 1 = rw e at (sym (owners-suc n f l) ∙ h) in
+      let y : n ≡ i = omega arith in subst (λ (x : ℕ). has f x ≡ true) y e)
+      (λ e. owners-has n f i l (rw e at (sym (owners-suc n f l) ∙ h)))
+
+  -- where none stands twice, the only partition that has it
+  pub owners-only : (n f i : ℕ) → f < 1024 → any (twiceIn ps fr) n ≡ false → i < n → has f i ≡ true → getD (ownersOf ps fr n) f 0 ≡ i + 1
+  unfolding any
+  owners-only zero f i l t s h = absurd (omega arith)
+  owners-only (suc n) f i l t s h =
+      owners-suc n f l
+      ∙ by-eq i n
+      (λ e. rw (subst (λ (x : ℕ). has f x ≡ true) e h) (omega arith))
+      (λ e. by-test (has f n)
+      (λ q. one-way (twiceIn ps fr n)
+      (let r = any-at (λ k. eqb (getD (partAt fr n) k 0) f) (pagesAt ps n) q in
+      let z : getD (partAt fr n) (r .0) 0 ≡ f = eqb-true _ _ (r .2) in
+      any-yes (twiceAt ps fr n) (pagesAt ps n) (r .0) (r .1)
+      (rw (any-yes (has (getD (partAt fr n) (r .0) 0)) n i (omega arith) (subst (λ (x : ℕ). has x i ≡ true) (sym z) h)) (or-true (stands (partAt fr n) (r .0) (getD (partAt fr n) (r .0) 0)))))
+      (or-left (twiceIn ps fr n) (any (twiceIn ps fr) n) t))
+      (λ q. rw q (owners-only n f i l (or-right (twiceIn ps fr n) (any (twiceIn ps fr) n) t) (omega arith) h)))
+
+  -- the look at one frame's mark, where partition i's frames are below 1,024
+  module _ (n i : ℕ) (below : (k : ℕ) → k < pagesAt ps i → getD (partAt fr i) k 0 < 1024) where
+    pub twice-by-marks : any (twiceMarked (ownersOf ps fr i) (partAt fr i)) (pagesAt ps i) ≡ twiceIn ps fr i
+    twice-by-marks =
+        any-same (twiceMarked (ownersOf ps fr i) (partAt fr i)) (twiceAt ps fr i) (pagesAt ps i)
+        (λ k l. rw (owners-none i (getD (partAt fr i) k 0) (below k l), Bool·not-not))
+
+    -- what marking partition i's part finds, and leaves
+    pub mark-part : (part o o′ : List ℕ) (pages tag : ℕ) (r : Bool) → part ≡ partAt fr i → pages ≡ pagesAt ps i → tag ≡ i + 1 → o ≡ ownersOf ps fr i → (r ≡ any (twiceMarked o part) pages) × (r ≡ false → o′ ≡ marked part tag o pages) → (r ≡ twiceIn ps fr i) × (r ≡ false → o′ ≡ ownersOf ps fr (i + 1))
+    unfolding ownersOf
+    mark-part part o o′ pages tag r p q t e h =
+        (h .0 ∙ rw (p, q, e) twice-by-marks, λ z. h .1 z ∙ rw (p, q, t, e, add-one))
+
+    module _ (once : any (twiceIn ps fr) n ≡ false) (there : i < n) where
+      owner-is : (f : ℕ) → eqb (getD (ownersOf ps fr n) f 0) (i + 1) ≡ has f i
+      owner-is f =
+          same-test _ _
+          (λ e. by-test (leb 1024 f)
+          (λ q. absurd (
+          let z : getD (ownersOf ps fr n) f 0 ≡ 0 = List·getD-eq-default (ownersOf ps fr n) 0 (omega (arith, owners-length n, leb-true 1024 f q)) in
+          let y : getD (ownersOf ps fr n) f 0 ≡ i + 1 = eqb-true _ _ e in
+          omega (arith, z, y)))
+          (λ q. owners-has n f i (leb-false 1024 f q) (eqb-true _ _ e)))
+          (λ h.
+          let r = any-at (λ k. eqb (getD (partAt fr i) k 0) f) (pagesAt ps i) h in
+          eq-eqb _ _ (owners-only n f i (let z : getD (partAt fr i) (r .0) 0 ≡ f = eqb-true _ _ (r .2) in omega (arith, below (r .0) (r .1))) once there h))
+
+      pub entry-by-marks : (e : ℕ) → entryMarked (ownersOf ps fr n) (i + 1) e ≡ entryWrong (partAt fr i) (pagesAt ps i) e
+      entry-by-marks e = simp (owner-is (number e))
+
+-- ---- what the limits give
+
+pub pages-within : (ps : List Partition) (n : ℕ) → any (pagesOutside ps) n ≡ false → (i : ℕ) → i < n → pagesAt ps i ≤ 256
+pages-within ps n h i l =
+    leb-true (pagesAt ps i) 256
+    (and-right (leb 1 (pagesAt ps i)) _ (not-false _ (any-none (pagesOutside ps) n h i l)))
+
+none-of-five : (a b c d e : Bool) → (a || b || c || d || e) ≡ false → (a ≡ false) × (b ≡ false) × (c ≡ false) × (d ≡ false) × (e ≡ false)
+none-of-five true b c d e h = one-way true refl h
+none-of-five false true c d e h = one-way true refl h
+none-of-five false false true d e h = one-way true refl h
+none-of-five false false false true e h = one-way true refl h
+none-of-five false false false false e h = (refl, refl, refl, refl, h)
+
+pub within : (count q words : ℕ) (ps : List Partition) (fr : List ℕ) → outside count q words ps fr ≡ false → Within count ps fr
+within count q words ps fr h =
+    let size = words / 1024 in
+    let f = none-of-five (not (between 1 count 8)) (any (pagesOutside ps) count) (not (between 1 q 10000)) (not (wholeFrames words)) (any (framesOutside ps fr size) count) h in
+    record {
+      few = leb-true count 8 (and-right (leb 1 count) (leb count 8) (not-false (between 1 count 8) (f .0)));
+      pages = pages-within ps count (f .1);
+      below = λ i l k m.
+          let small : size ≤ 1024 = leb-true size 1024 (and-right (leb 1 size) (leb size 1024) (and-right (eqb (words % 1024) 0) (between 1 size 1024) (not-false (wholeFrames words) (f .3)))) in
+          let less : getD (partAt fr i) k 0 < size = leb-false size (getD (partAt fr i) k 0) (any-none (frameOutside (partAt fr i) size) (pagesAt ps i) (any-none (framesOutside ps fr size) count (f .4) i l) k m) in
+          omega (arith, small, less);
+    }
+
+pub shadows-by-marks : (count : ℕ) (ps : List Partition) (fr sh o : List ℕ) → Within count ps fr → any (twiceIn ps fr) count ≡ false → o ≡ ownersOf ps fr count → any (shadowMarked o sh) count ≡ any (shadowOutside ps fr sh) count
+shadows-by-marks count ps fr sh o w once e =
+    rw e (any-same (shadowMarked (ownersOf ps fr count) sh) (shadowOutside ps fr sh) count
+    (λ i l. any-same
+    (λ px. entryMarked (ownersOf ps fr count) (i + 1) (getD (partAt sh i) px 0))
+    (λ px. entryWrong (partAt fr i) (pagesAt ps i) (getD (partAt sh i) px 0))
+    entries
+    (λ px m. entry-by-marks ps fr count i (w .below i l) once l (getD (partAt sh i) px 0))))

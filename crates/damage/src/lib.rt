@@ -1,0 +1,451 @@
+// The damage check. Each frame is marked with its owner once; then every second standing of a frame, and every shadow entry, is one look.
+ghost use mathlib.Core.Path.{_≡_};
+ghost use mathlib.Core.Bool.{false};
+ghost use Prim.Native.Nat.{ℕ, _+_, _<_, _≤_};
+ghost use lib.ListN.{length, getD, replicate};
+ghost use Rattle.translate.specs.Walk.{entries};
+ghost use Rattle.house.specs.Lists.{any};
+ghost use Rattle.house.specs.House.{noPartition};
+ghost use Rattle.house.specs.Damage.{damaged, partitionUsed, notZero};
+ghost use Rattle.damage.specs.Marks.{Within, inside, pagesAt, partAt, pagesOutside, frameOutside, framesOutside, outside, marked, ownersOf, twiceMarked, twiceIn, entryMarked, shadowMarked, turnOutside, processorWrong, registersAt, behind, roomWrong};
+use dlx::partition::Partition;
+use dlx::partition::Processor;
+use dlx::words::wide;
+use house::House;
+
+// Some partition below n runs.
+pub fn any_runs(running: &[bool; 8], n: usize) -> bool
+    requires { ⌜ n ≤ 8 ⌝ }
+    ensures { λ r. ⌜ r ≡ any (λ j. getD (now (running .entry)) j false) n ⌝ }
+{
+    let mut i = 0;
+    while i < n {
+        if running[i] {
+            return true;
+        }
+        i += 1;
+    }
+    false
+}
+
+// A page count of the first n partitions isn't 1 to 256.
+fn pages_outside(parts: [Partition; 8], n: usize) -> bool
+    requires { ⌜ n ≤ 8 ⌝ }
+    ensures { λ r. ⌜ r ≡ any (pagesOutside parts) n ⌝ }
+{
+    let mut i = 0;
+    while i < n {
+        let p = parts[i];
+        if p.pages < 1 {
+            return true;
+        }
+        if p.pages > 256 {
+            return true;
+        }
+        i += 1;
+    }
+    false
+}
+
+// One of the first n frames of a list lies outside the memory.
+fn frame_outside(frames: &[u32], n: usize, size: u32) -> bool
+    requires { ⌜ n ≤ length (now frames) ⌝ }
+    ensures { λ r. ⌜ r ≡ any (frameOutside (now (frames .entry)) size) n ⌝ }
+{
+    let mut k = 0;
+    while k < n {
+        if frames[k] >= size {
+            return true;
+        }
+        k += 1;
+    }
+    false
+}
+
+// A frame of the first n partitions lies outside the memory.
+fn frames_outside(parts: [Partition; 8], frames: &[u32], n: usize, size: u32) -> bool
+    requires { ⌜ (n ≤ 8) × (length (now frames) ≡ 2048) × ((i : ℕ) → i < n → pagesAt parts i ≤ 256) ⌝ }
+    ensures { λ r. ⌜ r ≡ any (framesOutside parts (now (frames .entry)) size) n ⌝ }
+{
+    let mut i: usize = 0;
+    while i < n {
+        let p = parts[i];
+        let a = i * 256;
+        let e = a + 256;
+        if frame_outside(&frames[a..e], wide(p.pages), size) {
+            return true;
+        }
+        i += 1;
+    }
+    false
+}
+
+// The house is outside boot's limits.
+fn outside_limits(count: u32, q: u32, words: u32, parts: [Partition; 8], frames: &[u32]) -> bool
+    requires { ⌜ length (now frames) ≡ 2048 ⌝ }
+    ensures { λ r. ⌜ r ≡ outside count q words parts (now (frames .entry)) ⌝ }
+{
+    if count < 1 {
+        return true;
+    }
+    if count > 8 {
+        return true;
+    }
+    let n = wide(count);
+    if pages_outside(parts, n) {
+        return true;
+    }
+    if q < 1 {
+        return true;
+    }
+    if q > 10000 {
+        return true;
+    }
+    if words % 1024 != 0 {
+        return true;
+    }
+    let size = words / 1024;
+    if size < 1 {
+        return true;
+    }
+    if size > 1024 {
+        return true;
+    }
+    frames_outside(parts, frames, n, size)
+}
+
+// Marks the first n frames of a list with the tag, their partition's number + 1, up to one that has an owner already.
+fn mark(frames: &[u32], n: usize, tag: u32, owners: &mut [u32; 1024]) -> bool
+    requires { ⌜ (n ≤ length (now frames)) × (0 < tag) × (length (now owners) ≡ 1024) × ((k : ℕ) → k < n → getD (now frames) k 0 < 1024) ⌝ }
+    ensures { λ r. ⌜ (r ≡ any (twiceMarked (now (owners .entry)) (now (frames .entry))) n) × (r ≡ false → now (owners .exit) ≡ marked (now (frames .entry)) tag (now (owners .entry)) n) ⌝ }
+{
+    let mut k = 0;
+    while k < n {
+        let f = wide(frames[k]);
+        if owners[f] != 0 {
+            return true;
+        }
+        owners[f] = tag;
+        k += 1;
+    }
+    false
+}
+
+// Marks the frames of the first n partitions, up to one that stands twice.
+fn mark_all(parts: [Partition; 8], frames: &[u32], n: usize, owners: &mut [u32; 1024]) -> bool
+    requires { ⌜ (n ≤ 8) × (length (now frames) ≡ 2048) × ((i : ℕ) → i < n → (pagesAt parts i ≤ 256) × ((k : ℕ) → k < pagesAt parts i → getD (partAt (now frames) i) k 0 < 1024)) × (now owners ≡ replicate 1024 0) ⌝ }
+    ensures { λ r. ⌜ (r ≡ any (twiceIn parts (now (frames .entry))) n) × (r ≡ false → now (owners .exit) ≡ ownersOf parts (now (frames .entry)) n) ⌝ }
+{
+    let mut tag: u32 = 1;
+    let mut i: usize = 0;
+    while i < n {
+        let p = parts[i];
+        let a = i * 256;
+        let e = a + 256;
+        if mark(&frames[a..e], wide(p.pages), tag, owners) {
+            return true;
+        }
+        tag += 1;
+        i += 1;
+    }
+    false
+}
+
+// The current partition doesn't run, or its steps left are not 1 to q; or none is current, and one runs.
+fn turn_wrong(count: u32, q: u32, current: u32, left: u32, running: &[bool; 8]) -> bool
+    requires { ⌜ count ≤ 8 ⌝ }
+    ensures { λ r. ⌜ r ≡ turnOutside count q current left (now (running .entry)) ⌝ }
+{
+    if left == 0 {
+        if current != 0 {
+            return true;
+        }
+        return any_runs(running, 8);
+    }
+    if current >= count {
+        return true;
+    }
+    let c = wide(current);
+    if !running[c] {
+        return true;
+    }
+    left > q
+}
+
+// Register 0 isn't zero, or MODE or EMODE is above 1.
+fn processor_wrong(p: Processor, first: u32) -> bool
+    ensures { λ r. ⌜ r ≡ processorWrong p first ⌝ }
+{
+    if first != 0 {
+        return true;
+    }
+    if p.mode > 1 {
+        return true;
+    }
+    if p.emode > 1 {
+        return true;
+    }
+    false
+}
+
+// The same of the first n partitions.
+fn registers_wrong(parts: [Partition; 8], regs: &[u32], n: usize) -> bool
+    requires { ⌜ (n ≤ 8) × (length (now regs) ≡ 256) ⌝ }
+    ensures { λ r. ⌜ r ≡ any (registersAt parts (now (regs .entry))) n ⌝ }
+{
+    let mut i: usize = 0;
+    while i < n {
+        let p = parts[i];
+        let s = p.processor;
+        if processor_wrong(s, regs[i * 32]) {
+            return true;
+        }
+        i += 1;
+    }
+    false
+}
+
+// A shadow entry of the owner with this tag is wrong.
+fn entry_wrong(e: u32, tag: u32, owners: &[u32; 1024]) -> bool
+    requires { ⌜ (0 < tag) × (length (now owners) ≡ 1024) ⌝ }
+    ensures { λ r. ⌜ r ≡ entryMarked (now (owners .entry)) tag e ⌝ }
+{
+    if e / 2048 % 2 != 1 {
+        return e != 0;
+    }
+    let frame = wide(e / 4096);
+    if frame >= 1024 {
+        return true;
+    }
+    if owners[frame] != tag {
+        return true;
+    }
+    e % 1024 != 0
+}
+
+// An entry of the shadow of the owner with this tag is wrong.
+fn shadow_wrong(shadow: &[u32], tag: u32, owners: &[u32; 1024]) -> bool
+    requires { ⌜ (length (now shadow) ≡ 256) × (0 < tag) × (length (now owners) ≡ 1024) ⌝ }
+    ensures { λ r. ⌜ r ≡ any (λ px. entryMarked (now (owners .entry)) tag (getD (now (shadow .entry)) px 0)) entries ⌝ }
+{
+    let mut px = 0;
+    while px < 256 {
+        if entry_wrong(shadow[px], tag, owners) {
+            return true;
+        }
+        px += 1;
+    }
+    false
+}
+
+// A shadow entry of the first n partitions is wrong.
+fn shadows_wrong(shadows: &[u32], n: usize, owners: &[u32; 1024]) -> bool
+    requires { ⌜ (n ≤ 8) × (length (now shadows) ≡ 2048) × (length (now owners) ≡ 1024) ⌝ }
+    ensures { λ r. ⌜ r ≡ any (shadowMarked (now (owners .entry)) (now (shadows .entry))) n ⌝ }
+{
+    let mut tag: u32 = 1;
+    let mut i: usize = 0;
+    while i < n {
+        let a = i * 256;
+        let e = a + 256;
+        if shadow_wrong(&shadows[a..e], tag, owners) {
+            return true;
+        }
+        tag += 1;
+        i += 1;
+    }
+    false
+}
+
+// Anything but 0 in a partition that isn't there.
+fn partition_used(p: Partition) -> bool
+    ensures { λ r. ⌜ r ≡ partitionUsed p ⌝ }
+{
+    if p.pages != 0 {
+        return true;
+    }
+    let s = p.processor;
+    if s.dpc != 0 {
+        return true;
+    }
+    if s.pc != 0 {
+        return true;
+    }
+    if s.sr != 0 {
+        return true;
+    }
+    if s.esr != 0 {
+        return true;
+    }
+    if s.eca != 0 {
+        return true;
+    }
+    if s.epc != 0 {
+        return true;
+    }
+    if s.edpc != 0 {
+        return true;
+    }
+    if s.edata != 0 {
+        return true;
+    }
+    if s.mode != 0 {
+        return true;
+    }
+    if s.emode != 0 {
+        return true;
+    }
+    let t = p.table;
+    if t.pto != 0 {
+        return true;
+    }
+    if t.ptl != 0 {
+        return true;
+    }
+    if p.counter != 0 {
+        return true;
+    }
+    false
+}
+
+// Anything but 0 in the size places from base on.
+fn not_zero(l: &[u32], base: usize, size: usize) -> bool
+    requires { ⌜ base + size ≤ length (now l) ⌝ }
+    ensures { λ r. ⌜ r ≡ notZero (now (l .entry)) base size ⌝ }
+{
+    let mut k = 0;
+    while k < size {
+        if l[base + k] != 0 {
+            return true;
+        }
+        k += 1;
+    }
+    false
+}
+
+// Anything but 0 behind the n frames of a list.
+fn behind_used(frames: &[u32], n: usize) -> bool
+    requires { ⌜ length (now frames) ≡ 256 ⌝ }
+    ensures { λ r. ⌜ r ≡ any (behind (now (frames .entry)) n) 256 ⌝ }
+{
+    let mut k = n;
+    while k < 256 {
+        if frames[k] != 0 {
+            return true;
+        }
+        k += 1;
+    }
+    false
+}
+
+// Anything but 0 in the unused places of partition i's room.
+fn room_wrong(
+    count: usize,
+    i: usize,
+    run: bool,
+    p: Partition,
+    regs: &[u32],
+    frames: &[u32],
+    shadows: &[u32],
+) -> bool
+    requires { ⌜ (i < 8) × (length (now regs) ≡ 256) × (length (now frames) ≡ 2048) × (length (now shadows) ≡ 2048) ⌝ }
+    ensures { λ r. ⌜ r ≡ roomWrong count i run p (now (regs .entry)) (now (frames .entry)) (now (shadows .entry)) ⌝ }
+{
+    let a = i * 256;
+    if i < count {
+        let e = a + 256;
+        return behind_used(&frames[a..e], wide(p.pages));
+    }
+    if run {
+        return true;
+    }
+    if partition_used(p) {
+        return true;
+    }
+    if not_zero(regs, i * 32, 32) {
+        return true;
+    }
+    if not_zero(frames, a, 256) {
+        return true;
+    }
+    not_zero(shadows, a, 256)
+}
+
+// Anything but 0 in an unused place.
+fn unused_wrong(
+    count: usize,
+    running: &[bool; 8],
+    parts: [Partition; 8],
+    regs: &[u32],
+    frames: &[u32],
+    shadows: &[u32],
+) -> bool
+    requires { ⌜ (length (now regs) ≡ 256) × (length (now frames) ≡ 2048) × (length (now shadows) ≡ 2048) ⌝ }
+    ensures { λ r. ⌜ r ≡ any (λ i. roomWrong count i (getD (now (running .entry)) i false) (getD parts i noPartition) (now (regs .entry)) (now (frames .entry)) (now (shadows .entry))) 8 ⌝ }
+{
+    let mut i: usize = 0;
+    while i < 8 {
+        if room_wrong(count, i, running[i], parts[i], regs, frames, shadows) {
+            return true;
+        }
+        i += 1;
+    }
+    false
+}
+
+// Damage in a house inside boot's limits.
+fn inside_wrong(
+    count: u32,
+    q: u32,
+    current: u32,
+    left: u32,
+    running: &[bool; 8],
+    parts: [Partition; 8],
+    regs: &[u32],
+    frames: &[u32],
+    shadows: &[u32],
+) -> bool
+    requires { ⌜ Within count parts (now frames) × (length (now regs) ≡ 256) × (length (now frames) ≡ 2048) × (length (now shadows) ≡ 2048) ⌝ }
+    ensures { λ r. ⌜ r ≡ inside count q current left (now (running .entry)) parts (now (regs .entry)) (now (frames .entry)) (now (shadows .entry)) ⌝ }
+{
+    let n = wide(count);
+    let mut owners = [0u32; 1024];
+    if mark_all(parts, frames, n, &mut owners) {
+        return true;
+    }
+    if turn_wrong(count, q, current, left, running) {
+        return true;
+    }
+    if registers_wrong(parts, regs, n) {
+        return true;
+    }
+    if shadows_wrong(shadows, n, &owners) {
+        return true;
+    }
+    unused_wrong(n, running, parts, regs, frames, shadows)
+}
+
+// The house is damaged.
+pub fn damaged(h: House) -> bool
+    ensures { λ r. ⌜ r ≡ damaged h ⌝ }
+{
+    let running = h.running;
+    let parts = h.parts;
+    let regs = h.regs;
+    let frames = h.frames;
+    let shadows = h.shadows;
+    if outside_limits(h.count, h.q, h.words, parts, &frames) {
+        return true;
+    }
+    inside_wrong(
+        h.count,
+        h.q,
+        h.current,
+        h.left,
+        &running,
+        parts,
+        &regs,
+        &frames,
+        &shadows,
+    )
+}
