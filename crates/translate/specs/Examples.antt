@@ -39,11 +39,12 @@ abbrev frames : List ℕ
 frames = 2 ∷ 0 ∷ 1 ∷ replicate 253 0
 
 -- entries: 0 page 0, 1 the table's own page 1, 2 page 2 protected, 3 a page that is not there, 4 not valid, 255 and 256 page 2. Host word 1024 (the
--- first of guest page 2) is 22, host word 2048 (the first of guest page 0) is 20.
+-- first of guest page 2) is 22, host word 2048 (the first of guest page 0) looks like
+-- an entry of page 2.
 abbrev memory : List ℕ
 memory =
     set (set (set (set (set (set (set (set (set (replicate 3072 0)
-    0 0x00000800) 1 0x00001800) 2 0x00002C00) 3 0x00003800) 4 0x00000000) 255 0x00002800) 256 0x00002800) 1024 22) 2048 20
+    0 0x00000800) 1 0x00001800) 2 0x00002C00) 3 0x00003800) 4 0x00000000) 255 0x00002800) 256 0x00002800) 1024 22) 2048 0x00002814
 
 abbrev table : ℕ → ℕ → Table
 table pto ptl = record { pto = pto; ptl = ptl }
@@ -78,7 +79,7 @@ words h i = getD (h .words) i 0
 unfoldable pub accesses : List Bool
 accesses =
     -- a load through entry 0 reads frame 2, and fills
-    gives (reads (guest 1 5) true 0) 20
+    gives (reads (guest 1 5) true 0) 0x00002814
     ∷ eqb (shadow (reads (guest 1 5) true 0 .1) 0) (entryOf 2 0)
     -- a load through the protected entry 2 works and fills its protection; a store faults and fills too
     ∷ gives (reads (guest 1 5) true 0x2000) 22
