@@ -4,8 +4,8 @@ use mathlib.Core.Bool.{Bool, true, false, _&&_, _||_, or-true, and-false}
 use Prim.Native.Nat.{ℕ, zero, suc, _+_, _<_}
 use native.Mathlib.Numerals.{add-one}
 use native.Mathlib.Omega.{arith}
-use borrow.Author.Tests.{eqb-true, eqb-false}
-use lib.Dec.{eqb}
+use borrow.Author.Tests.{eqb-true, eqb-false, ltb-true, ltb-false}
+use lib.Dec.{eqb, ltb}
 use Rattle.translate.proofs.Tests.{by-test}
 use Rattle.house.specs.Lists.{all, any}
 
@@ -19,6 +19,9 @@ pub or-right : (a b : Bool) → (a || b) ≡ false → b ≡ false
 or-right true b e = cc
 or-right false b e = e
 
+pub or-none : {a b : Bool} → a ≡ false → b ≡ false → (a || b) ≡ false
+or-none e f = rw (e, f)
+
 pub and-right : (a b : Bool) → (a && b) ≡ true → b ≡ true
 and-right true b e = e
 and-right false b e = cc
@@ -26,6 +29,15 @@ and-right false b e = cc
 -- a test cannot come out both ways
 pub one-way : {P : Type 0} (b : Bool) → b ≡ true → b ≡ false → P
 one-way b e f = absurd (let z : _≡_ {A = Bool} true false = sym e ∙ f in let y : _≡_ {A = ℕ} 0 1 = cc in omega arith)
+
+-- two numbers in order
+pub by-order : {P : Type 0} (a b : ℕ) → (a < b → P) → (a ≡ b → P) → (b < a → P) → P
+by-order a b f g h =
+    by-test (ltb a b)
+    (λ t. f (ltb-true a b t))
+    (λ t. by-test (ltb b a)
+    (λ u. h (ltb-true b a u))
+    (λ u. let x = ltb-false a b t in let y = ltb-false b a u in g (omega arith)))
 
 -- two tests are one where each gives the other
 pub same-test : (a b : Bool) → (a ≡ true → b ≡ true) → (b ≡ true → a ≡ true) → a ≡ b

@@ -75,6 +75,9 @@ module _ {A : Type 0} where
   getD-listFrom f d k (suc n) zero l = ap f (omega arith)
   getD-listFrom f d k (suc n) (suc i) l = getD-listFrom f d (suc k) n i (omega arith) ∙ ap f (omega arith)
 
+  pub listFrom-at : (f : ℕ → A) (d : A) (n i : ℕ) → i < n → getD (listFrom f 0 n) i d ≡ f i
+  listFrom-at f d n i l = getD-listFrom f d 0 n i l ∙ ap f (omega arith)
+
   pub listFrom-same : (f g : ℕ → A) (k n : ℕ) → ((i : ℕ) → i < k + n → f i ≡ g i) → listFrom f k n ≡ listFrom g k n
   unfolding listFrom
   listFrom-same f g k zero h = refl

@@ -1,28 +1,24 @@
 -- A stretch of the current partition, of at most the steps left, is so many host steps.
 use mathlib.Core.Path.{_≡_, refl, sym, ap, subst, _∙_}
-use mathlib.Core.Bool.{Bool, true, false, _||_}
-use mathlib.Core.List.{List}
+use mathlib.Core.Bool.{Bool, true, false}
 use Prim.Native.Nat.{ℕ, zero, suc, _+_, _-_, _*_, _%_, _^_, _<_, _≤_}
 use native.Mathlib.Nat.{add-zero, add-suc}
 use native.Mathlib.Omega.{arith}
 use borrow.Author.Tests.{eq-eqb, ne-eqb}
 use lib.Dec.{eqb}
-use lib.ListN.{length, getD, set}
+use lib.ListN.{length}
 use lib.Seq.{set-set, getD-set-same}
-use Rattle.dlx.specs.Choice.{if_then_else_}
-use Rattle.dlx.specs.Machine.{Ops, Core, core, Outcome, outcome, step, Stretch, stretchFrom}
-use Rattle.dlx.specs.declared.partition.Partition.{Partition}
+use Rattle.dlx.specs.Machine.{Ops, Core, core, Outcome, step, Stretch, stretchFrom}
 use Rattle.dlx.proofs.Kept.{either}
-use Rattle.translate.specs.Memory.{Host, host, hostMemory}
+use Rattle.translate.specs.Memory.{Host, hostMemory}
 use Rattle.translate.proofs.Tests.{by-eq}
-use Rattle.house.specs.Lists.{inner, outer}
-use Rattle.house.specs.House.{noPartition, partition, pagesOf, registersOf, framesOf, shadowOf}
-use Rattle.house.specs.Turns.{World, world, turn, turnAfter, guest, guestMemory, guestStep, counted, settledHouse, stepWith, hostStep, hostSteps, countedOn, stretchedHouse, turnOf}
+use Rattle.house.specs.House.{noPartition, partition, pagesOf, framesOf}
+use Rattle.house.specs.Turns.{World, world, turn, turnAfter, guest, guestMemory, guestStep, counted, settledHouse, stepWith, hostStep, hostSteps, stretchedHouse, turnOf}
 use Rattle.house.specs.Sound.{Shaped, Sound}
 use Rattle.house.specs.declared.House.{House}
 use Rattle.house.specs.declared.Turn.{Turn}
 use Rattle.house.proofs.Parts.{outer-outer}
-use Rattle.house.proofs.Turns.{settled-partition, settled-registers, settled-shadow, step-keeps, step-registers, sound-step}
+use Rattle.house.proofs.Turns.{settled-pages, settled-partition, settled-registers, settled-shadow, step-keeps, step-registers, sound-step}
 
 -- ---- the count is carried along
 
@@ -67,9 +63,6 @@ module _ (w : World) (i : ℕ) (s : Shaped (w .house)) (few : i < 8) (o : Outcom
   hopped =
       let p = settled-partition w i s few o regs shadow t₀ in
       simp (p, settled-registers w i s few o regs shadow t₀, settled-shadow w i s few o regs shadow t₀)
-
-  hopped-pages : pagesOf (settledHouse (w .house) i o t₀) i ≡ pagesOf (w .house) i
-  hopped-pages = ap (λ (p : Partition). p .pages) (settled-partition w i s few o regs shadow t₀)
 
 -- ---- the turn one step on
 
@@ -138,7 +131,7 @@ module _ (w : World) (s : Sound w) where
       let t = turn i (w .house .left - 1) in
       first-is k e
       ∙ made-on (guestMemory (w .house) i) (suc k) 0 (o .0 .core, o .1)
-      ∙ ap bumped (sym (again-is k (hopped w i (s .shaped) f o (step-registers w s) c t) (hopped-pages w i (s .shaped) f o (step-registers w s) c t)))
+      ∙ ap bumped (sym (again-is k (hopped w i (s .shaped) f o (step-registers w (s .shaped) f) c t) (settled-pages (w .house) i o t i)))
 
   hop-sound : guestStep w (w .house .current) .0 .calls ≡ false → 1 < w .house .left → Sound (hop w)
   hop-sound e l = subst Sound (hop-is e l) (sound-step w s)
@@ -155,7 +148,7 @@ module _ (w : World) (s : Sound w) where
       ∙ h
       ∙ ap (λ (x : House). world x (r .memory .words))
       (ap (λ (u : Turn). stretchedHouse (settledHouse (w .house) i o t) i r u) (turn-on (w .house) o (r .made) (r .called) (s .left))
-      ∙ joined w i (s .shaped) f o (step-registers w s) (step-keeps w s .shadowed .count) t r (turnAfter (w .house) (suc (r .made)) (r .called)))
+      ∙ joined w i (s .shaped) f o (step-registers w (s .shaped) f) (step-keeps w s .shadowed .count) t r (turnAfter (w .house) (suc (r .made)) (r .called)))
 
 hop-left : (w : World) (k : ℕ) → suc k < w .house .left → k < hop w .house .left
 unfolding settledHouse

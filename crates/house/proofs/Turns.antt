@@ -4,25 +4,25 @@ use mathlib.Core.Bool.{Bool, true, false, _||_}
 use mathlib.Core.List.{List}
 use Prim.Native.Nat.{ℕ, zero, suc, _+_, _-_, _*_, _<_, _≤_}
 use native.Mathlib.Omega.{arith}
-use borrow.Author.Tests.{eqb-false, ltb-true, ltb-false}
+use borrow.Author.Tests.{eqb-true, eqb-false, ltb-true, ltb-false}
 use lib.Dec.{eqb, ltb}
-use lib.ListN.{length, getD, set, length-set}
+use lib.ListN.{length, getD, length-set}
 use lib.Seq.{getD-set-same, getD-set-other}
 use Rattle.dlx.specs.Choice.{if_then_else_}
-use Rattle.dlx.specs.Machine.{Outcome, step}
+use Rattle.dlx.specs.Machine.{Outcome}
 use Rattle.dlx.specs.declared.partition.Partition.{Partition}
-use Rattle.dlx.proofs.Kept.{either}
+use Rattle.dlx.proofs.Kept.{either, getD-set-elim}
 use Rattle.dlx.proofs.Places.{step-count}
 use Rattle.translate.specs.Memory.{Host}
-use Rattle.translate.specs.Premises.{Placed, Shadowed}
 use Rattle.translate.proofs.Steps.{Whole, step-whole}
 use Rattle.translate.proofs.Tests.{by-test, by-eq}
 use Rattle.house.specs.Lists.{inner, outer}
 use Rattle.house.specs.House.{noPartition, partition, pagesOf, registersOf, framesOf, shadowOf}
-use Rattle.house.specs.Turns.{World, world, following, nextFrom, nextOf, turn, turnAfter, guest, guestMemory, guestStep, counted, settledHouse, stepWith, hostStep, hostSteps, turnOf}
-use Rattle.house.specs.Sound.{Shaped, SoundPartition, Sound}
+use Rattle.house.specs.Turns.{World, world, following, nextFrom, nextOf, turn, turnAfter, guestMemory, guestStep, counted, settledHouse, stepWith, hostStep, hostSteps, turnOf}
+use Rattle.house.specs.Sound.{Shaped, SoundPartition, Sound, Undamaged}
 use Rattle.house.specs.declared.House.{House}
 use Rattle.house.specs.declared.Turn.{Turn}
+use Rattle.house.proofs.Lists.{or-left, one-way}
 use Rattle.house.proofs.Parts.{inner-length, outer-length, inner-outer, inner-other, inner-above}
 
 -- ---- whose turn it is
@@ -37,6 +37,59 @@ next-below r n i zero h = h
 next-below r n i (suc k) h =
     let f = following-below n i h in
     either (λ x. x < n) (getD r (following n i) false) (λ _. f) (λ _. next-below r n (following n i) k f)
+
+-- from c to i in cyclic order, 1 to n
+unfoldable pub distance : ℕ → ℕ → ℕ → ℕ
+distance n c i = if ltb c i then i - c else n - c + i
+
+module _ (n c i : ℕ) (l : c < n) where
+  pub distance-some : 0 < distance n c i
+  unfolding distance
+  distance-some = either (λ d. 0 < d) (ltb c i) (λ t. let k = ltb-true c i t in omega arith) (λ t. omega arith)
+
+  module _ (m : i < n) where
+    distance-most : distance n c i ≤ n
+    unfolding distance
+    distance-most = either (λ d. d ≤ n) (ltb c i) (λ t. omega arith) (λ t. let k = ltb-false c i t in omega arith)
+
+    -- the one that follows is i, or nearer
+    nearer : (following n c ≡ i → ⊥) → distance n (following n c) i < distance n c i
+    unfolding distance
+    nearer =
+        either (λ f. (f ≡ i → ⊥) → (if ltb f i then i - f else n - f + i) < (if ltb c i then i - c else n - c + i)) (eqb (c + 1) n)
+        (λ e o.
+        let z = eqb-true (c + 1) n e in
+        either (λ d. d < (if ltb c i then i - c else n - c + i)) (ltb 0 i)
+        (λ t. either (λ d. i - 0 < d) (ltb c i) (λ u. let k = ltb-true c i u in omega arith) (λ u. omega arith))
+        (λ t. let k = ltb-false 0 i t in absurd (o (omega arith))))
+        (λ e o.
+        either (λ d. d < (if ltb c i then i - c else n - c + i)) (ltb (c + 1) i)
+        (λ t. let k = ltb-true (c + 1) i t in either (λ d. i - (c + 1) < d) (ltb c i) (λ u. omega arith) (λ u. let j = ltb-false c i u in omega arith))
+        (λ t. let k = ltb-false (c + 1) i t in either (λ d. n - (c + 1) + i < d) (ltb c i) (λ u. let j = ltb-true c i u in absurd (o (omega arith))) (λ u. omega arith)))
+
+-- where i runs, the next running one is i, or nearer to it; and it runs
+module _ (r : List Bool) (n i : ℕ) (m : i < n) (e : getD r i false ≡ true) where
+  still-other : (j : ℕ) → getD r j false ≡ false → j ≡ i → ⊥
+  still-other j q z = one-way (getD r i false) e (subst (λ (x : ℕ). getD r x false ≡ false) z q)
+
+  next-on-way : (k c : ℕ) → c < n → distance n c i ≤ k → let j = nextFrom r n c k in (getD r j false ≡ true) × ((j ≡ i → ⊥) → distance n j i < distance n c i)
+  unfolding nextFrom
+  next-on-way zero c l d = absurd (omega (arith, distance-some n c i l))
+  next-on-way (suc k) c l d =
+      let f = following n c in
+      either (λ j. (getD r j false ≡ true) × ((j ≡ i → ⊥) → distance n j i < distance n c i)) (getD r f false)
+      (λ t. (t, nearer n c i l m))
+      (λ q.
+      let g = nearer n c i l m (still-other f q) in
+      let h = next-on-way k f (following-below n c l) (omega arith) in
+      (h .0, λ o. let x = h .1 o in omega arith))
+
+  module _ (c : ℕ) (l : c < n) where
+    pub next-runs : getD r (nextOf r n c) false ≡ true
+    next-runs = next-on-way n c l (distance-most n c i l m) .0
+
+    pub next-nearer : (nextOf r n c ≡ i → ⊥) → distance n (nextOf r n c) i < distance n c i
+    next-nearer = next-on-way n c l (distance-most n c i l m) .1
 
 -- the search, one partition on
 module _ (r : List Bool) (n i tried : ℕ) where
@@ -53,6 +106,36 @@ module _ (r : List Bool) (n i tried : ℕ) where
     unfolding nextFrom
     next-on h = let e : n - tried ≡ suc (n - (tried + 1)) = omega arith in rw e (simp h)
 
+-- ---- the turn after a step
+
+module _ (r : List Bool) (n q c l : ℕ) (calls : Bool) where
+  pub turn-here : c < n → turnOf r n q c l 1 calls .current < n
+  unfolding turnOf
+  turn-here b = either (λ (t : Turn). t .current < n) (eqb l 1 || calls) (λ _. next-below r n c n b) (λ _. b)
+
+  pub turn-left : 0 < q → 0 < l → 0 < turnOf r n q c l 1 calls .left
+  unfolding turnOf
+  turn-left p s = either (λ (t : Turn). 0 < t .left) (eqb l 1 || calls) (λ _. p) (λ e. let k = eqb-false l 1 (or-left (eqb l 1) calls e) in omega arith)
+
+-- a turn of one of n that runs, with 1 to q steps left
+pub record InTurn (r : List Bool) (n q : ℕ) (t : Turn) : Type 0 where
+  pub here : t .current < n
+  pub runs : getD r (t .current) false ≡ true
+  pub some : 0 < t .left
+  pub most : t .left ≤ q
+
+pub in-turn : (h : House) → Undamaged h → (h .left ≡ 0 → ⊥) → InTurn (h .running) (h .count) (h .q) (turn (h .current) (h .left))
+in-turn h u n = let b = u .busy n in record { here = b .0; runs = b .1; some = omega (arith, n); most = b .2 }
+
+pub in-turn-on : (r : List Bool) (n q c l : ℕ) (calls : Bool) → InTurn r n q (turn c l) → InTurn r n q (turnOf r n q c l 1 calls)
+unfolding turnOf
+in-turn-on r n q c l calls s = record {
+  here = turn-here r n q c l calls (s .here);
+  runs = either (λ (t : Turn). getD r (t .current) false ≡ true) (eqb l 1 || calls) (λ _. next-runs r n c (s .here) (s .runs) c (s .here)) (λ _. s .runs);
+  some = turn-left r n q c l calls (omega (arith, s .some, s .most)) (s .some);
+  most = either (λ (t : Turn). t .left ≤ q) (eqb l 1 || calls) (λ _. omega arith) (λ _. omega (arith, s .most));
+}
+
 -- ---- another partition's part
 
 -- of 32 registers, or 256 entries
@@ -62,13 +145,17 @@ registers-apart m k i j f g e d =
     (λ t. let l = ltb-true j i t in inner-other m k (i * 32) (j * 32) 32 f g e (omega arith))
     (λ t. let l = ltb-false j i t in inner-above m k (i * 32) (j * 32) 32 f g e (omega arith))
 
-entries-apart : (m k : List ℕ) (i j : ℕ) → i * 256 + 256 ≤ length m → j * 256 + 256 ≤ length m → length k ≡ 256 → (j ≡ i → ⊥) → inner (j * 256) 256 (outer (i * 256) 256 m k) ≡ inner (j * 256) 256 m
+pub entries-apart : (m k : List ℕ) (i j : ℕ) → i * 256 + 256 ≤ length m → j * 256 + 256 ≤ length m → length k ≡ 256 → (j ≡ i → ⊥) → inner (j * 256) 256 (outer (i * 256) 256 m k) ≡ inner (j * 256) 256 m
 entries-apart m k i j f g e d =
     by-test (ltb j i)
     (λ t. let l = ltb-true j i t in inner-other m k (i * 256) (j * 256) 256 f g e (omega arith))
     (λ t. let l = ltb-false j i t in inner-above m k (i * 256) (j * 256) 256 f g e (omega arith))
 
 -- ---- the house after partition i came to o
+
+pub settled-pages : (h : House) (i : ℕ) (o : Outcome × Host) (t : Turn) (j : ℕ) → pagesOf (settledHouse h i o t) j ≡ pagesOf h j
+unfolding settledHouse
+settled-pages h i o t j = getD-set-elim (λ (p : Partition). p .pages ≡ pagesOf h j) (h .parts) i j _ noPartition (λ e. ap (pagesOf h) (sym e)) refl
 
 module _ (w : World) (i : ℕ) (s : Shaped (w .house)) (few : i < 8) (o : Outcome × Host) (regs : length (o .0 .core .registers) ≡ 32) (shadow : length (o .1 .shadow) ≡ 256) (t : Turn) where
   pub settled-shaped : Shaped (settledHouse (w .house) i o t)
@@ -106,82 +193,66 @@ module _ (w : World) (i : ℕ) (s : Shaped (w .house)) (few : i < 8) (o : Outcom
     unfolding settledHouse
     other-shadow = entries-apart (w .house .shadows) _ i j (omega (arith, s .shadows)) (omega (arith, s .shadows)) shadow other
 
-    pub other-pages : pagesOf (settledHouse (w .house) i o t) j ≡ pagesOf (w .house) j
-    other-pages = ap (λ (p : Partition). p .pages) other-partition
-
 -- ---- soundness
+
+-- a step keeps the number of registers
+pub step-registers : (w : World) → Shaped (w .house) → w .house .current < 8 → length (guestStep w (w .house .current) .0 .core .registers) ≡ 32
+unfolding guestStep
+step-registers w s l =
+    step-count (guestMemory (w .house) (w .house .current)) _ _
+    ∙ inner-length (w .house .regs) (w .house .current * 32) 32 (omega (arith, s .regs))
 
 module _ (w : World) (s : Sound w) where
   pub step-keeps : Whole (framesOf (w .house) (w .house .current)) (pagesOf (w .house) (w .house .current)) (length (w .memory)) (guestStep w (w .house .current) .1)
   unfolding guestStep
   step-keeps = step-whole _ _ _ _ _ (record { long = refl; shadowed = s .each (w .house .current) (s .here) .shadowed })
 
-  pub step-registers : length (guestStep w (w .house .current) .0 .core .registers) ≡ 32
-  unfolding guestStep
-  step-registers =
-      step-count (guestMemory (w .house) (w .house .current)) _ _
-      ∙ inner-length (w .house .regs) (w .house .current * 32) 32 (omega (arith, s .shaped .regs, s .here, s .few))
-
-  pub turn-here : (calls : Bool) → turnAfter (w .house) 1 calls .current < w .house .count
-  unfolding turnOf
-  turn-here calls =
-      either (λ (t : Turn). t .current < w .house .count) (eqb (w .house .left) 1 || calls)
-      (λ _. next-below (w .house .running) (w .house .count) (w .house .current) (w .house .count) (s .here))
-      (λ _. s .here)
-
-  pub turn-left : (calls : Bool) → 0 < turnAfter (w .house) 1 calls .left
-  unfolding turnOf
-  turn-left calls =
-      either (λ (t : Turn). 0 < t .left) (eqb (w .house .left) 1 || calls)
-      (λ _. s .turns)
-      (λ e. more (eqb (w .house .left) 1) calls refl e)
-    where
-      more : (b c : Bool) → eqb (w .house .left) 1 ≡ b → (b || c) ≡ false → 0 < w .house .left - 1
-      more true c q e = absurd (let z : _≡_ {A = ℕ} 0 1 = cc in omega arith)
-      more false c q e = let k = eqb-false (w .house .left) 1 q in omega (arith, s .left)
+  here-small : w .house .current < 8
+  here-small = omega (arith, s .here, s .few)
 
   module _ (j : ℕ) (l : j < w .house .count) where
-    small : j < 8
-    small = omega (arith, s .few)
-
     settled-each : (t : Turn) → SoundPartition (world (settledHouse (w .house) (w .house .current) (guestStep w (w .house .current)) t) (guestStep w (w .house .current) .1 .words)) j
     unfolding settledHouse
     settled-each t =
         let i = w .house .current in
         let o = guestStep w i in
-        let f : i < 8 = omega (arith, s .here, s .few) in
+        let g = step-registers w (s .shaped) here-small in
         let k = step-keeps .shadowed .count in
+        let p = settled-pages (w .house) i o t in
         by-eq j i
         (λ e.
-        let p = ap (λ (x : Partition). x .pages) (settled-partition w i (s .shaped) f o step-registers k t) in
         subst (λ (x : ℕ). SoundPartition (world (settledHouse (w .house) i o t) (o .1 .words)) x) (sym e)
         (record {
-          placed = rw p (rw (step-keeps .long) (s .each i (s .here) .placed));
-          shadowed = rw (p, settled-shadow w i (s .shaped) f o step-registers k t) (step-keeps .shadowed);
+          placed = rw (p i) (rw (step-keeps .long) (s .each i (s .here) .placed));
+          shadowed = rw (p i, settled-shadow w i (s .shaped) here-small o g k t) (step-keeps .shadowed);
         }))
         (λ d.
-        let p = other-pages w i (s .shaped) f o step-registers k t j small d in
         record {
-          placed = rw p (rw (step-keeps .long) (s .each j l .placed));
-          shadowed = rw (p, other-shadow w i (s .shaped) f o step-registers k t j small d) (s .each j l .shadowed);
+          placed = rw (p j) (rw (step-keeps .long) (s .each j l .placed));
+          shadowed = rw (p j, other-shadow w i (s .shaped) here-small o g k t j (omega (arith, s .few)) d) (s .each j l .shadowed);
         })
 
   pub sound-step : Sound (hostStep w)
   unfolding hostStep stepWith settledHouse
   sound-step =
-      let i = w .house .current in
+      let h = w .house in
+      let i = h .current in
       let o = guestStep w i in
-      let t = turnAfter (w .house) 1 (o .0 .calls) in
+      let t = turnAfter h 1 (o .0 .calls) in
       record {
-        shaped = settled-shaped w i (s .shaped) (omega (arith, s .here, s .few)) o step-registers (step-keeps .shadowed .count) t;
+        shaped = settled-shaped w i (s .shaped) here-small o (step-registers w (s .shaped) here-small) (step-keeps .shadowed .count) t;
         few = s .few;
         each = λ j l. settled-each j l t;
-        here = turn-here (o .0 .calls);
-        left = turn-left (o .0 .calls);
+        here = turn-here (h .running) (h .count) (h .q) i (h .left) (o .0 .calls) (s .here);
+        left = turn-left (h .running) (h .count) (h .q) i (h .left) (o .0 .calls) (s .turns) (s .left);
         turns = s .turns;
       }
 
-pub sound-steps : (n : ℕ) (w : World) → Sound w → Sound (hostSteps n w)
+-- what a host step keeps, so many keep
+pub steps-keep : (P : World → Type 0) → ((w : World) → P w → P (hostStep w)) → (n : ℕ) (w : World) → P w → P (hostSteps n w)
 unfolding hostSteps
-sound-steps zero w s = s
-sound-steps (suc n) w s = sound-step (hostSteps n w) (sound-steps n w s)
+steps-keep P f zero w p = p
+steps-keep P f (suc n) w p = f (hostSteps n w) (steps-keep P f n w p)
+
+pub sound-steps : (n : ℕ) (w : World) → Sound w → Sound (hostSteps n w)
+sound-steps = steps-keep Sound sound-step

@@ -5,3 +5,5 @@ pub mod Boot
 pub mod Turns
 pub mod Sound
 pub mod Calls
+pub mod Histories
+pub mod Demands

@@ -1,13 +1,12 @@
 -- What read-out cites: an output whose first words are by a rule, one word more; the lent frame list; the bound. And the length of an array of structs.
-use mathlib.Core.Path.{_≡_, refl, sym, ap, subst, _∙_}
+use mathlib.Core.Path.{_≡_, sym, ap, _∙_}
 use mathlib.Core.List.{List, [], _∷_, _++_, append-assoc, map}
-use mathlib.Core.Bool.{false, not}
-use Prim.Native.Nat.{ℕ, zero, suc, _+_, _-_, _*_, _/_, _%_, _<_, _≤_}
+use mathlib.Core.Bool.{false}
+use Prim.Native.Nat.{ℕ, zero, suc, _+_, _-_, _*_, _/_, _<_, _≤_}
 use native.Mathlib.Nat.{add-sub-cancel-left}
 use native.Mathlib.Numerals.{add-one}
 use native.Mathlib.Omega.{arith}
-use borrow.Author.Tests.{eqb-true, ltb-false, not-false, eq-eqb, lt-leb, le-ltb}
-use lib.Dec.{eqb, ltb}
+use borrow.Author.Tests.{eq-eqb, lt-leb, le-ltb}
 use lib.ListN.{length, getD, set, take, drop, length-map}
 use lib.Seq.{drop-cons, set-append-seam}
 use Rattle.translate.specs.Memory.{hostWord}
@@ -19,7 +18,7 @@ use Rattle.house.specs.Boot.{verdict, firstOf}
 use Rattle.house.specs.Turns.{world}
 use Rattle.house.specs.Calls.{beyondOf, read, readVerdict, readOut, readCall}
 use Rattle.house.specs.declared.House.{House}
-use Rattle.house.proofs.Lists.{or-left, or-right}
+use Rattle.house.proofs.Verdicts.{not-beyond}
 use Rattle.house.proofs.Searches.{length-listFrom}
 
 listFrom-last : (f : ℕ → ℕ) (k n : ℕ) → listFrom f k (suc n) ≡ listFrom f k n ++ (f (k + n) ∷ [])
@@ -51,10 +50,7 @@ lent-placed h size i j k p q d = rw (p, q) (simp add-sub-cancel-left d)
 
 -- words that end within the pages
 pub within-pages : (pages a count : ℕ) → beyondOf pages a count ≡ false → a / 4 + count ≤ pages * 1024
-within-pages pages a count e =
-    let z = eqb-true (a % 4) 0 (not-false (eqb (a % 4) 0) (or-left (not (eqb (a % 4) 0)) (ltb (4096 * pages) (a + 4 * count)) e)) in
-    let l = ltb-false (4096 * pages) (a + 4 * count) (or-right (not (eqb (a % 4) 0)) (ltb (4096 * pages) (a + 4 * count)) e) in
-    omega arith
+within-pages pages a count e = let b = not-beyond pages a count e in omega arith
 
 -- a read-out that nothing refuses
 module _ (h : House) (m out out′ : List ℕ) (i a n j w : ℕ) (p : j ≡ i) (q : w ≡ a / 4) where

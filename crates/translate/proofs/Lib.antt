@@ -1,4 +1,5 @@
 pub mod Checked
+pub mod Each
 pub mod Entries
 pub mod Instance
 pub mod Isolation

@@ -30,7 +30,7 @@ getD-replicate-same zero a i = refl
 getD-replicate-same (suc m) a zero = refl
 getD-replicate-same (suc m) a (suc i) = getD-replicate-same m a i
 
-pub getD-set-default : (l : List ℕ) (i d : ℕ) → getD (set l i d) i d ≡ d
+pub getD-set-default : {A : Type 0} (l : List A) (i : ℕ) (d : A) → getD (set l i d) i d ≡ d
 getD-set-default [] i d = refl
 getD-set-default (x ∷ xs) zero d = refl
 getD-set-default (x ∷ xs) (suc i) d = getD-set-default xs i d

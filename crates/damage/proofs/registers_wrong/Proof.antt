@@ -5,7 +5,7 @@ use mathlib.Core.Path.{_≡_, refl, _∙_, sym}
 use Prim.Native.Nat.{_≤_, _-_, _*_, zero-le}
 use Rattle.house.specs.Lists.{any}
 use Rattle.house.proofs.Lists.{any-more, any-yes}
-use Rattle.house.proofs.Parts.{inner-at}
+use Rattle.house.proofs.Parts.{part-at}
 use Rattle.damage.specs.Marks.{registersAt}
 use Rattle.damage.proofs.registers_wrong.Statement.{statement}
 use Rattle.damage.proofs.registers_wrong.Tie as tie
@@ -39,7 +39,7 @@ processor-wrong-requires : tie.Need-processor-wrong-requires Inv-loop μ-loop
 processor-wrong-requires c κs = omega arith
 
 returns : tie.Need-returns Inv-loop μ-loop
-returns c = let a = c .before .before .before .before .before .before .before .before .args in let l = c .before .before .before .before .before .before .loop in sym (any-yes (registersAt (a .t1) (a .regs .now)) _ (l .i) (c .before .before .before .before .before .loop-test .taken) (simp (inner-at (a .regs .now) (l .i * 32) 32 (omega arith) 0 (omega arith), add-zero) (sym (c .before .processor-wrong .ensures) ∙ c .if1 .taken)))
+returns c = let a = c .before .before .before .before .before .before .before .before .args in let l = c .before .before .before .before .before .before .loop in sym (any-yes (registersAt (a .t1) (a .regs .now)) _ (l .i) (c .before .before .before .before .before .loop-test .taken) (simp (part-at (a .regs .now) (l .i * 32) 32 0 (omega arith), add-zero) (sym (c .before .processor-wrong .ensures) ∙ c .if1 .taken)))
 
 add-i : tie.Need-add-i Inv-loop μ-loop
 add-i c = omega arith
@@ -48,7 +48,7 @@ loop-less : tie.Need-loop-less Inv-loop μ-loop
 loop-less c = omega arith
 
 loop-again : tie.Need-loop-again Inv-loop μ-loop
-loop-again c = let a = c .before .before .before .before .before .before .before .before .args in let l = c .before .before .before .before .before .before .loop in (any-more (registersAt (a .t1) (a .regs .now)) (l .i) (l .inv .0) (simp (inner-at (a .regs .now) (l .i * 32) 32 (omega arith) 0 (omega arith), add-zero) (sym (c .before .processor-wrong .ensures) ∙ c .if1 .left)), omega arith)
+loop-again c = let a = c .before .before .before .before .before .before .before .before .args in let l = c .before .before .before .before .before .before .loop in (any-more (registersAt (a .t1) (a .regs .now)) (l .i) (l .inv .0) (simp (part-at (a .regs .now) (l .i * 32) 32 0 (omega arith), add-zero) (sym (c .before .processor-wrong .ensures) ∙ c .if1 .left)), omega arith)
 
 returns-2 : tie.Need-returns-2 Inv-loop μ-loop
 returns-2 c = sym (rw (le-antisymm (c .loop-test .left) (c .before .loop .inv .1)) (c .before .loop .inv .0))

@@ -1,0 +1,94 @@
+-- The three demands: a theorem for each statement of specs/Demands.antt, in its order.
+use mathlib.Core.Path.{_≡_, refl, sym, ap, subst, _∙_}
+use mathlib.Core.Bool.{false}
+use Prim.Native.Nat.{ℕ}
+use native.Mathlib.Omega.{arith}
+use borrow.Author.Tests.{ne-eqb}
+use lib.Dec.{eqb}
+use lib.ListN.{length, getD}
+use Rattle.dlx.specs.Choice.{if_then_else_}
+use Rattle.dlx.specs.Machine.{steps}
+use Rattle.translate.specs.Memory.{loneMemory}
+use Rattle.translate.proofs.Tests.{by-eq}
+use Rattle.house.specs.House.{noHouse}
+use Rattle.house.specs.Damage.{damaged}
+use Rattle.house.specs.Boot.{bootVerdict}
+use Rattle.house.specs.Turns.{World, world}
+use Rattle.house.specs.Calls.{bootCall, runVerdict, runCall, oneVerdict, startCall, stopCall, emptyCall, readVerdict, readCall}
+use Rattle.house.specs.Histories.{booted, turnsMade, loneAtBoot}
+use Rattle.house.specs.Demands.{RefusedMeansUntouched, Isolation, RunIsolation, NeverDamaged, Step, WithinRuns, Reach, Histories, EqualGuests, EqualCounters, ReadsThosePages, Fairness}
+use Rattle.house.proofs.Verdicts.{run-done}
+use Rattle.house.proofs.Undamaged.{sound}
+use Rattle.house.proofs.Isolated.{step-isolated}
+use Rattle.house.proofs.IsolatedRun.{same-verdict, answers-alike}
+use Rattle.house.proofs.Booted.{booted-whole, booted-ready}
+use Rattle.house.proofs.Stays.{history-stays}
+use Rattle.house.proofs.Standing.{step-of}
+use Rattle.house.proofs.Grown.{standing, run-grown, run-busy}
+use Rattle.house.proofs.Landings.{lands}
+use Rattle.house.proofs.Counted.{at-end}
+use Rattle.house.proofs.ReadOut.{reads-pages}
+use Rattle.house.proofs.Fairness.{others-most}
+
+-- ---- demand 1
+
+refused-given : {A : Type 0} (n : ℕ) (done given : A) → (n ≡ 0 → ⊥) → (if eqb n 0 then done else given) ≡ given
+refused-given n done given r = rw (ne-eqb n 0 r)
+
+pub refused-means-untouched : RefusedMeansUntouched
+unfolding bootCall runCall startCall stopCall emptyCall readCall
+refused-means-untouched = record {
+  boot = λ ps fr m q. refused-given (bootVerdict ps q fr (length m) .number) _ (world noHouse m);
+  run = λ w k. refused-given (runVerdict w k .number) _ w;
+  start = λ w i. refused-given (oneVerdict (w .house) i .number) _ w;
+  stop = λ w i. refused-given (oneVerdict (w .house) i .number) _ w;
+  empty = λ w i. refused-given (oneVerdict (w .house) i .number) _ w;
+  read = λ w i a n out r. (refl, refused-given (readVerdict w i a n out .number) _ out r);
+}
+
+pub isolation-demand : Isolation
+isolation-demand h m m′ s e n l l′ = step-isolated h m m′ (sound h e m s l n) (l ∙ sym l′)
+
+pub run-isolation : RunIsolation
+unfolding runCall
+run-isolation h m m′ k s long same =
+    let a = answers-alike h m m′ s long same k in
+    (same-verdict h m m′ s long same k, a .house, a .own, a .others)
+
+-- ---- demand 2
+
+pub never-damaged : NeverDamaged
+never-damaged b t w g =
+    subst (λ (x : World). damaged (x .house) ≡ false) (sym (g .1))
+    (history-stays (booted b) (booted-ready b t .typed) (booted-whole b) (g .0) .whole)
+
+pub step-demand : Step
+step-demand b w g _ = step-of b w (standing b w g)
+
+pub within-runs : WithinRuns
+unfolding runCall
+within-runs b w g k j e l = let d = run-done w k e in (run-grown b w g k j d l, run-busy b w g k j d l)
+
+pub reach-demand : Reach
+reach-demand b w g = lands b w (standing b w g)
+
+-- ---- demand 3
+
+pub histories-demand : Histories
+histories-demand b cs i l = let e = at-end b i l cs in (e .lone, e .counter)
+
+pub equal-guests : EqualGuests
+equal-guests b cs cs′ i l e =
+    at-end b i l cs .lone
+    ∙ ap (λ (k : ℕ). steps (loneMemory (getD (b .pages) i 0)) k (loneAtBoot b i)) e
+    ∙ sym (at-end b i l cs′ .lone)
+
+pub equal-counters : EqualCounters
+equal-counters b cs cs′ i l few few′ e = equal-guests b cs cs′ i l (omega (arith, at-end b i l cs .counter, at-end b i l cs′ .counter))
+
+pub reads-those-pages : ReadsThosePages
+reads-those-pages b w g = reads-pages w
+
+pub fairness-demand : Fairness
+fairness-demand b w g cs i m e l =
+    by-eq (turnsMade cs w i) 0 (λ z. omega (arith, others-most b w g cs i m e z)) (λ n. omega arith)

@@ -1,0 +1,77 @@
+-- The current guest's step, in a house that is not damaged: it keeps the numbers words, register 0 zero, MODE and EMODE below 2, and every shadow entry proper.
+use mathlib.Core.Path.{refl}
+use Prim.Native.Nat.{ℕ, _*_, _^_, _<_}
+use native.Mathlib.Omega.{arith}
+use borrow.Author.Tests.{ltb-true, ltb-false}
+use lib.Dec.{ltb}
+use lib.ListN.{length, List·getD-eq-default}
+use Rattle.dlx.proofs.Kept.{Kept, step-kept}
+use Rattle.translate.specs.Walk.{entries}
+use Rattle.translate.proofs.Entries.{placed-listed}
+use Rattle.translate.proofs.Kept.{KeptHost}
+use Rattle.translate.proofs.Each.{Each, each-keeps}
+use Rattle.translate.proofs.Tests.{by-test}
+use Rattle.house.specs.House.{pagesOf, framesOf, shadowOf}
+use Rattle.house.specs.Turns.{World, guest, guestMemory, guestStep}
+use Rattle.house.specs.Sound.{Sound, Proper, Ready}
+use Rattle.house.proofs.Parts.{part-each, inner-length}
+use Rattle.house.proofs.Conditions.{empty-proper, own-proper}
+use Rattle.house.proofs.Damage.{undamaged-from}
+use Rattle.house.proofs.Undamaged.{sound}
+
+module _ (w : World) (r : Ready w) where
+  abbrev i : ℕ
+  i = w .house .current
+
+  pub ready-sound : Sound w
+  ready-sound = sound (w .house) (undamaged-from (w .house) (r .whole)) (w .memory) (r .typed .shaped) (r .size) (r .busy)
+
+  pub here : i < w .house .count
+  here = r .whole .busy (r .busy) .0
+
+  core-kept : Kept (guest w i .0)
+  core-kept =
+      let p = r .typed .parts i in
+      record {
+        processor = record {
+          dpc = p .dpc;
+          pc = p .pc;
+          sr = p .sr;
+          esr = p .esr;
+          eca = p .eca;
+          epc = p .epc;
+          edpc = p .edpc;
+          edata = p .edata;
+          mode = omega (arith, r .whole .mode i here);
+          emode = omega (arith, r .whole .emode i here);
+        };
+        registers = record {
+          count = inner-length (w .house .regs) (i * 32) 32 (omega (arith, r .typed .shaped .regs, here, r .whole .few));
+          first = r .whole .first i here;
+          words = part-each (λ x. x < 2 ^ 32) (w .house .regs) (i * 32) 32 (omega arith) (r .typed .regs);
+        };
+      }
+
+  memory-kept : KeptHost (framesOf (w .house) i) (pagesOf (w .house) i) (length (w .memory)) (guest w i .1)
+  memory-kept = record {
+    table = record { pto = r .typed .parts i .pto; ptl = r .typed .parts i .ptl };
+    long = refl;
+    words = r .typed .memory;
+    shadowed = ready-sound .each i here .shadowed;
+    shadow = part-each (λ x. x < 2 ^ 32) (w .house .shadows) (i * 256) 256 (omega arith) (r .typed .shadows);
+  }
+
+  shadow-proper : Each (Proper (framesOf (w .house) i) (pagesOf (w .house) i)) (guest w i .1)
+  shadow-proper px =
+      by-test (ltb px entries)
+      (λ t. r .whole .proper i px here (ltb-true px entries t))
+      (λ t. rw (List·getD-eq-default (shadowOf (w .house) i) 0 {n = px} (omega (arith, ltb-false px entries t, memory-kept .shadowed .count))) (empty-proper (framesOf (w .house) i) (pagesOf (w .house) i)))
+
+  pub step-all : Kept (guestStep w i .0 .core) × (KeptHost (framesOf (w .house) i) (pagesOf (w .house) i) (length (w .memory)) (guestStep w i .1) × Each (Proper (framesOf (w .house) i) (pagesOf (w .house) i)) (guestStep w i .1))
+  unfolding guestStep
+  step-all =
+      let fr = framesOf (w .house) i in
+      let n = pagesOf (w .house) i in
+      step-kept _ (guestMemory (w .house) i)
+      (each-keeps fr n (Proper fr n) (empty-proper fr n) (own-proper fr n) (length (w .memory)) (placed-listed (ready-sound .each i here .placed)))
+      (guest w i .0) (guest w i .1) core-kept (memory-kept, shadow-proper)
