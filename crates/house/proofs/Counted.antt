@@ -17,8 +17,8 @@ use Rattle.house.specs.Turns.{World, world, hostStep, hostSteps}
 use Rattle.house.specs.Calls.{runVerdict, runCall, oneVerdict, started, stopped, emptiedHouse, startCall, stopCall, emptyCall, readCall}
 use Rattle.house.specs.Histories.{Boot, booted, Call, run, start, stop, empty, readOut, after, history, turnsIn, stepsOf, turnsMade, loneOf, loneAtBoot}
 use Rattle.house.specs.Demands.{StepOf}
-use Rattle.house.proofs.Booted.{booted-partition, booted-pages}
-use Rattle.house.proofs.BootedGuests.{booted-lone}
+use Rattle.house.proofs.FreshHouse.{booted-partition, booted-pages}
+use Rattle.house.proofs.FreshGuests.{booted-lone}
 use Rattle.house.proofs.Grown.{standing-boot, standing-steps, standing-after}
 use Rattle.house.proofs.Standing.{Standing, step-of}
 

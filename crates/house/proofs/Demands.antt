@@ -21,7 +21,7 @@ use Rattle.house.proofs.Verdicts.{run-done}
 use Rattle.house.proofs.Undamaged.{sound}
 use Rattle.house.proofs.Isolated.{step-isolated}
 use Rattle.house.proofs.IsolatedRun.{same-verdict, answers-alike}
-use Rattle.house.proofs.Booted.{booted-whole, booted-ready}
+use Rattle.house.proofs.FreshHouse.{booted-whole, booted-ready}
 use Rattle.house.proofs.Stays.{history-stays}
 use Rattle.house.proofs.Standing.{step-of}
 use Rattle.house.proofs.Grown.{standing, run-grown, run-busy}

@@ -19,14 +19,14 @@ use Rattle.house.specs.Turns.{World, world, turn, hostSteps}
 use Rattle.house.specs.Calls.{runVerdict, runCall, withTurn, started, stopped, emptiedHouse}
 use Rattle.house.specs.Histories.{Boot, booted, Call, run, after, history, Grown}
 use Rattle.house.specs.declared.Turn.{Turn}
-use Rattle.house.proofs.Booted.{booted-shaped, booted-shadow, booted-undamaged}
+use Rattle.house.proofs.FreshHouse.{booted-shaped, booted-shadow, booted-undamaged}
 use Rattle.house.proofs.Emptied.{emptied-shaped, emptied-own, emptied-other}
 use Rattle.house.proofs.SameLayout.{same-layout, layout-on, changed-layout}
 use Rattle.house.proofs.Undamaged.{sound}
 use Rattle.house.proofs.Verdicts.{RunDone}
 use Rattle.house.proofs.Standing.{RightShadow, Standing, standing-small, standing-step}
 use Rattle.house.proofs.Turns.{next-below, steps-keep, sound-steps}
-use Rattle.house.proofs.AfterCalls.{Done, after-keeps, history-keeps}
+use Rattle.house.proofs.LeftByCalls.{Done, after-keeps, history-keeps}
 
 -- an empty shadow is right
 fresh-right : (w : World) (i : ℕ) → shadowOf (w .house) i ≡ freshShadow → RightShadow w i

@@ -7,7 +7,7 @@ use Rattle.house.specs.Lists.{any, firstFrom}
 use Rattle.house.specs.Boot.{sum, firstOf, bootVerdict}
 use Rattle.house.specs.Sound.{Ready}
 use Rattle.house.specs.Histories.{Boot, booted}
-use Rattle.house.proofs.Booted.{booted-ready}
+use Rattle.house.proofs.FreshHouse.{booted-ready}
 
 pub two-guests : Boot
 unfolding bootVerdict firstOf any firstFrom sum

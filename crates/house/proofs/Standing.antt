@@ -32,7 +32,7 @@ use Rattle.house.proofs.Searches.{length-listFrom, listFrom-at, listFro
 use Rattle.house.proofs.Turns.{turn-here, step-registers, settled-shaped, settled-partition, settled-registers, settled-shadow, other-partition, other-registers, other-shadow}
 use Rattle.house.proofs.SameLayout.{layout-on, step-layout}
 use Rattle.house.proofs.Undamaged.{sound-partition}
-use Rattle.house.proofs.Booted.{booted-shaped, booted-undamaged, booted-whole}
+use Rattle.house.proofs.FreshHouse.{booted-shaped, booted-undamaged, booted-whole}
 
 -- every valid entry of the shadow is what the guest's table and the host's list give now
 abbrev pub RightShadow : World → ℕ → Type 0

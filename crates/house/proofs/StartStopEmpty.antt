@@ -25,7 +25,7 @@ use Rattle.house.proofs.Parts.{outer-each}
 use Rattle.house.proofs.Lists.{any-at, any-none}
 use Rattle.house.proofs.Turns.{next-below, next-runs}
 use Rattle.house.proofs.Undamaged.{undamaged-gives}
-use Rattle.house.proofs.Changed.{FlagsRight, TurnRight, ShadowsRight, same-flags, same-shadows, changed-stays}
+use Rattle.house.proofs.HouseChanged.{FlagsRight, TurnRight, ShadowsRight, same-flags, same-shadows, changed-stays}
 use Rattle.house.proofs.Verdicts.{OneDone}
 
 module _ (w : World) (i : ℕ) (y : Typed w) (d : OneDone (w .house) i) where

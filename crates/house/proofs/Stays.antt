@@ -11,7 +11,7 @@ use Rattle.house.specs.Histories.{Call, after, history}
 use Rattle.house.proofs.Undamaged.{undamaged-gives}
 use Rattle.house.proofs.Verdicts.{RunDone}
 use Rattle.house.proofs.SameLayout.{same-layout, layout-on}
-use Rattle.house.proofs.AfterCalls.{Done, after-keeps, history-keeps}
+use Rattle.house.proofs.LeftByCalls.{Done, after-keeps, history-keeps}
 use Rattle.house.proofs.HostStep.{steps-stay}
 use Rattle.house.proofs.StartStopEmpty.{started-stays, stopped-stays, emptied-stays}
 

@@ -7,3 +7,4 @@ pub mod Sound
 pub mod Calls
 pub mod Histories
 pub mod Demands
+pub mod Examples

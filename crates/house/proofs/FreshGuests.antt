@@ -9,7 +9,7 @@ use Rattle.house.specs.Lists.{listFrom}
 use Rattle.house.specs.House.{framesOf}
 use Rattle.house.specs.Histories.{Boot, booted, ownWords, loneOf, loneAtBoot}
 use Rattle.house.proofs.Searches.{listFrom-same}
-use Rattle.house.proofs.Booted.{booted-few, booted-partition, booted-frames, booted-registers}
+use Rattle.house.proofs.FreshHouse.{booted-few, booted-partition, booted-frames, booted-registers}
 
 module _ (b : Boot) (i : ℕ) (l : i < length (b .pages)) where
   booted-words : ownWords (booted b) i ≡ loneAtBoot b i .1 .words

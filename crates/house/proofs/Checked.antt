@@ -1,0 +1,122 @@
+-- The examples hold: the single claim about the rules.
+use mathlib.Core.Path.{_≡_, refl, sym, _∙_}
+use mathlib.Core.Bool.{Bool, true, false, _&&_}
+use mathlib.Core.List.{List, [], _∷_, _++_}
+use Prim.Native.Nat.{ℕ, _+_}
+use native.Mathlib.Omega.{arith}
+use borrow.Author.Tests.{ltb-true, ltb-false, eq-eqb, ne-eqb}
+use lib.Count.{trailingZeros}
+use lib.Dec.{ltb, eqb}
+use lib.ListN.{length, getD, set, take, drop, length-take, length-set, List·getD-eq-default}
+use lib.Seq.{getD-take, getD-drop, getD-set-same, getD-set-other}
+use Rattle.dlx.specs.Choice.{if_then_else_}
+use Rattle.dlx.specs.Words.{extendedBy, readIn, holds}
+use Rattle.dlx.specs.Instructions.{registerType, instructionOf}
+use Rattle.dlx.specs.Processor.{specialOf, withSpecial}
+use Rattle.dlx.specs.Interrupts.{levelOf, interrupted}
+use Rattle.dlx.specs.Execute.{written, valueOf, overflowsOf, operated, reached, loads, stores, movedTo, effectOf}
+use Rattle.dlx.specs.Machine.{executed, fetched, loaded, stored, accessed, settled, retabled, step}
+use Rattle.dlx.specs.Examples.{all}
+use Rattle.translate.specs.Entries.{judged, composed}
+use Rattle.translate.specs.Walk.{walked, direct}
+use Rattle.translate.specs.Memory.{hosted, given, filled, looked, served, hostRead, emptied, hostWritten, hostReads, hostWrites}
+use Rattle.translate.proofs.Tests.{by-test, by-eq, and-left, getD-replicate-same}
+use Rattle.house.specs.Lists.{inner, outer, listFrom, any, firstFrom}
+use Rattle.house.specs.House.{noHouse}
+use Rattle.house.specs.Damage.{outsideLimits, frameTwice, turnWrong, registersWrong, shadowWrong, unusedWrong, partitionUsed, damaged}
+use Rattle.house.specs.Boot.{firstOf, sum, bootVerdict, laid, offset, bootedHouse}
+use Rattle.house.specs.Turns.{nextFrom, turnOf, guestStep, settledHouse, stepWith, hostStep, hostSteps}
+use Rattle.house.specs.Calls.{bootCall, runVerdict, runCall, oneVerdict, started, stopped, emptiedHouse, startCall, stopCall, emptyCall, readVerdict, readOut, readCall}
+use Rattle.house.specs.Examples.{alone, two, idle, three, pair, interrupt, current, answers, same, flags, fields, numbers, sameHouse, ran, once, mapped, papers, plain, unbooted, boots, widest, after, trapped, six, counts, turns, refuses, reading, gives, calls, beyond, twice, outOfTurn, misset, astray, used, leftover, damages, places, whole}
+use Rattle.house.proofs.Lists.{and-right}
+use Rattle.house.proofs.Searches.{getD-listFrom, length-listFrom}
+
+-- ---- what stands at a place of a list, without walking there
+
+rule-at : (f : ℕ → ℕ) (n i : ℕ) → getD (listFrom f 0 n) i 0 ≡ (if ltb i n then f i else 0)
+rule-at f n i =
+    by-test (ltb i n)
+    (λ e. let z : 0 + i ≡ i = omega arith in rw (e, getD-listFrom f 0 0 n i (ltb-true i n e), z))
+    (λ e. rw (e, List·getD-eq-default (listFrom f 0 n) 0 {n = i} (omega (arith, ltb-false i n e, length-listFrom f 0 n))))
+
+part-at : (a s : ℕ) (m : List ℕ) (i : ℕ) → getD (inner a s m) i 0 ≡ (if ltb i s then getD m (a + i) 0 else 0)
+unfolding inner
+part-at a s m i =
+    by-test (ltb i s)
+    (λ e. rw (e, getD-take s (drop a m) i 0 (ltb-true i s e), getD-drop a m i 0))
+    (λ e. rw (e, List·getD-eq-default (take s (drop a m)) 0 {n = i} (omega (arith, ltb-false i s e, length-take s (drop a m)))))
+
+set-at : (l : List ℕ) (i x j : ℕ) → getD (set l i x) j 0 ≡ (if eqb j i && ltb j (length l) then x else getD l j 0)
+set-at l i x j =
+    by-eq j i
+    (λ e. by-test (ltb j (length l))
+    (λ f. rw (eq-eqb j i e, f, e) (getD-set-same l i x 0 (omega (arith, ltb-true j (length l) f, e))))
+    (λ f. rw (eq-eqb j i e, f) (List·getD-eq-default (set l i x) 0 {n = j} (omega (arith, ltb-false j (length l) f, length-set l i x)) ∙ sym (List·getD-eq-default l 0 {n = j} (omega (arith, ltb-false j (length l) f))))))
+    (λ e. rw (ne-eqb j i e) (getD-set-other l i j x 0 e))
+
+joined : (a b : List Bool) → all a ≡ true → all b ≡ true → all (a ++ b) ≡ true
+unfolding all
+joined [] b e f = f
+joined (x ∷ a) b e f = rw (and-left x (all a) e) (joined a b (and-right x (all a) e) f)
+
+-- ---- names to open together
+
+-- all that the examples compute with, but damage
+computing : ℕ
+unfolding all papers boots widest turns calls whole damages places alone two idle three pair interrupt current answers same flags fields numbers sameHouse ran once mapped plain unbooted after trapped six counts refuses reading gives beyond twice outOfTurn misset astray used leftover inner outer listFrom any firstFrom firstOf sum bootVerdict laid offset bootedHouse nextFrom turnOf guestStep settledHouse stepWith hostStep hostSteps bootCall runVerdict runCall oneVerdict started stopped emptiedHouse startCall stopCall emptyCall readVerdict readOut readCall judged composed walked direct hosted given filled looked served hostRead emptied hostWritten hostReads hostWrites step fetched executed loaded stored accessed settled retabled instructionOf registerType effectOf written valueOf overflowsOf operated reached loads stores movedTo specialOf withSpecial interrupted levelOf trailingZeros extendedBy readIn holds
+computing = 0
+
+-- how a call comes to its answer
+answering : ℕ
+unfolding all calls refuses reading gives answers runVerdict runCall oneVerdict startCall stopCall emptyCall readVerdict readCall firstOf
+answering = 0
+
+-- damage, and the houses in which it is looked for
+damaging : ℕ
+unfolding all places damaged outsideLimits frameTwice turnWrong registersWrong shadowWrong unusedWrong partitionUsed two idle stopped bootedHouse
+damaging = 0
+
+-- ---- the claim
+
+-- the frames 0 to 255 stand once each
+apart : any (λ i. any (λ j. eqb (getD (listFrom (λ i. i) 0 256) j 0) (getD (listFrom (λ i. i) 0 256) i 0)) i) 256 ≡ false
+apart = simp rule-at (unfold any in refl)
+
+pub checked : all (papers ++ (boots ++ (widest ++ (turns ++ (calls ++ (damages ++ (places ++ whole))))))) ≡ true
+checked =
+    joined papers _ of-papers (joined boots _ of-boots (joined widest _ of-widest (joined turns _ of-turns
+    (joined calls _ of-calls (joined damages _ of-damages (joined places whole of-places of-whole))))))
+  where
+    of-papers : all papers ≡ true
+    of-papers = unfold computing in refl
+
+    of-boots : all boots ≡ true
+    of-boots = unfold computing in refl
+
+    of-widest : all widest ≡ true
+    of-widest = unfold all widest answers bootVerdict firstOf listFrom in rw apart (unfold computing in refl)
+
+    of-turns : all turns ≡ true
+    of-turns = unfold computing in refl
+
+    -- Damage reads thousands of places: first each is turned into what stands there, then all is computed.
+    two-whole : damaged two ≡ false
+    two-whole = unfold damaging in simp (part-at, rule-at, getD-replicate-same) (unfold computing in refl)
+
+    idle-whole : damaged idle ≡ false
+    idle-whole = unfold damaging in simp (part-at, rule-at, getD-replicate-same) (unfold computing in refl)
+
+    none-damaged : damaged noHouse ≡ true
+    none-damaged = unfold damaging in refl
+
+    of-calls : all calls ≡ true
+    of-calls = unfold answering in simp (two-whole, idle-whole, none-damaged) (unfold computing damaged in refl)
+
+    of-damages : all damages ≡ true
+    of-damages = unfold damaging computing in refl
+
+    of-places : all places ≡ true
+    of-places = unfold damaging in simp (set-at, part-at, rule-at, getD-replicate-same) (unfold computing in refl)
+
+    of-whole : all whole ≡ true
+    of-whole = unfold all whole in simp (two-whole, idle-whole, none-damaged)
