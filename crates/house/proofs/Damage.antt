@@ -1,5 +1,5 @@
--- A house of which every statement of `Undamaged` holds is not damaged.
-use mathlib.Core.Path.{_≡_, ap}
+-- A house of which every statement of `Undamaged` holds is not damaged; the house of no partitions is.
+use mathlib.Core.Path.{_≡_, refl, ap}
 use mathlib.Core.Bool.{Bool, true, false, not}
 use Prim.Native.Nat.{ℕ, _*_, _/_, _%_, _<_, _≤_}
 use native.Mathlib.Omega.{arith}
@@ -10,7 +10,7 @@ use Rattle.dlx.proofs.Kept.{either}
 use Rattle.translate.specs.Walk.{entries}
 use Rattle.translate.proofs.Tests.{by-test}
 use Rattle.house.specs.Lists.{any}
-use Rattle.house.specs.House.{pagesOf, runs, framesOf, shadowOf}
+use Rattle.house.specs.House.{noHouse, pagesOf, runs, framesOf, shadowOf}
 use Rattle.house.specs.Damage.{wholeFrames, outsideLimits, stands, frameTwice, turnWrong, registersWrong, shadowWrong, unusedWrong, damaged}
 use Rattle.house.specs.Sound.{Undamaged}
 use Rattle.house.specs.declared.House.{House}
@@ -83,3 +83,8 @@ module _ (h : House) (u : Undamaged h) where
 
   pub undamaged-from : damaged h ≡ false
   undamaged-from = none-wrong h within-limits each-once turn-right registers-right shadows-right unused-right
+
+-- the house of no partitions is damaged, so that every call on it is refused
+pub none-damaged : damaged noHouse ≡ true
+unfolding damaged outsideLimits
+none-damaged = refl

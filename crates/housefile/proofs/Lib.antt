@@ -1,0 +1,9 @@
+pub mod Checked
+pub mod Contents
+pub mod EachKind
+pub mod InBody
+pub mod Machine
+pub mod Parts
+pub mod Steps
+pub mod WholeFile
+pub mod Words

@@ -1,0 +1,89 @@
+-- Worked examples: each some bytes, and the text that they are. proofs/Checked.antt checks them by a single claim.
+use mathlib.Core.Bool.{Bool, true, false, _&&_}
+use mathlib.Core.List.{List, [], _∷_, _++_}
+use Prim.Native.Nat.{ℕ, _-_, _^_}
+use Prim.Native.String.{String}
+use lib.Dec.{eqb}
+use lib.ListN.{replicate}
+use Rattle.dlx.specs.Processor.{freshOf}
+use Rattle.dlx.specs.declared.partition.Partition.{Partition}
+use Rattle.house.specs.Lists.{listFrom}
+use Rattle.house.specs.House.{noPartition, noHouse}
+use Rattle.house.specs.Boot.{bootedHouse}
+use Rattle.house.specs.Turns.{World, world, hostSteps}
+use Rattle.house.specs.declared.House.{House}
+use Rattle.report.specs.Report.{ascii, decimal, reportOf, refusedText}
+
+unfoldable pub same : List ℕ → List ℕ → Bool
+same [] [] = true
+same [] (y ∷ ys) = false
+same (x ∷ xs) [] = false
+same (x ∷ xs) (y ∷ ys) = eqb x y && same xs ys
+
+unfoldable pub all : List (List ℕ × String) → Bool
+all [] = true
+all ((bytes, text) ∷ rest) = same bytes (ascii text) && all rest
+
+unfoldable pub numbers : List (List ℕ × String)
+numbers =
+    (decimal 0, "0")
+    ∷ (decimal 9, "9")
+    ∷ (decimal 10, "10")
+    ∷ (decimal 1007, "1007")
+    ∷ (decimal (2 ^ 64 - 1), "18446744073709551615")
+    ∷ []
+
+unfoldable pub refusals : List (List ℕ × String)
+refusals =
+    (refusedText 15 0, "refused 15 0\n")
+    ∷ (refusedText 2 7, "refused 2 7\n")
+    ∷ (refusedText 15 (2 ^ 64 - 1), "refused 15 18446744073709551615\n")
+    ∷ []
+
+-- one partition of frame 0, q 2, in a memory of 16 frames that begins with 0x20010005, 0xAC010008
+unfoldable pub first : World
+first = world (bootedHouse (1 ∷ []) 2 (0 ∷ []) 16384) (0x20010005 ∷ 0xAC010008 ∷ replicate 16382 0)
+
+-- eight partitions of 1 to 8 pages at boot
+unfoldable pub eight : House
+eight = bootedHouse (1 ∷ 2 ∷ 3 ∷ 4 ∷ 5 ∷ 6 ∷ 7 ∷ 8 ∷ []) 1 (listFrom (λ k. k) 0 36) 36864
+
+-- every number as large as it can be
+abbrev largest : Partition
+largest = record {
+  pages = 2 ^ 32 - 1;
+  processor = record { dpc = 2 ^ 32 - 1; pc = 2 ^ 32 - 1; sr = 0; esr = 0; eca = 0; epc = 0; edpc = 0; edata = 0; mode = 2 ^ 32 - 1; emode = 0 };
+  table = record { pto = 0; ptl = 0 };
+  counter = 2 ^ 64 - 1;
+}
+
+-- a house made by hand, whose count names more partitions than it has
+unfoldable pub byHand : House
+byHand = record {
+  count = 2 ^ 32 - 1;
+  q = 0;
+  words = 0;
+  current = 0;
+  left = 0;
+  running = replicate 8 true;
+  parts = replicate 6 noPartition ++ (largest ∷ freshOf 256 ∷ []);
+  regs = replicate 256 0;
+  frames = replicate 2048 0;
+  shadows = replicate 2048 0;
+}
+
+unfoldable pub reports : List (List ℕ × String)
+reports =
+    (reportOf noHouse, "partition pages steps mode dpc pc\n")
+    ∷ (reportOf (first .house), "partition pages steps mode dpc pc\n0 1 0 0 0 4\n")
+    -- 01's whole output: 3 steps
+    ∷ (reportOf (hostSteps 3 first .house), "partition pages steps mode dpc pc\n0 1 3 0 0 4\n")
+    ∷ (
+      reportOf eight,
+      "partition pages steps mode dpc pc\n0 1 0 0 0 4\n1 2 0 0 0 4\n2 3 0 0 0 4\n3 4 0 0 0 4\n4 5 0 0 0 4\n5 6 0 0 0 4\n6 7 0 0 0 4\n7 8 0 0 0 4\n",
+    )
+    ∷ (
+      reportOf byHand,
+      "partition pages steps mode dpc pc\n0 0 0 0 0 0\n1 0 0 0 0 0\n2 0 0 0 0 0\n3 0 0 0 0 0\n4 0 0 0 0 0\n5 0 0 0 0 0\n6 4294967295 18446744073709551615 4294967295 4294967295 4294967295\n7 256 0 0 0 4\n",
+    )
+    ∷ []

@@ -1,0 +1,62 @@
+-- The report of a house, and a refusal, as the bytes of their text.
+use mathlib.Core.Bool.{true, false}
+use mathlib.Core.List.{List, [], _∷_, _++_}
+use Prim.Native.Nat.{ℕ, zero, suc, _+_, _/_, _%_}
+use Prim.Native.Char.{code}
+use Prim.Native.String.{String, [] as no-text, _∷_ as _then_}
+use lib.Dec.{ltb}
+use lib.ListN.{take}
+use Rattle.dlx.specs.declared.partition.Partition.{Partition}
+use Rattle.house.specs.declared.House.{House}
+
+-- the bytes of a text in ASCII
+unfoldable pub ascii : String → List ℕ
+ascii no-text = []
+ascii (c then s) = code c ∷ ascii s
+
+-- ---- decimals
+
+abbrev pub digit : ℕ → ℕ
+digit d = 48 + d
+
+-- n in decimals, of at most k + 1 digits (unlike `if`, `elim` computes no branch but the one that applies)
+unfoldable pub decimalIn : ℕ → ℕ → List ℕ
+decimalIn zero n = digit n ∷ []
+decimalIn (suc k) n = elim (ltb n 10) [ true ↦ digit n ∷ [] | false ↦ decimalIn k (n / 10) ++ (digit (n % 10) ∷ []) ]
+
+-- n in decimals: n + 1 digits are always enough
+unfoldable pub decimal : ℕ → List ℕ
+decimal n = decimalIn n n
+
+-- ---- lines
+
+-- a number, and the byte behind it
+unfoldable pub field : ℕ → ℕ → List ℕ
+field n behind = decimal n ++ (behind ∷ [])
+
+-- numbers with a space between them, and a newline behind the last
+unfoldable pub line : ℕ → List ℕ → List ℕ
+line n [] = field n 10
+line n (m ∷ ms) = field n 32 ++ line m ms
+
+-- ---- the report
+
+unfoldable pub header : List ℕ
+header = ascii "partition pages steps mode dpc pc\n"
+
+-- partition i's line
+unfoldable pub lineOf : ℕ → Partition → List ℕ
+lineOf i p = line i (p .pages ∷ p .counter ∷ p .processor .mode ∷ p .processor .dpc ∷ p .processor .pc ∷ [])
+
+-- the lines of partitions that are numbered from i on
+unfoldable pub linesFrom : ℕ → List Partition → List ℕ
+linesFrom i [] = []
+linesFrom i (p ∷ ps) = lineOf i p ++ linesFrom (suc i) ps
+
+-- the header, then one line for each partition in order; a house made by hand with a count above 8 has 8
+unfoldable pub reportOf : House → List ℕ
+reportOf h = header ++ linesFrom 0 (take (h .count) (h .parts))
+
+-- a refusal's text: refused N D
+unfoldable pub refusedText : ℕ → ℕ → List ℕ
+refusedText n d = ascii "refused " ++ line n (d ∷ [])
