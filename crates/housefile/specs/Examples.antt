@@ -105,8 +105,8 @@ files =
     -- frame 16; a frame of 4,096 bytes
     ∷ wrongAt 24 (turns ++ (list (0 ∷ []) ++ (frame 16 1 1 ++ end)))
     ∷ wrongAt 24 (turns ++ (list (0 ∷ []) ++ (made 3 (replicate 4096 0) ++ end)))
-    -- a later frame replaces
-    ∷ both (isRight (1 ∷ []) (0 ∷ []) (λ m. word 0 8 m && word 1 9 m && word 1023 9 m && word 1024 0 m)) (turns ++ (list (0 ∷ []) ++ (frame 0 7 7 ++ (frame 0 8 9 ++ end))))
+    -- a later frame replaces (as a whole only: `reads` says that byte by byte gives the same)
+    ∷ isRight (1 ∷ []) (0 ∷ []) (λ m. word 0 8 m && word 1 9 m && word 1023 9 m && word 1024 0 m) (readingOf (turns ++ (list (0 ∷ []) ++ (frame 0 7 7 ++ (frame 0 8 9 ++ end)))))
     -- frame 15 is the last; a list after a frame
     ∷ isRight (1 ∷ []) (0 ∷ []) (λ m. word 15359 0 m && word 15360 3 m && word 16383 4 m) (readingOf (turns ++ (list (0 ∷ []) ++ (frame 15 3 4 ++ end))))
     ∷ isWrong 4130 (readingOf (turns ++ (list (0 ∷ []) ++ (frame 15 3 4 ++ (list (1 ∷ []) ++ end)))))

@@ -1,0 +1,116 @@
+-- What a command that was read says of itself.
+use mathlib.Core.Path.{_≡_, refl, sym, ap, _∙_}
+use mathlib.Core.List.{List}
+use Prim.Native.Nat.{ℕ, _+_, _*_, _-_, _<_, _≤_}
+use native.Mathlib.Omega.{arith}
+use borrow.Author.Tests.{ltb-false}
+use lib.Dec.{ltb, eqb}
+use lib.ListN.{length, drop, length-drop}
+use lib.Seq.{length-take-le}
+use Rattle.dlx.specs.Choice.{if_then_else_}
+use Rattle.dlx.proofs.Kept.{either}
+use Rattle.script.specs.declared.commands.Command.{Command}
+use Rattle.script.specs.Words.{wordAt}
+use Rattle.script.specs.Commands.{sizeOf, noCommand, commandOf}
+use Rattle.drill.specs.declared.reading.Reading.{Reading}
+use Rattle.drill.specs.Fit.{Stands, Plays, Boots}
+use Rattle.drill.specs.Player.{Player, lentOf, moreOf, playedOf}
+
+pub command-sized : (bs : List ℕ) → commandOf bs .size ≡ sizeOf (commandOf bs .op) (commandOf bs .a) (commandOf bs .c)
+unfolding commandOf sizeOf
+command-sized bs =
+    either (λ (c : Command). c .size ≡ sizeOf (c .op) (c .a) (c .c)) (ltb (length bs) 16)
+    (λ _. refl)
+    (λ _. either (λ (c : Command). c .size ≡ sizeOf (c .op) (c .a) (c .c)) (ltb (length bs) (sizeOf (wordAt bs 0) (wordAt bs 4) (wordAt bs 12)))
+    (λ _. refl)
+    (λ _. refl))
+
+pub command-inside : (bs : List ℕ) → commandOf bs .size ≤ length bs
+unfolding commandOf
+command-inside bs =
+    either (λ (c : Command). c .size ≤ length bs) (ltb (length bs) 16)
+    (λ _. omega arith)
+    (λ _. either (λ (c : Command). c .size ≤ length bs) (ltb (length bs) (sizeOf (wordAt bs 0) (wordAt bs 4) (wordAt bs 12)))
+    (λ _. omega arith)
+    (λ e. ltb-false (length bs) (sizeOf (wordAt bs 0) (wordAt bs 4) (wordAt bs 12)) e))
+
+pub stands-still : {r : Reading} {b l : ℕ} → Stands r b l → Stands r b (r .lent)
+stands-still p = record { inside = p .inside; held = p .held; sized = p .sized; lends = refl }
+
+pub lent-within : (c : Command) (lent words : ℕ) → lent ≤ words → lentOf c lent words ≤ words
+unfolding lentOf
+lent-within c lent words l = either (λ x. x ≤ words) (eqb (c .op) 8) (λ _. omega arith) (λ _. l)
+
+-- ---- what the size of a right command says
+
+pub sized-sixteen : (op a c : ℕ) → 0 < sizeOf op a c → 16 ≤ sizeOf op a c
+unfolding sizeOf
+sized-sixteen op a c =
+    either P (eqb op 0) (λ _ l. absurd (omega arith)) λ _.
+    either P (ltb 11 op) (λ _ l. absurd (omega arith)) λ _.
+    either P (eqb op 6) (λ _. either P (ltb 4096 c) (λ _ l. absurd (omega arith)) (λ _ l. omega arith)) λ _.
+    either P (eqb op 1)
+    (λ _. either P (ltb 16 a) (λ _ l. absurd (omega arith)) λ _.
+    either P (ltb 4096 c) (λ _ l. absurd (omega arith)) (λ _ l. omega arith))
+    (λ _ l. omega arith)
+  where
+    P : ℕ → Type 0
+    P n = 0 < n → 16 ≤ n
+
+pub sized-read : (a c : ℕ) → 0 < sizeOf 6 a c → (c ≤ 4096) × (sizeOf 6 a c ≡ 24)
+unfolding sizeOf
+sized-read a c =
+    either (λ (n : ℕ). 0 < n → (c ≤ 4096) × (n ≡ 24)) (ltb 4096 c)
+    (λ _ l. absurd (omega arith))
+    (λ t l. (ltb-false 4096 c t, refl))
+
+pub sized-boot : (a c : ℕ) → 0 < sizeOf 1 a c → (a ≤ 16) × (c ≤ 4096) × (sizeOf 1 a c ≡ 16 + 4 * (a + c))
+unfolding sizeOf
+sized-boot a c =
+    either Q (ltb 16 a) (λ _ l. absurd (omega arith)) λ t.
+    either Q (ltb 4096 c) (λ _ l. absurd (omega arith)) (λ u l. (ltb-false 16 a t, ltb-false 4096 c u, refl))
+  where
+    Q : ℕ → Type 0
+    Q n = 0 < n → (a ≤ 16) × (c ≤ 4096) × (n ≡ 16 + 4 * (a + c))
+
+-- ---- of a command that is played
+
+module _ {r : Reading} {b w : ℕ} (p : Plays r b w) where
+  pub plays-sixteen : 16 ≤ r .command .size
+  plays-sixteen = rw (p .stands .sized) (sized-sixteen (r .command .op) (r .command .a) (r .command .c) (rw (p .stands .sized) at (p .right)))
+
+  pub plays-inside : r .at + r .command .size ≤ b
+  plays-inside = omega (arith, p .stands .inside, p .stands .held)
+
+  pub plays-read : r .command .op ≡ 6 → (r .command .c ≤ 4096) × (r .command .size ≡ 24)
+  plays-read e =
+      let s : r .command .size ≡ sizeOf 6 (r .command .a) (r .command .c) = p .stands .sized ∙ ap (λ (x : ℕ). sizeOf x (r .command .a) (r .command .c)) e in
+      let q = sized-read (r .command .a) (r .command .c) (rw s at (p .right)) in
+      (q .0, s ∙ q .1)
+
+  pub plays-boot : (more : ℕ) → more ≡ r .command .size - 16 → r .command .op ≡ 1 → Boots (r .command) more
+  plays-boot more m e =
+      let s : r .command .size ≡ sizeOf 1 (r .command .a) (r .command .c) = p .stands .sized ∙ ap (λ (x : ℕ). sizeOf x (r .command .a) (r .command .c)) e in
+      let q = sized-boot (r .command .a) (r .command .c) (rw s at (p .right)) in
+      record { pages = q .0; frames = q .1; stands = omega (arith, q .2) }
+
+  pub more-length : (input : List ℕ) → length input ≡ b → length (moreOf r input) ≡ r .command .size - 16
+  more-length input e =
+      let l = plays-sixteen in
+      let i = plays-inside in
+      let n : r .at + r .command .size - (r .at + 16) ≤ length (drop (r .at + 16) input) = simp length-drop (omega arith) in
+      length-take-le (r .at + r .command .size - (r .at + 16)) (drop (r .at + 16) input) n ∙ omega arith
+
+-- no more words are lent after a command of the house
+played-lent : (c : Command) (more : List ℕ) (p : Player) → playedOf c more p .lent ≤ p .lent
+unfolding playedOf
+played-lent c more p =
+    either P (eqb (c .op) 9) (λ _. omega arith) λ _.
+    either P (eqb (c .op) 11) (λ _. omega arith) λ _.
+    either P (eqb (c .op) 6) (λ _. omega arith) (λ _. omega arith)
+  where
+    P : Player → Type 0
+    P x = x .lent ≤ p .lent
+
+pub played-within : (c : Command) (more : List ℕ) (p q : Player) (words : ℕ) → q ≡ playedOf c more p → p .lent ≤ words → q .lent ≤ words
+played-within c more p q words e l = omega (arith, ap (λ (x : Player). x .lent) e, played-lent c more p)

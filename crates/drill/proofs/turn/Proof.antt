@@ -1,0 +1,82 @@
+use mathlib.Core.Path.{_≡_, sym, ap, subst, _∙_}
+use Prim.Native.Nat.{ℕ, _≤_}
+use native.Mathlib.Omega.{arith}
+use lib.ListN.{length}
+use Rattle.drill.specs.Fit.{Stands}
+use Rattle.drill.specs.Player.{Player}
+use Rattle.drill.proofs.Commands.{stands-still, played-within}
+use borrow.Author.Needs.{needs}
+use Rattle.drill.proofs.turn.Statement.{statement}
+use Rattle.drill.proofs.turn.Tie as tie
+use Rattle.drill.proofs.turn.Reads as reads
+use Rattle.drill.proofs.turn.Lts as lts
+use Rattle.drill.proofs.calls.play.Reads as play-reads
+use Rattle.drill.proofs.reading.next.Reads as next-reads
+use Rattle.drill.proofs.reading.settle.Reads as settle-reads
+use Rattle.drill.proofs.told.flushed.Reads as flushed-reads
+
+-- src/main.rt:36:9
+flushed-requires : tie.Need-flushed-requires
+flushed-requires c κs = search needs
+
+-- src/main.rt:38:9
+play-requires : tie.Need-play-requires
+play-requires c κs = search needs
+
+-- src/main.rt:39:9
+next-requires : tie.Need-next-requires
+next-requires c κs = c .before .before .before .before .before .before .before .before .before .before .before .before .before .before .before .before .before .before .before .before .before .before .before .pre .0 .stands
+
+-- src/main.rt:40:9
+settle-requires : tie.Need-settle-requires
+settle-requires c κs =
+    let g = c .before .before .before .before .before .before .before .before .before .before .before .before .before .before .before .before .before .before .before .before .before .before .before .before .before .before .before .before .pre .0 in
+    let l = played-within _ _ _ _ (length (c .before .before .before .before .before .before .before .before .before .before .before .before .before .before .before .before .before .before .before .before .before .before .before .before .before .before .before .before .args .memory .now)) (c .before .before .before .before .before .before .before .before .before .before .before .before .before .before .play .ensures .0) (g .lent) in
+    let s = subst (λ (b : ℕ). Stands (c .before .before .before .before .next .result) b (c .before .before .before .before .before .before .before .before .before .before .before .before .before .before .play .result .lent)) (sym (c .before .before .before .before .next .kept .0)) (c .before .before .before .before .next .ensures) in
+    (stands-still s, omega (arith, s .lends, l, c .before .before .before .before .before .before .before .before .before .before .before .before .before .before .play .kept))
+
+-- src/main.rt:25:1
+same-length : tie.Need-same-length
+same-length c = search needs
+
+-- src/main.rt:25:1
+same-length-2 : tie.Need-same-length-2
+same-length-2 c = search needs
+
+-- src/main.rt:25:1
+same-length-3 : tie.Need-same-length-3
+same-length-3 c = search needs
+
+-- src/main.rt:25:1
+same-length-4 : tie.Need-same-length-4
+same-length-4 c = search needs
+
+-- src/main.rt:25:1
+same-length-5 : tie.Need-same-length-5
+same-length-5 c = search needs
+
+-- src/main.rt:25:1
+returns : tie.Need-returns
+returns c =
+    let g = c .before .before .before .before .before .before .before .before .before .before .before .before .before .before .before .before .before .before .before .before .before .before .before .before .before .before .before .before .before .before .before .before .before .before .pre .0 in
+    let z = c .before .before .before .before .before .settle .ensures in
+    record {
+      stands = subst (λ (b : ℕ). Stands (c .before .before .before .before .before .settle .result) b (c .before .before .before .before .before .settle .result .lent)) (c .before .before .before .before .before .before .before .before .before .before .next .kept .0) (z .0);
+      lent = omega (arith, z .1, c .before .before .before .before .before .before .before .before .before .before .before .before .before .before .before .before .before .before .before .before .play .kept);
+      used = omega (arith, c .before .before .before .before .before .before .before .before .before .before .before .before .before .before .before .before .before .before .before .before .play .ensures .1 .within, c .before .before .before .before .before .before .before .before .before .before .before .before .before .before .before .before .before .before .before .before .before .before .before .before .before .before .before .flushed .ensures);
+    }
+
+pub turn-spec : {M : Type 1} → statement M
+turn-spec =
+    tie.close
+    (tie.spec
+    flushed-requires
+    play-requires
+    next-requires
+    settle-requires
+    same-length
+    same-length-2
+    same-length-3
+    same-length-4
+    same-length-5
+    returns)

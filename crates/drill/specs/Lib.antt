@@ -1,0 +1,4 @@
+pub mod Fit
+pub mod Goes
+pub mod Player
+pub mod Told

@@ -1,0 +1,105 @@
+// The drill: plays a script of calls from standard input, and tells of the house after each call on standard output.
+// The script's format is FORMAT.md of the second emulator, which plays the same scripts.
+mod calls;
+mod reading;
+mod told;
+
+ghost use mathlib.Core.Path.{_≡_};
+ghost use Prim.Native.Nat.{_<_, _≤_};
+ghost use lib.ListN.{length};
+ghost use Rattle.drill.specs.Goes.{Goes};
+use house::House;
+use reading::Reading;
+
+// The most words of memory.
+const MOST_WORDS: usize = 262144;
+
+// What goes from turn to turn: a command of the house, or the end, is reached.
+struct State {
+    house: House,
+    reading: Reading,
+    used: usize,
+}
+
+// One command of the house, and on to the next.
+fn turn(
+    s: State,
+    input: &mut [u8],
+    memory: &mut [u32],
+    few: &mut [u32],
+    many: &mut [u32],
+    text: &mut [u8],
+) -> State
+    requires { ⌜ Goes s (length (now input)) (length (now memory)) ⌝ ∗ ⌜ 0 < s .reading .command .size ⌝ ∗ ⌜ 16 ≤ length (now few) ⌝ ∗ ⌜ 4096 ≤ length (now many) ⌝ ∗ ⌜ 262144 ≤ length (now text) ⌝ }
+    ensures { λ r. ⌜ Goes r (length (now (input .entry))) (length (now (memory .entry))) ⌝ }
+{
+    let used = told::flushed(text, s.used);
+    let here = s.reading;
+    let p = calls::play(s.house, here, input, memory, few, many, text, used);
+    let next = reading::next(input, here, p.lent);
+    let reached = reading::settle(input, memory, next);
+    let house = p.house;
+    State {
+        house,
+        reading: reached,
+        used: p.used,
+    }
+}
+
+// Plays to the end of the script or to a wrong command. No script has so many turns that the count would end them.
+fn play(input: &mut [u8], memory: &mut [u32], few: &mut [u32], many: &mut [u32], text: &mut [u8])
+    requires { ⌜ 16 ≤ length (now few) ⌝ ∗ ⌜ 4096 ≤ length (now many) ⌝ ∗ ⌜ 262144 ≤ length (now text) ⌝ }
+{
+    let first = reading::first(input);
+    let reached = reading::settle(input, memory, first);
+    let none = House::none();
+    let mut s = State {
+        house: none,
+        reading: reached,
+        used: 0,
+    };
+    let mut turns = u64::MAX;
+    while turns > 0 {
+        let here = s.reading;
+        let c = here.command;
+        if c.size == 0 {
+            told::finish(text, s.used, here);
+            return;
+        }
+        s = turn(s, input, memory, few, many, text);
+        turns -= 1;
+    }
+}
+
+fn memory_space() -> [u32; MOST_WORDS]
+    ensures { λ r. ⌜ 262144 ≡ length r ⌝ }
+{
+    [0; MOST_WORDS]
+}
+
+fn few_space() -> [u32; 16]
+    ensures { λ r. ⌜ 16 ≡ length r ⌝ }
+{
+    [0; 16]
+}
+
+fn many_space() -> [u32; 4096]
+    ensures { λ r. ⌜ 4096 ≡ length r ⌝ }
+{
+    [0; 4096]
+}
+
+fn text_space() -> [u8; 262144]
+    ensures { λ r. ⌜ 262144 ≡ length r ⌝ }
+{
+    [0; 262144]
+}
+
+fn main() {
+    let mut input = io::large_buffer();
+    let mut memory = memory_space();
+    let mut few = few_space();
+    let mut many = many_space();
+    let mut text = text_space();
+    play(&mut input, &mut memory, &mut few, &mut many, &mut text);
+}

@@ -1,0 +1,3 @@
+pub mod Commands
+pub mod Poke
+pub mod Words

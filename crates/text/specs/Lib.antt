@@ -1,0 +1,6 @@
+pub mod Ascii
+pub mod Digest
+pub mod Lines
+pub mod Numbers
+pub mod Partitions
+pub mod Puts

@@ -1,0 +1,184 @@
+// The lines that tell of the partitions. A partition of which every number is 0 has none.
+ghost use mathlib.Core.Path.{_≡_};
+ghost use Prim.Native.Nat.{_+_, _*_, _≤_};
+ghost use lib.ListN.{length};
+ghost use Rattle.text.specs.Partitions.{specialsOf, zerosOf, listedOf, blankOf, ownOf, entryOf, entriesOf, shadowOf, partitionOf, partitionsOf};
+ghost use Rattle.text.specs.Puts.{Puts};
+use crate::lines::row;
+use crate::numbers::decimal;
+use crate::numbers::number;
+use crate::numbers::numbers;
+use crate::numbers::put;
+use dlx::partition::Partition;
+use dlx::partition::Processor;
+use dlx::partition::Table;
+use house::House;
+
+// From DPC to EMODE, in the text's order.
+fn specials(p: Processor, t: Table) -> [u32; 12]
+    ensures { λ r. ⌜ r ≡ specialsOf p t ⌝ }
+{
+    [
+        p.dpc,
+        p.pc,
+        p.sr,
+        p.esr,
+        p.eca,
+        p.epc,
+        p.edpc,
+        p.edata,
+        p.mode,
+        t.pto,
+        t.ptl,
+        p.emode,
+    ]
+}
+
+// All of them are 0.
+fn zeros(words: &[u32]) -> bool
+    ensures { λ r. ⌜ r ≡ zerosOf (now (words .entry)) ⌝ }
+{
+    let mut i = 0;
+    while i < words.len() {
+        if words[i] != 0 {
+            return false;
+        }
+        i += 1;
+    }
+    true
+}
+
+// How many words there are up to the last that is not 0.
+fn listed(words: &[u32]) -> usize
+    ensures { λ r. ⌜ r ≡ listedOf (now (words .entry)) ⌝ }
+{
+    let mut n = words.len();
+    while n > 0 {
+        if words[n - 1] != 0 {
+            return n;
+        }
+        n -= 1;
+    }
+    n
+}
+
+fn blank(p: Partition, registers: &[u32], frames: &[u32], shadow: &[u32]) -> bool
+    ensures { λ r. ⌜ r ≡ blankOf p (now (registers .entry)) (now (frames .entry)) (now (shadow .entry)) ⌝ }
+{
+    if p.pages != 0 {
+        return false;
+    }
+    if p.counter != 0 {
+        return false;
+    }
+    let own = specials(p.processor, p.table);
+    if !zeros(&own) {
+        return false;
+    }
+    if !zeros(registers) {
+        return false;
+    }
+    if !zeros(frames) {
+        return false;
+    }
+    zeros(shadow)
+}
+
+// Page count, counter and special registers of partition i.
+fn own(text: &mut [u8], used: usize, i: usize, p: Partition) -> usize
+    requires { ⌜ used + 325 ≤ length (now text) ⌝ }
+    ensures { λ r. ⌜ Puts (now (text .entry)) used (now (text .exit)) r (ownOf i p) 325 ⌝ }
+{
+    let rest = specials(p.processor, p.table);
+    let named = put(text, used, b"partition");
+    let numbered = number(text, named, i as u64);
+    let paged = number(text, numbered, p.pages as u64);
+    let counted = number(text, paged, p.counter);
+    row(text, counted, b"", &rest)
+}
+
+// A shadow entry that is not 0, behind its number.
+fn entry(text: &mut [u8], used: usize, px: usize, e: u32) -> usize
+    requires { ⌜ used + 42 ≤ length (now text) ⌝ }
+    ensures { λ r. ⌜ Puts (now (text .entry)) used (now (text .exit)) r (entryOf px e) 42 ⌝ }
+{
+    if e == 0 {
+        return used;
+    }
+    let numbered = number(text, used, px as u64);
+    let parted = put(text, numbered, b":");
+    decimal(text, parted, e as u64)
+}
+
+fn entries(text: &mut [u8], used: usize, shadow: &[u32]) -> usize
+    requires { ⌜ used + 42 * length (now shadow) ≤ length (now text) ⌝ }
+    ensures { λ r. ⌜ Puts (now (text .entry)) used (now (text .exit)) r (entriesOf (now (shadow .entry))) (42 * length (now (shadow .entry))) ⌝ }
+{
+    let mut end = used;
+    let mut px = 0;
+    while px < shadow.len() {
+        end = entry(text, end, px, shadow[px]);
+        px += 1;
+    }
+    end
+}
+
+fn shadow(text: &mut [u8], used: usize, words: &[u32]) -> usize
+    requires { ⌜ used + (6 + (42 * length (now words) + 1)) ≤ length (now text) ⌝ }
+    ensures { λ r. ⌜ Puts (now (text .entry)) used (now (text .exit)) r (shadowOf (now (words .entry))) (6 + (42 * length (now (words .entry)) + 1)) ⌝ }
+{
+    let named = put(text, used, b"shadow");
+    let told = entries(text, named, words);
+    put(text, told, b"\n")
+}
+
+fn partition(
+    text: &mut [u8],
+    used: usize,
+    i: usize,
+    p: Partition,
+    registers: &[u32],
+    frames: &[u32],
+    entries: &[u32],
+) -> usize
+    requires { ⌜ length (now registers) ≡ 32 ⌝ ∗ ⌜ length (now frames) ≡ 256 ⌝ ∗ ⌜ length (now entries) ≡ 256 ⌝ ∗ ⌜ used + 17149 ≤ length (now text) ⌝ }
+    ensures { λ r. ⌜ Puts (now (text .entry)) used (now (text .exit)) r (partitionOf i p (now (registers .entry)) (now (frames .entry)) (now (entries .entry))) 17149 ⌝ }
+{
+    if blank(p, registers, frames, entries) {
+        return used;
+    }
+    let n = listed(frames);
+    let told = own(text, used, i, p);
+    let registered = row(text, told, b"registers", registers);
+    let framed = row(text, registered, b"frames", &frames[..n]);
+    shadow(text, framed, entries)
+}
+
+pub fn partitions(text: &mut [u8], used: usize, h: House) -> usize
+    requires { ⌜ used + 137192 ≤ length (now text) ⌝ }
+    ensures { λ r. ⌜ Puts (now (text .entry)) used (now (text .exit)) r (partitionsOf h) 137192 ⌝ }
+{
+    let parts = h.parts;
+    let registers = h.regs;
+    let frames = h.frames;
+    let shadows = h.shadows;
+    let mut end = used;
+    let mut i = 0;
+    while i < 8 {
+        let a = i * 32;
+        let b = a + 32;
+        let c = i * 256;
+        let d = c + 256;
+        end = partition(
+            text,
+            end,
+            i,
+            parts[i],
+            &registers[a..b],
+            &frames[c..d],
+            &shadows[c..d],
+        );
+        i += 1;
+    }
+    end
+}
