@@ -1,8 +1,4 @@
-// The instruction tables: a word is first read as an instruction.
-ghost use mathlib.Core.Path.{_≡_};
-ghost use Rattle.dlx.specs.Instructions.{instructionOf, registerType};
-use crate::words::extend;
-use crate::words::wide;
+// The instructions that words are read as.
 
 // What RD becomes from two words. Test is clr, sgr, seq, sge, sls, sne, sle, set by number.
 pub enum Operation {
@@ -32,66 +28,4 @@ pub enum Instruction {
     Movs2i(usize, u32),
     Movi2s(u32, usize),
     Ill,
-}
-
-// The words of opcode 0.
-fn read_register_type(w: u32) -> Instruction
-    ensures { λ r. ⌜ r ≡ registerType w ⌝ }
-{
-    let rs1 = wide(w / 2097152 % 32);
-    let rs2 = wide(w / 65536 % 32);
-    let rd = wide(w / 2048 % 32);
-    let sa = w / 64 % 32;
-    let function = w % 64;
-    match function {
-        32 => Instruction::Register(Operation::Add, rd, rs1, rs2),
-        34 => Instruction::Register(Operation::Sub, rd, rs1, rs2),
-        36 => Instruction::Register(Operation::And, rd, rs1, rs2),
-        37 => Instruction::Register(Operation::Or, rd, rs1, rs2),
-        38 => Instruction::Register(Operation::Xor, rd, rs1, rs2),
-        40..=47 => Instruction::Register(Operation::Test(function - 40), rd, rs1, rs2),
-        16 => {
-            if sa <= 9 {
-                return Instruction::Movs2i(rd, sa);
-            }
-            Instruction::Ill
-        }
-        17 => {
-            if sa <= 9 {
-                return Instruction::Movi2s(sa, rs1);
-            }
-            Instruction::Ill
-        }
-        _ => Instruction::Ill,
-    }
-}
-
-pub fn read_instruction(w: u32) -> Instruction
-    ensures { λ r. ⌜ r ≡ instructionOf w ⌝ }
-{
-    let opcode = w / 67108864;
-    let rs1 = wide(w / 2097152 % 32);
-    let rd = wide(w / 65536 % 32);
-    let imm = extend(0x8000, w);
-    match opcode {
-        35 => Instruction::Lw(rd, rs1, imm),
-        43 => Instruction::Sw(rd, rs1, imm),
-        8 => Instruction::Immediate(Operation::Add, rd, rs1, imm),
-        10 => Instruction::Immediate(Operation::Sub, rd, rs1, imm),
-        12 => Instruction::Immediate(Operation::And, rd, rs1, imm),
-        13 => Instruction::Immediate(Operation::Or, rd, rs1, imm),
-        14 => Instruction::Immediate(Operation::Xor, rd, rs1, imm),
-        15 => Instruction::Lhgi(rd, imm),
-        24..=31 => Instruction::Immediate(Operation::Test(opcode - 24), rd, rs1, imm),
-        4 => Instruction::Beqz(rs1, imm),
-        5 => Instruction::Bnez(rs1, imm),
-        22 => Instruction::Jr(rs1),
-        23 => Instruction::Jalr(rs1),
-        2 => Instruction::J(extend(0x200_0000, w)),
-        3 => Instruction::Jal(extend(0x200_0000, w)),
-        62 => Instruction::Trap(extend(0x200_0000, w)),
-        63 => Instruction::Rfe,
-        0 => read_register_type(w),
-        _ => Instruction::Ill,
-    }
 }

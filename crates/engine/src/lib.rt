@@ -48,7 +48,12 @@ fn fetch(
     }
     match translate::load(words, frames, shadow, pages, t, p.mode == 1, dpc) {
         Access::Fault => Effect::Done(Change::Cause(Partition::PFF, dpc)),
-        Access::Word(w) => dlx::execute::execute(p, t, regs, dlx::instruction::read_instruction(w)),
+        Access::Word(w) => processor::execute::execute(
+            p,
+            t,
+            regs,
+            processor::instruction::read_instruction(w),
+        ),
     }
 }
 
@@ -121,7 +126,7 @@ pub fn step(
 {
     let e = fetch(p, t, pages, regs, frames, shadow, words);
     let c = access(p, t, pages, frames, shadow, words, e);
-    let s = dlx::execute::settle(p, regs, c);
+    let s = processor::execute::settle(p, regs, c);
     let n = retable(t, shadow, c);
     let q = s.processor;
     Stepped {

@@ -1,0 +1,3 @@
+// The processor as code: a word read as an instruction, the instruction executed, and its effect put to work, each equal to its definition in `dlx`.
+pub mod execute;
+pub mod instruction;
