@@ -1,18 +1,445 @@
--- A boot that is done, of whose house host steps can be made, so that nothing is proved of nothing.
-use mathlib.Core.Path.{refl}
-use mathlib.Core.List.{[], _∷_}
-use lib.ListN.{replicate}
-use Rattle.translate.proofs.Kept.{zeros-words}
-use Rattle.house.specs.Lists.{any, firstFrom}
-use Rattle.house.specs.Boot.{sum, firstOf, bootVerdict}
-use Rattle.house.specs.Sound.{Ready}
-use Rattle.house.specs.Histories.{Boot, booted}
-use Rattle.house.proofs.FreshHouse.{booted-ready}
+-- Every premise of the demands holds somewhere: a boot of two guests, and calls under which a shadow is filled and emptied, so that nothing is proved of nothing.
+use mathlib.Core.Path.{_≡_, refl, sym, ap, subst, _∙_}
+use mathlib.Core.Bool.{Bool, true, false, _&&_, and-false}
+use mathlib.Core.List.{List, [], _∷_, _++_}
+use Prim.Native.Nat.{ℕ, zero, suc, _+_, _-_, _*_, _%_, _^_, _<_, _≤_}
+use native.Mathlib.Omega.{arith}
+use borrow.Author.Tests.{eq-eqb, ne-eqb, lt-ltb, le-ltb, lt-leb, le-leb, ltb-true}
+use lib.Count.{trailingZeros}
+use lib.Dec.{ltb, eqb}
+use lib.ListN.{length, getD, set, replicate, length-set}
+use lib.Seq.{getD-set-other}
+use Rattle.dlx.specs.Words.{extendedBy, readIn, holds}
+use Rattle.dlx.specs.Instructions.{registerType, instructionOf}
+use Rattle.dlx.specs.Processor.{specialOf, withSpecial}
+use Rattle.dlx.specs.Interrupts.{levelOf, interrupted}
+use Rattle.dlx.specs.Execute.{written, valueOf, overflowsOf, operated, reached, loads, stores, movedTo, effectOf}
+use Rattle.dlx.specs.Machine.{executed, fetched, loaded, stored, accessed, settled, retabled, step, steps}
+use Rattle.translate.specs.Entries.{entryOf, judged}
+use Rattle.translate.specs.Walk.{walked, direct}
+use Rattle.translate.specs.Memory.{loneMemory, loneFound, hosted, given, filled, looked, served, hostRead, emptied, hostWritten, hostReads, hostWrites}
+use Rattle.translate.proofs.Tests.{and-left}
+use Rattle.house.specs.Lists.{inner, outer, listFrom, any, firstFrom}
+use Rattle.house.specs.House.{noHouse, partition, pagesOf, runs, framesOf, shadowOf}
+use Rattle.house.specs.Damage.{damaged}
+use Rattle.house.specs.Boot.{Verdict, verdict, sum, firstOf, bootVerdict, laid, offset, bootedHouse}
+use Rattle.house.specs.Turns.{World, world, nextFrom, turnOf, guestStep, settledHouse, stepWith, hostStep, hostSteps}
+use Rattle.house.specs.Calls.{answered, bootCall, runVerdict, runCall, oneVerdict, started, stopped, emptiedHouse, startCall, stopCall, emptyCall, readVerdict, readCall}
+use Rattle.house.specs.Sound.{Typed, Ready}
+use Rattle.house.specs.Histories.{Boot, booted, Call, run, start, stop, empty, readOut, after, history, Grown, turnsIn, stepsOf, stepsMade, turnsMade, staysRunning, loneOf, loneAtBoot}
+use Rattle.house.specs.Demands.{AgreeOn, OwnFramesAlone, StepOf, nowhere, word, byShadow, listed, byTable}
+use Rattle.house.proofs.Lists.{and-right, one-way}
+use Rattle.house.proofs.FreshHouse.{booted-whole, booted-ready}
+use Rattle.house.proofs.Stays.{after-stays}
+use Rattle.house.proofs.Demands.{refused-means-untouched, isolation-demand, run-isolation, never-damaged, step-demand, within-runs, reach-demand, histories-demand, equal-guests, equal-counters, reads-those-pages, fairness-demand}
+
+-- ---- the boot
+
+abbrev zeros : ℕ → List ℕ
+zeros n = replicate n 0
+
+-- Partition 0: PTO = 1, PTL = 2, user mode; a load through entry 1, a store into entry 1 of the table, a trap.
+abbrev first-guest : List ℕ
+first-guest = 0x20010001 ∷ 0x002001D1 ∷ 0x20020002 ∷ 0x00400211 ∷ 0x00200191 ∷ 0x8C031000 ∷ 0xAC031004 ∷ 0xF8000007 ∷ []
+
+-- its table, in its page 1: pages 0 and 1 as they are
+abbrev its-table : List ℕ
+its-table = 0x00000800 ∷ 0x00001800 ∷ []
+
+-- partition 1: register 1 = 5, a trap
+abbrev second-guest : List ℕ
+second-guest = 0x20010005 ∷ 0xF8000007 ∷ []
+
+-- frame 1 is no partition's
+abbrev memory : List ℕ
+memory = its-table ++ (zeros 2046 ++ (second-guest ++ (zeros 1022 ++ (first-guest ++ zeros 1016))))
 
 pub two-guests : Boot
 unfolding bootVerdict firstOf any firstFrom sum
-two-guests = record { pages = 2 ∷ 1 ∷ []; q = 3; frames = 3 ∷ 0 ∷ 2 ∷ []; memory = replicate 4096 0; done = refl }
+two-guests = record { pages = 2 ∷ 1 ∷ []; q = 3; frames = 3 ∷ 0 ∷ 2 ∷ []; memory = memory; done = refl }
+
+below : List ℕ → Bool
+below [] = true
+below (x ∷ xs) = ltb x (2 ^ 32) && below xs
+
+below-at : (l : List ℕ) → below l ≡ true → (i : ℕ) → getD l i 0 < 2 ^ 32
+unfolding below
+below-at [] e i = omega arith
+below-at (x ∷ xs) e zero = ltb-true x (2 ^ 32) (and-left (ltb x (2 ^ 32)) (below xs) e)
+below-at (x ∷ xs) e (suc i) = below-at xs (and-right (ltb x (2 ^ 32)) (below xs) e) i
+
+pub memory-words : (i : ℕ) → getD (two-guests .memory) i 0 < 2 ^ 32
+unfolding two-guests below
+memory-words = below-at memory refl
 
 pub ready : Ready (booted two-guests)
+ready = booted-ready two-guests memory-words
+
+-- ---- what a call comes to
+
+record Fit (w : World) : Type 0 where
+  typed : Typed w
+  whole : damaged (w .house) ≡ false
+  size : length (w .memory) ≡ w .house .words
+  count : w .house .count ≡ 2
+
+module _ (w : World) (f : Fit w) where
+  fit-after : (c : Call) {v : World} → after c w ≡ v → Fit v
+  fit-after c e =
+      let s = after-stays w (f .typed) (f .whole) c in
+      subst Fit e (record { typed = s .typed; whole = s .whole; size = s .size ∙ f .size ∙ sym (s .layout .words); count = s .layout .count ∙ f .count })
+
+  run-verdict : (k : ℕ) → k ≤ 1000000 → (w .house .left ≡ 0 → ⊥) → runVerdict w k ≡ verdict 0 k
+  unfolding runVerdict firstOf
+  run-verdict k l n = simp (f .whole, eq-eqb (length (w .memory)) (w .house .words) (f .size), le-ltb 1000000 k l, ne-eqb (w .house .left) 0 n, and-false)
+
+  one-verdict : (i : ℕ) → i < 2 → oneVerdict (w .house) i ≡ verdict 0 0
+  unfolding oneVerdict firstOf
+  one-verdict i l = simp (f .whole, f .count, lt-leb 2 i l)
+
+  no-verdict : (i : ℕ) → 2 ≤ i → oneVerdict (w .house) i ≡ verdict 10 0
+  unfolding oneVerdict firstOf
+  no-verdict i l = simp (f .whole, f .count, le-leb 2 i l)
+
+  after-run : (k : ℕ) → k ≤ 1000000 → (w .house .left ≡ 0 → ⊥) → (after (run k) w ≡ hostSteps k w) × (stepsOf (run k) w ≡ k)
+  unfolding after runCall stepsOf
+  after-run k l n = let v = run-verdict k l n in (rw v, rw v)
+
+  after-start : (i : ℕ) → i < 2 → after (start i) w ≡ world (started (w .house) i) (w .memory)
+  unfolding after startCall
+  after-start i l = rw (one-verdict i l)
+
+  after-stop : (i : ℕ) → i < 2 → after (stop i) w ≡ world (stopped (w .house) i) (w .memory)
+  unfolding after stopCall
+  after-stop i l = rw (one-verdict i l)
+
+  after-empty : (i : ℕ) → i < 2 → after (empty i) w ≡ world (emptiedHouse (w .house) i) (w .memory)
+  unfolding after emptyCall
+  after-empty i l = rw (one-verdict i l)
+
+  after-refused : (i : ℕ) → 2 ≤ i → after (start i) w ≡ w
+  unfolding after startCall
+  after-refused i l = rw (no-verdict i l)
+
+-- ---- the history
+
+abbrev pub filling : List Call
+filling = run 4 ∷ stop 1 ∷ run 3 ∷ []
+
+abbrev pub emptying : List Call
+emptying = readOut 0 4096 2 (0 ∷ 0 ∷ []) ∷ run 1 ∷ start 1 ∷ empty 0 ∷ start 9 ∷ run 4 ∷ []
+
+-- the worlds between
+
+abbrev begun : World
+begun = booted two-guests
+
+abbrev ran : World
+ran = hostSteps 4 begun
+
+abbrev alone : World
+alone = world (stopped (ran .house) 1) (ran .memory)
+
+abbrev pub full : World
+full = hostSteps 3 alone
+
+abbrev pub bare : World
+bare = hostSteps 1 full
+
+abbrev joined : World
+joined = world (started (bare .house) 1) (bare .memory)
+
+abbrev cleared : World
+cleared = world (emptiedHouse (joined .house) 0) (joined .memory)
+
+abbrev pub ended : World
+ended = hostSteps 4 cleared
+
+-- all that a step computes with
+computing : ℕ
+unfolding two-guests inner outer listFrom any laid offset bootedHouse nextFrom turnOf guestStep settledHouse stepWith hostStep hostSteps started stopped emptiedHouse judged walked direct hosted given filled looked served hostRead emptied hostWritten hostReads hostWrites step fetched executed loaded stored accessed settled retabled instructionOf registerType effectOf written valueOf overflowsOf operated reached loads stores movedTo specialOf withSpecial interrupted levelOf trailingZeros extendedBy readIn holds turnsIn
+computing = 0
+
+-- entry px of partition 0's shadow
+abbrev entry : World → ℕ → ℕ
+entry w px = getD (shadowOf (w .house) 0) px 0
+
+pub filled-then-emptied : (entry full 1 ≡ entryOf 0 0) × (entry bare 1 ≡ 0)
+filled-then-emptied = unfold computing in (refl, refl)
+
+pub cleared-then-filled : (entry bare 0 ≡ entryOf 3 0) × (entry cleared 0 ≡ 0) × (entry (hostSteps 1 cleared) 0 ≡ entryOf 3 0) × (entry ended 0 ≡ 0)
+cleared-then-filled = unfold computing in (refl, refl, refl, refl)
+
+-- so many steps are left
+some : {n : ℕ} (k : ℕ) → n ≡ suc k → n ≡ 0 → ⊥
+some k e z = omega arith
+
+begun-left : begun .house .left ≡ 3
+begun-left = unfold computing in refl
+
+alone-left : alone .house .left ≡ 3
+alone-left = unfold computing in refl
+
+full-left : full .house .left ≡ 3
+full-left = unfold computing in refl
+
+cleared-left : cleared .house .left ≡ 2
+cleared-left = unfold computing in refl
+
+-- each call, and that the next can be made
+
+fit-begun : Fit begun
+unfolding bootedHouse two-guests
+fit-begun = record { typed = ready .typed; whole = booted-whole two-guests; size = refl; count = refl }
+
+to-ran : (after (run 4) begun ≡ ran) × (stepsOf (run 4) begun ≡ 4)
+to-ran = after-run begun fit-begun 4 (omega arith) (some 2 begun-left)
+
+fit-ran : Fit ran
+fit-ran = fit-after begun fit-begun (run 4) (to-ran .0)
+
+to-alone : after (stop 1) ran ≡ alone
+to-alone = after-stop ran fit-ran 1 (omega arith)
+
+fit-alone : Fit alone
+fit-alone = fit-after ran fit-ran (stop 1) to-alone
+
+to-full : (after (run 3) alone ≡ full) × (stepsOf (run 3) alone ≡ 3)
+to-full = after-run alone fit-alone 3 (omega arith) (some 2 alone-left)
+
+fit-full : Fit full
+fit-full = fit-after alone fit-alone (run 3) (to-full .0)
+
+to-bare : (after (run 1) full ≡ bare) × (stepsOf (run 1) full ≡ 1)
+to-bare = after-run full fit-full 1 (omega arith) (some 2 full-left)
+
+fit-bare : Fit bare
+fit-bare = fit-after full fit-full (run 1) (to-bare .0)
+
+to-joined : after (start 1) bare ≡ joined
+to-joined = after-start bare fit-bare 1 (omega arith)
+
+fit-joined : Fit joined
+fit-joined = fit-after bare fit-bare (start 1) to-joined
+
+to-cleared : after (empty 0) joined ≡ cleared
+to-cleared = after-empty joined fit-joined 0 (omega arith)
+
+fit-cleared : Fit cleared
+fit-cleared = fit-after joined fit-joined (empty 0) to-cleared
+
+to-none : after (start 9) cleared ≡ cleared
+to-none = after-refused cleared fit-cleared 9 (omega arith)
+
+to-ended : (after (run 4) cleared ≡ ended) × (stepsOf (run 4) cleared ≡ 4)
+to-ended = after-run cleared fit-cleared 4 (omega arith) (some 1 cleared-left)
+
+to-read : (i a n : ℕ) (out : List ℕ) (w : World) → after (readOut i a n out) w ≡ w
+unfolding after readCall
+to-read i a n out w = refl
+
+-- another history in which partition 0 makes ten steps
+
+abbrev pub aside : List Call
+aside = stop 1 ∷ run 10 ∷ []
+
+abbrev lonely : World
+lonely = world (stopped (begun .house) 1) (begun .memory)
+
+abbrev pub far : World
+far = hostSteps 10 lonely
+
+to-lonely : after (stop 1) begun ≡ lonely
+to-lonely = after-stop begun fit-begun 1 (omega arith)
+
+to-far : (after (run 10) lonely ≡ far) × (stepsOf (run 10) lonely ≡ 10)
+to-far = after-run lonely (fit-after begun fit-begun (stop 1) to-lonely) 10 (omega arith) (some 2 (unfold computing in refl))
+
+-- ---- what grew
+
+full-is : full ≡ history filling begun
+unfolding history
+full-is = simp (to-ran .0, to-alone, to-full .0)
+
+ended-is : ended ≡ history (filling ++ emptying) begun
+unfolding history
+ended-is = simp (to-ran .0, to-alone, to-full .0, to-read, to-bare .0, to-joined, to-cleared, to-none, to-ended .0)
+
+far-is : far ≡ history aside begun
+unfolding history
+far-is = simp (to-lonely, to-far .0)
+
+pub grown-begun : Grown two-guests begun
+unfolding history
+grown-begun = ([], refl)
+
+pub grown-full : Grown two-guests full
+grown-full = (filling, full-is)
+
+pub grown-ended : Grown two-guests ended
+grown-ended = (filling ++ emptying, ended-is)
+
+ten-turns : turnsMade (filling ++ emptying) begun 0 ≡ 10
+unfolding turnsMade
+ten-turns = simp (to-ran .0, to-alone, to-full .0, to-read, to-bare .0, to-joined, to-cleared, to-none, to-ran .1, to-full .1, to-bare .1, to-ended .1) (unfold computing stepsOf in refl)
+
+ten-aside : turnsMade aside begun 0 ≡ 10
+unfolding turnsMade
+ten-aside = simp (to-lonely, to-far .1) (unfold computing stepsOf in refl)
+
+-- ---- demand 1
+
+-- refused: no partitions, too long a run, no such partition
+pub untouched-boot : bootCall [] 3 [] (0 ∷ []) .world ≡ world noHouse (0 ∷ [])
+unfolding bootCall bootVerdict firstOf
+untouched-boot = refused-means-untouched .boot [] [] (0 ∷ []) 3 (some 0 refl)
+
+pub untouched-run : runCall full 1000001 .world ≡ full
+unfolding runCall runVerdict firstOf
+untouched-run = refused-means-untouched .run full 1000001 (some 13 (simp (fit-full .whole, eq-eqb (length (full .memory)) (full .house .words) (fit-full .size))))
+
+pub untouched-start : startCall full 9 .world ≡ full
+unfolding startCall
+untouched-start = refused-means-untouched .start full 9 (some 9 (ap (λ (v : Verdict). v .number) (no-verdict full fit-full 9 (omega arith))))
+
+pub untouched-stop : stopCall full 9 .world ≡ full
+unfolding stopCall
+untouched-stop = refused-means-untouched .stop full 9 (some 9 (ap (λ (v : Verdict). v .number) (no-verdict full fit-full 9 (omega arith))))
+
+pub untouched-empty : emptyCall full 9 .world ≡ full
+unfolding emptyCall
+untouched-empty = refused-means-untouched .empty full 9 (some 9 (ap (λ (v : Verdict). v .number) (no-verdict full fit-full 9 (omega arith))))
+
+-- one word beyond the two pages
+pub untouched-read : readCall full 0 8192 1 (0 ∷ []) .output ≡ 0 ∷ []
+unfolding readCall readVerdict firstOf
+untouched-read = refused-means-untouched .read full 0 8192 1 (0 ∷ []) (some 11 (simp (fit-full .whole, eq-eqb (length (full .memory)) (full .house .words) (fit-full .size), fit-full .count) (unfold computing in refl))) .1
+
+-- a memory that differs in word k of another partition's frame, or of none's
+abbrev elsewhere : ℕ → List ℕ
+elsewhere k = set (full .memory) k 7
+
+pub differs : getD (full .memory) 2048 0 ≡ getD (elsewhere 2048) 2048 0 → ⊥
+differs = unfold computing in λ e. omega (arith, e)
+
+-- a property of both frames of partition 0, and of partition 1's
+both : (P : ℕ → Type 0) → P 3 → P 0 → (k : ℕ) → k < pagesOf (full .house) 0 → P (getD (framesOf (full .house) 0) k 0)
+both P a b zero l = unfold computing in a
+both P a b (suc zero) l = unfold computing in b
+both P a b (suc (suc k)) l = absurd (unfold computing in omega (arith, l))
+
+only : (P : ℕ → Type 0) → P 2 → (k : ℕ) → k < pagesOf (full .house) 1 → P (getD (framesOf (full .house) 1) k 0)
+only P a zero l = unfold computing in a
+only P a (suc k) l = absurd (unfold computing in omega (arith, l))
+
+abbrev Same : ℕ → ℕ → ℕ → Type 0
+Same x j f = getD (full .memory) (f * 1024 + j) 0 ≡ getD (elsewhere x) (f * 1024 + j) 0
+
+same : (x j f : ℕ) → (f * 1024 + j ≡ x → ⊥) → Same x j f
+same x j f d = sym (getD-set-other (full .memory) x (f * 1024 + j) 7 0 d)
+
+full-current : full .house .current ≡ 0
+full-current = unfold computing in refl
+
+agree : AgreeOn (full .house) 0 (full .memory) (elsewhere 2048)
+agree k j l m = both (Same 2048 j) (same 2048 j 3 (λ e. omega arith)) (same 2048 j 0 (λ e. omega arith)) k l
+
+pub isolated : OwnFramesAlone (full .house) (full .memory) (elsewhere 2048)
+isolated =
+    isolation-demand (full .house) (full .memory) (elsewhere 2048) (fit-full .typed .shaped) (fit-full .whole) (some 2 full-left) (fit-full .size)
+    (length-set (full .memory) 2048 7 ∙ fit-full .size)
+    (rw full-current agree)
+
+agree-all : (i : ℕ) → i < full .house .count → AgreeOn (full .house) i (full .memory) (elsewhere 1024)
+agree-all zero n k j l m = both (Same 1024 j) (same 1024 j 3 (λ e. omega arith)) (same 1024 j 0 (λ e. omega arith)) k l
+agree-all (suc zero) n k j l m = only (Same 1024 j) (same 1024 j 2 (λ e. omega arith)) k l
+agree-all (suc (suc i)) n k j l m = absurd (omega (arith, fit-full .count))
+
+pub run-isolated : runCall full 4 .world .house ≡ runCall (world (full .house) (elsewhere 1024)) 4 .world .house
+run-isolated = run-isolation (full .house) (full .memory) (elsewhere 1024) 4 (fit-full .typed .shaped) (sym (length-set (full .memory) 1024 7)) agree-all .1
+
+-- ---- demand 2
+
+pub ended-whole : damaged (ended .house) ≡ false
+ended-whole = never-damaged two-guests memory-words ended grown-ended
+
+pub stepped : StepOf full (hostStep full) (full .house .current)
+stepped = step-demand two-guests full grown-full (some 2 full-left)
+
+pub within : Grown two-guests (hostSteps 3 begun) × (hostSteps 3 begun .house .left ≡ 0 → ⊥)
+unfolding runCall
+within = within-runs two-guests begun grown-begun 4 3 (ap (λ (v : Verdict). v .number) (run-verdict begun fit-begun 4 (omega arith) (some 2 begun-left))) (omega arith)
+
+-- a store to page 1 lands in frame 0, one behind PTL nowhere
+pub lands : (byTable full 0 true true 4100 ≡ word 1) × (byTable full 0 true true 8192 ≡ nowhere)
+unfolding listed loneFound loneOf
+lands = unfold computing in (refl, refl)
+
+pub reached-page : byShadow full 0 true true 4100 ≡ byTable full 0 true true 4100
+reached-page = reach-demand two-guests full grown-full 0 (omega (arith, fit-full .count)) true true 4100
+
+-- ---- demand 3
+
+below-two : (i : ℕ) → i < 2 → i < length (two-guests .pages)
 unfolding two-guests
-ready = booted-ready two-guests (zeros-words 4096)
+below-two i l = l
+
+pub history-of : loneOf (history (filling ++ emptying) begun) 0 ≡ steps (loneMemory (getD (two-guests .pages) 0 0)) 10 (loneAtBoot two-guests 0)
+history-of =
+    histories-demand two-guests (filling ++ emptying) 0 (below-two 0 (omega arith)) .0
+    ∙ ap (λ (n : ℕ). steps (loneMemory (getD (two-guests .pages) 0 0)) n (loneAtBoot two-guests 0)) ten-turns
+
+-- equal guests, by equal turns or by equal counters, in houses that differ
+pub equal : loneOf (history (filling ++ emptying) begun) 0 ≡ loneOf (history aside begun) 0
+equal = equal-guests two-guests (filling ++ emptying) aside 0 (below-two 0 (omega arith)) (ten-turns ∙ sym ten-aside)
+
+pub equal-by-counter : loneOf (history (filling ++ emptying) begun) 0 ≡ loneOf (history aside begun) 0
+equal-by-counter =
+    let l = below-two 0 (omega arith) in
+    equal-counters two-guests (filling ++ emptying) aside 0 l (omega (arith, ten-turns)) (omega (arith, ten-aside))
+    (histories-demand two-guests (filling ++ emptying) 0 l .1 ∙ ap (λ (n : ℕ). n % 2 ^ 64) (ten-turns ∙ sym ten-aside) ∙ sym (histories-demand two-guests aside 0 l .1))
+
+pub unequal : ended ≡ far → ⊥
+unequal e = one-way (runs (far .house) 1) (ap (λ (w : World). runs (w .house) 1) (sym e) ∙ again) never
+  where
+    again : runs (ended .house) 1 ≡ true
+    again = unfold computing in refl
+
+    never : runs (far .house) 1 ≡ false
+    never = unfold computing in refl
+
+-- the table that partition 0 stored into, as the read-out gives it
+read-done : readVerdict full 0 4096 2 (0 ∷ 0 ∷ []) ≡ verdict 0 2
+unfolding readVerdict firstOf
+read-done = simp (fit-full .whole, eq-eqb (length (full .memory)) (full .house .words) (fit-full .size), fit-full .count) (unfold computing in refl)
+
+pub table-read : readCall full 0 4096 2 (0 ∷ 0 ∷ []) .output ≡ 0x00000800 ∷ 0x00001800 ∷ []
+unfolding readCall
+table-read = reads-those-pages two-guests full grown-full 0 4096 2 (0 ∷ 0 ∷ []) (ap (λ (v : Verdict). v .number) read-done) ∙ (unfold computing loneOf in refl)
+
+-- partition 0 over the second half; partition 1 in the last of 4 steps from boot
+
+enough : stepsMade emptying full ≡ 5
+unfolding stepsMade
+enough = simp (to-read, to-bare .0, to-joined, to-cleared, to-none, to-bare .1, to-ended .1) (unfold stepsOf in refl)
+
+stays : staysRunning emptying full 0 ≡ true
+unfolding staysRunning
+stays = simp (to-read, to-bare .0, to-joined, to-cleared, to-none, to-ended .0) (unfold computing in refl)
+
+-- (n-1)q+1
+bound : (length (two-guests .pages) - 1) * two-guests .q + 1 ≡ 4
+unfolding two-guests
+bound = refl
+
+pub fair : 0 < turnsMade emptying full 0
+fair = fairness-demand two-guests full grown-full emptying 0 (below-two 0 (omega arith)) stays (omega (arith, bound, enough))
+
+pub just-fair : 0 < turnsMade (run 4 ∷ []) begun 1
+just-fair = fairness-demand two-guests begun grown-begun (run 4 ∷ []) 1 (below-two 1 (omega arith)) runs-on (omega (arith, bound, four))
+  where
+    runs-on : staysRunning (run 4 ∷ []) begun 1 ≡ true
+    runs-on = unfold staysRunning in simp (to-ran .0) (unfold computing in refl)
+
+    four : stepsMade (run 4 ∷ []) begun ≡ 4
+    four = unfold stepsMade in simp (to-ran .1) (unfold stepsOf in refl)

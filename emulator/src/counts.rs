@@ -1,0 +1,90 @@
+//! What a comparison has met, for the report at its end.
+
+use std::fmt;
+use std::ops::AddAssign;
+
+use crate::dlx::Cause;
+
+/// Counts of steps, interrupts, shadow changes and answers.
+#[derive(Clone, Debug, Default, PartialEq, Eq)]
+pub struct Counts {
+    /// Guest steps, by MODE before the step.
+    pub steps: [u64; 2],
+    /// Interrupts, by cause (1 ill to 6 ovf).
+    pub interrupts: [u64; 7],
+    /// Interrupts raised by the first word of the handler: a guest in an interrupt loop.
+    pub loops: u64,
+    /// Shadow entries filled.
+    pub fills: u64,
+    /// Valid shadow entries emptied by a store into the table.
+    pub emptied_by_store: u64,
+    /// Valid shadow entries emptied by movi2s to PTO or PTL.
+    pub emptied_by_special: u64,
+    /// Valid shadow entries emptied by the call.
+    pub emptied_by_call: u64,
+    /// Answers, by house number.
+    pub answers: [u64; 16],
+}
+
+impl Counts {
+    /// All guest steps.
+    pub fn all_steps(&self) -> u64 {
+        self.steps.iter().sum()
+    }
+
+    /// All answers.
+    pub fn all_answers(&self) -> u64 {
+        self.answers.iter().sum()
+    }
+
+    /// All interrupts.
+    pub fn all_interrupts(&self) -> u64 {
+        self.interrupts.iter().sum()
+    }
+
+    /// The answers as `number:count` pairs, without those that were not given.
+    pub fn answers_text(&self) -> String {
+        let given = self.answers.iter().enumerate().filter(|(_, &count)| count > 0);
+        let pairs: Vec<String> = given.map(|(number, count)| format!("{number}:{count}")).collect();
+        pairs.join(" ")
+    }
+
+    /// The interrupts as `cause:count` pairs.
+    fn interrupts_text(&self) -> String {
+        let pair = |cause: &Cause| format!("{}:{}", cause.name(), self.interrupts[*cause as usize]);
+        Cause::ALL.iter().map(pair).collect::<Vec<_>>().join(" ")
+    }
+}
+
+impl fmt::Display for Counts {
+    fn fmt(&self, f: &mut fmt::Formatter<'_>) -> fmt::Result {
+        writeln!(f, "steps by mode: system:{} user:{}", self.steps[0], self.steps[1])?;
+        writeln!(f, "interrupts by cause: {}", self.interrupts_text())?;
+        writeln!(f, "interrupts from the handler's first word: {}", self.loops)?;
+        writeln!(f, "shadow entries filled: {}", self.fills)?;
+        writeln!(
+            f,
+            "shadow entries emptied: by a store:{} by PTO or PTL:{} by the call:{}",
+            self.emptied_by_store, self.emptied_by_special, self.emptied_by_call
+        )
+    }
+}
+
+impl AddAssign<&Counts> for Counts {
+    fn add_assign(&mut self, other: &Counts) {
+        add_all(&mut self.steps, &other.steps);
+        add_all(&mut self.interrupts, &other.interrupts);
+        add_all(&mut self.answers, &other.answers);
+        self.loops += other.loops;
+        self.fills += other.fills;
+        self.emptied_by_store += other.emptied_by_store;
+        self.emptied_by_special += other.emptied_by_special;
+        self.emptied_by_call += other.emptied_by_call;
+    }
+}
+
+fn add_all(into: &mut [u64], from: &[u64]) {
+    for (total, more) in into.iter_mut().zip(from) {
+        *total += more;
+    }
+}

@@ -1,0 +1,485 @@
+//! The guest machine: registers, decoding, one step, interrupts.
+
+use crate::counts::Counts;
+use crate::memory::{Access, Place, Space, Table};
+
+/// Numbers of the special registers.
+pub mod special {
+    /// Status register; bit 6 lets ovf through.
+    pub const SR: usize = 0;
+    /// SR before the interrupt.
+    pub const ESR: usize = 1;
+    /// Masked causes of the interrupt.
+    pub const ECA: usize = 2;
+    /// PC to return to.
+    pub const EPC: usize = 3;
+    /// DPC to return to.
+    pub const EDPC: usize = 4;
+    /// Data of the interrupt.
+    pub const EDATA: usize = 5;
+    /// 0 is system, 1 user.
+    pub const MODE: usize = 6;
+    /// Page table origin.
+    pub const PTO: usize = 7;
+    /// Page table length.
+    pub const PTL: usize = 8;
+    /// MODE before the interrupt.
+    pub const EMODE: usize = 9;
+    /// How many there are.
+    pub const COUNT: usize = 10;
+}
+
+use special::{ECA, EDATA, EDPC, EMODE, EPC, ESR, MODE, PTL, PTO, SR};
+
+/// The register that jal and jalr write.
+const LINK: usize = 31;
+
+/// The causes of an interrupt, by their numbers.
+#[derive(Clone, Copy, Debug, PartialEq, Eq)]
+pub enum Cause {
+    /// Illegal instruction.
+    Ill = 1,
+    /// Misaligned address.
+    Mal = 2,
+    /// Page fault on fetch.
+    Pff = 3,
+    /// Page fault on load or store.
+    Pfls = 4,
+    /// Trap instruction.
+    Trap = 5,
+    /// Overflow, the only maskable cause.
+    Ovf = 6,
+}
+
+impl Cause {
+    /// All causes in order.
+    pub const ALL: [Cause; 6] =
+        [Cause::Ill, Cause::Mal, Cause::Pff, Cause::Pfls, Cause::Trap, Cause::Ovf];
+
+    /// The cause's bit in the cause word.
+    pub fn bit(self) -> u32 {
+        1 << self as u32
+    }
+
+    /// 01's name.
+    pub fn name(self) -> &'static str {
+        match self {
+            Cause::Ill => "ill",
+            Cause::Mal => "mal",
+            Cause::Pff => "pff",
+            Cause::Pfls => "pfls",
+            Cause::Trap => "trap",
+            Cause::Ovf => "ovf",
+        }
+    }
+}
+
+/// The level of a masked cause word: its lowest set bit, 32 for cause word 0.
+pub fn level(causes: u32) -> u32 {
+    causes.trailing_zeros()
+}
+
+/// An interrupt: its cause, and EDATA where the cause sets it.
+#[derive(Clone, Copy, Debug, PartialEq, Eq)]
+struct Interrupt {
+    cause: Cause,
+    edata: Option<u32>,
+}
+
+impl Interrupt {
+    fn plain(cause: Cause) -> Self {
+        Interrupt { cause, edata: None }
+    }
+
+    fn with_data(cause: Cause, edata: u32) -> Self {
+        Interrupt { cause, edata: Some(edata) }
+    }
+}
+
+/// What a register instruction works out.
+#[derive(Clone, Copy, Debug, PartialEq, Eq)]
+pub enum Operation {
+    /// Sum, with overflow.
+    Add,
+    /// Difference, with overflow.
+    Sub,
+    /// Bitwise and.
+    And,
+    /// Bitwise or.
+    Or,
+    /// Bitwise exclusive or.
+    Xor,
+    /// 0.
+    Clr,
+    /// Greater.
+    Sgr,
+    /// Equal.
+    Seq,
+    /// Greater or equal.
+    Sge,
+    /// Less.
+    Sls,
+    /// Unequal.
+    Sne,
+    /// Less or equal.
+    Sle,
+    /// 1.
+    Set,
+}
+
+impl Operation {
+    /// The comparison of opcodes 24..31 and functions 40..47.
+    fn comparison(number: u32) -> Self {
+        match number & 7 {
+            0 => Operation::Clr,
+            1 => Operation::Sgr,
+            2 => Operation::Seq,
+            3 => Operation::Sge,
+            4 => Operation::Sls,
+            5 => Operation::Sne,
+            6 => Operation::Sle,
+            _ => Operation::Set,
+        }
+    }
+
+    /// The wrapped result, and whether the signed result lies outside 32 bits.
+    fn result(self, left: u32, right: u32) -> (u32, bool) {
+        let (a, b) = (left as i32, right as i32);
+        let (value, overflow) = match self {
+            Operation::Add => a.overflowing_add(b),
+            Operation::Sub => a.overflowing_sub(b),
+            Operation::And => (a & b, false),
+            Operation::Or => (a | b, false),
+            Operation::Xor => (a ^ b, false),
+            Operation::Clr => (0, false),
+            Operation::Sgr => (i32::from(a > b), false),
+            Operation::Seq => (i32::from(a == b), false),
+            Operation::Sge => (i32::from(a >= b), false),
+            Operation::Sls => (i32::from(a < b), false),
+            Operation::Sne => (i32::from(a != b), false),
+            Operation::Sle => (i32::from(a <= b), false),
+            Operation::Set => (1, false),
+        };
+        (value as u32, overflow)
+    }
+}
+
+/// The second operand of a register instruction.
+#[derive(Clone, Copy, Debug, PartialEq, Eq)]
+pub enum Operand {
+    /// Register RS2.
+    Register(usize),
+    /// The sign-extended immediate.
+    Immediate(u32),
+}
+
+/// Where a jump goes.
+#[derive(Clone, Copy, Debug, PartialEq, Eq)]
+pub enum Target {
+    /// PC + imm.
+    Relative(u32),
+    /// RS1.
+    Register(usize),
+}
+
+/// A decoded instruction; immediates are sign-extended.
+#[derive(Clone, Copy, Debug, PartialEq, Eq)]
+#[allow(missing_docs)]
+pub enum Instruction {
+    Lw { rd: usize, rs1: usize, imm: u32 },
+    Sw { rd: usize, rs1: usize, imm: u32 },
+    Compute { operation: Operation, rd: usize, rs1: usize, right: Operand },
+    Lhgi { rd: usize, value: u32 },
+    Branch { on_zero: bool, rs1: usize, imm: u32 },
+    Jump { target: Target, link: bool },
+    Trap { imm: u32 },
+    Rfe,
+    Movs2i { rd: usize, special: usize },
+    Movi2s { special: usize, rs1: usize },
+}
+
+impl Instruction {
+    /// movs2i, movi2s and rfe are ill in user mode.
+    fn system_only(self) -> bool {
+        matches!(self, Instruction::Movs2i { .. } | Instruction::Movi2s { .. } | Instruction::Rfe)
+    }
+}
+
+/// A five-bit field whose lowest bit is `low`.
+fn field(word: u32, low: u32) -> usize {
+    (word >> low & 31) as usize
+}
+
+/// The lowest `bits` bits, sign-extended.
+fn sign_extended(word: u32, bits: u32) -> u32 {
+    let above = 32 - bits;
+    (((word << above) as i32) >> above) as u32
+}
+
+/// The instruction of a word, or none where it is not in the table.
+pub fn decode(word: u32) -> Option<Instruction> {
+    let (rs1, rd) = (field(word, 21), field(word, 16));
+    let imm = sign_extended(word, 16);
+    let long_imm = sign_extended(word, 26);
+    let immediate = |operation| {
+        let right = Operand::Immediate(imm);
+        Some(Instruction::Compute { operation, rd, rs1, right })
+    };
+    match word >> 26 {
+        0 => decode_r_type(word),
+        2 => Some(Instruction::Jump { target: Target::Relative(long_imm), link: false }),
+        3 => Some(Instruction::Jump { target: Target::Relative(long_imm), link: true }),
+        4 => Some(Instruction::Branch { on_zero: true, rs1, imm }),
+        5 => Some(Instruction::Branch { on_zero: false, rs1, imm }),
+        8 => immediate(Operation::Add),
+        10 => immediate(Operation::Sub),
+        12 => immediate(Operation::And),
+        13 => immediate(Operation::Or),
+        14 => immediate(Operation::Xor),
+        15 => Some(Instruction::Lhgi { rd, value: imm << 16 }),
+        22 => Some(Instruction::Jump { target: Target::Register(rs1), link: false }),
+        23 => Some(Instruction::Jump { target: Target::Register(rs1), link: true }),
+        opcode @ 24..=31 => immediate(Operation::comparison(opcode)),
+        35 => Some(Instruction::Lw { rd, rs1, imm }),
+        43 => Some(Instruction::Sw { rd, rs1, imm }),
+        62 => Some(Instruction::Trap { imm: long_imm }),
+        63 => Some(Instruction::Rfe),
+        _ => None,
+    }
+}
+
+/// The R-type instruction of a word; a special number above 9 is ill.
+fn decode_r_type(word: u32) -> Option<Instruction> {
+    let (rs1, rs2, rd, sa) = (field(word, 21), field(word, 16), field(word, 11), field(word, 6));
+    let registers = |operation| {
+        let right = Operand::Register(rs2);
+        Some(Instruction::Compute { operation, rd, rs1, right })
+    };
+    match word & 63 {
+        16 if sa < special::COUNT => Some(Instruction::Movs2i { rd, special: sa }),
+        17 if sa < special::COUNT => Some(Instruction::Movi2s { special: sa, rs1 }),
+        32 => registers(Operation::Add),
+        34 => registers(Operation::Sub),
+        36 => registers(Operation::And),
+        37 => registers(Operation::Or),
+        38 => registers(Operation::Xor),
+        function @ 40..=47 => registers(Operation::comparison(function)),
+        _ => None,
+    }
+}
+
+/// A partition: the guest's registers, its step counter, its pages and shadow.
+#[derive(Clone, Debug, PartialEq, Eq)]
+pub struct Guest {
+    /// Delayed PC: the address of the instruction.
+    pub dpc: u32,
+    /// The next DPC.
+    pub pc: u32,
+    /// The special registers.
+    pub specials: [u32; special::COUNT],
+    /// The registers; register 0 reads 0.
+    pub registers: [u32; 32],
+    /// Guest steps done, modulo 2^64.
+    pub counter: u64,
+    /// Pages and shadow.
+    pub space: Space,
+}
+
+impl Guest {
+    /// A place for a partition that is not used.
+    pub const ZERO: Guest = Guest {
+        dpc: 0,
+        pc: 0,
+        specials: [0; special::COUNT],
+        registers: [0; 32],
+        counter: 0,
+        space: Space::ZERO,
+    };
+
+    /// A fresh partition: all registers zero but PC = 4, the shadow empty.
+    pub fn fresh(list: &[u32]) -> Guest {
+        let mut guest = Guest { pc: 4, ..Guest::ZERO };
+        guest.space.pages = list.len() as u32;
+        guest.space.frames[..list.len()].copy_from_slice(list);
+        guest
+    }
+
+    /// True in user mode.
+    pub fn user(&self) -> bool {
+        self.specials[MODE] != 0
+    }
+
+    /// The guest's page table.
+    pub fn table(&self) -> Table {
+        Table { pto: self.specials[PTO], ptl: self.specials[PTL] }
+    }
+
+    /// One guest step; tells the interrupt's cause, if any. The counter is the host's matter.
+    pub fn step(&mut self, memory: &mut [u32], counts: &mut Counts) -> Option<Cause> {
+        counts.steps[usize::from(self.user())] += 1;
+        let interrupt = self.instruction(memory, counts).err()?;
+        counts.interrupts[interrupt.cause as usize] += 1;
+        counts.loops += u64::from(self.dpc == 0 && !self.user());
+        self.enter(interrupt);
+        Some(interrupt.cause)
+    }
+
+    /// Fetches, decodes and executes; after an interrupt nothing remains but shadow fills.
+    fn instruction(&mut self, memory: &mut [u32], counts: &mut Counts) -> Result<(), Interrupt> {
+        let word = self.fetch(memory, counts)?;
+        let instruction = decode(word)
+            .filter(|instruction| !(self.user() && instruction.system_only()))
+            .ok_or(Interrupt::plain(Cause::Ill))?;
+        self.execute(instruction, memory, counts)
+    }
+
+    fn fetch(&mut self, memory: &[u32], counts: &mut Counts) -> Result<u32, Interrupt> {
+        if !self.dpc.is_multiple_of(4) {
+            return Err(Interrupt::plain(Cause::Mal));
+        }
+        let place = self
+            .locate(memory, self.dpc, Access::Load, counts)
+            .ok_or(Interrupt::with_data(Cause::Pff, self.dpc))?;
+        Ok(self.space.load(memory, place))
+    }
+
+    /// The place of a data access: misaligned is mal, a fault pfls.
+    fn data(
+        &mut self,
+        memory: &[u32],
+        address: u32,
+        access: Access,
+        counts: &mut Counts,
+    ) -> Result<Place, Interrupt> {
+        if !address.is_multiple_of(4) {
+            return Err(Interrupt::plain(Cause::Mal));
+        }
+        self.locate(memory, address, access, counts)
+            .ok_or(Interrupt::with_data(Cause::Pfls, address))
+    }
+
+    fn locate(
+        &mut self,
+        memory: &[u32],
+        address: u32,
+        access: Access,
+        counts: &mut Counts,
+    ) -> Option<Place> {
+        let table = self.user().then(|| self.table());
+        self.space.locate(memory, table, address, access, counts)
+    }
+
+    fn execute(
+        &mut self,
+        instruction: Instruction,
+        memory: &mut [u32],
+        counts: &mut Counts,
+    ) -> Result<(), Interrupt> {
+        let mut next = self.pc.wrapping_add(4);
+        match instruction {
+            Instruction::Lw { rd, rs1, imm } => {
+                let address = self.registers[rs1].wrapping_add(imm);
+                let place = self.data(memory, address, Access::Load, counts)?;
+                self.write(rd, self.space.load(memory, place));
+            }
+            Instruction::Sw { rd, rs1, imm } => {
+                let address = self.registers[rs1].wrapping_add(imm);
+                let place = self.data(memory, address, Access::Store, counts)?;
+                self.space.store(memory, self.table(), place, self.registers[rd], counts);
+            }
+            Instruction::Compute { operation, rd, rs1, right } => {
+                let value = self.compute(operation, rs1, right)?;
+                self.write(rd, value);
+            }
+            Instruction::Lhgi { rd, value } => self.write(rd, value),
+            Instruction::Branch { on_zero, rs1, imm } => {
+                if (self.registers[rs1] == 0) == on_zero {
+                    next = self.pc.wrapping_add(imm);
+                }
+            }
+            Instruction::Jump { target, link } => {
+                next = self.jump_target(target);
+                if link {
+                    self.write(LINK, self.pc.wrapping_add(4));
+                }
+            }
+            Instruction::Trap { imm } => return Err(Interrupt::with_data(Cause::Trap, imm)),
+            Instruction::Rfe => {
+                self.return_from_exception();
+                return Ok(());
+            }
+            Instruction::Movs2i { rd, special } => self.write(rd, self.specials[special]),
+            Instruction::Movi2s { special, rs1 } => self.write_special(special, rs1, counts),
+        }
+        self.dpc = self.pc;
+        self.pc = next;
+        Ok(())
+    }
+
+    /// The result of a register instruction; ovf is masked by SR bit 6.
+    fn compute(&self, operation: Operation, rs1: usize, right: Operand) -> Result<u32, Interrupt> {
+        let right = match right {
+            Operand::Register(rs2) => self.registers[rs2],
+            Operand::Immediate(imm) => imm,
+        };
+        let (value, overflow) = operation.result(self.registers[rs1], right);
+        if overflow && self.specials[SR] & Cause::Ovf.bit() != 0 {
+            return Err(Interrupt::plain(Cause::Ovf));
+        }
+        Ok(value)
+    }
+
+    fn jump_target(&self, target: Target) -> u32 {
+        match target {
+            Target::Relative(imm) => self.pc.wrapping_add(imm),
+            Target::Register(rs1) => self.registers[rs1],
+        }
+    }
+
+    /// Writes to register 0 vanish.
+    fn write(&mut self, rd: usize, value: u32) {
+        if rd != 0 {
+            self.registers[rd] = value;
+        }
+    }
+
+    /// movi2s: MODE and EMODE take a value modulo 2; PTO and PTL empty the shadow.
+    fn write_special(&mut self, special: usize, rs1: usize, counts: &mut Counts) {
+        let value = self.registers[rs1];
+        self.specials[special] = match special {
+            MODE | EMODE => value % 2,
+            _ => value,
+        };
+        if special == PTO || special == PTL {
+            counts.emptied_by_special += self.space.empty();
+        }
+    }
+
+    fn return_from_exception(&mut self) {
+        self.pc = self.specials[EPC];
+        self.dpc = self.specials[EDPC];
+        self.specials[SR] = self.specials[ESR];
+        self.specials[MODE] = self.specials[EMODE];
+    }
+
+    /// Saves the old state and goes to the handler at 0 in system mode.
+    fn enter(&mut self, interrupt: Interrupt) {
+        let (edpc, epc) = match interrupt.cause {
+            Cause::Pff | Cause::Pfls => (self.dpc, self.pc),
+            _ => (self.pc, self.pc.wrapping_add(4)),
+        };
+        let specials = &mut self.specials;
+        specials[ESR] = specials[SR];
+        specials[SR] = 0;
+        specials[ECA] = interrupt.cause.bit();
+        specials[EMODE] = specials[MODE];
+        specials[MODE] = 0;
+        specials[EDPC] = edpc;
+        specials[EPC] = epc;
+        if let Some(edata) = interrupt.edata {
+            specials[EDATA] = edata;
+        }
+        self.dpc = 0;
+        self.pc = 4;
+    }
+}

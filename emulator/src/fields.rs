@@ -1,0 +1,203 @@
+//! The house's numbers by flat index, so that a script can put any value in any place.
+
+use crate::dlx::special;
+use crate::dlx::Guest;
+use crate::house::{House, PARTITIONS};
+use crate::memory::ENTRIES;
+
+/// Scalars of a partition: pages, DPC, PC, ten specials, counter low and high.
+pub const SCALARS: u32 = 15;
+/// First index of the running flags.
+pub const RUNNING: u32 = 5;
+/// First index of the partitions' scalars.
+pub const PARTS: u32 = RUNNING + PARTITIONS as u32;
+/// First index of the registers, 32 for each partition.
+pub const REGISTERS: u32 = PARTS + SCALARS * PARTITIONS as u32;
+/// First index of the frame lists, 256 places for each partition.
+pub const FRAMES: u32 = REGISTERS + 32 * PARTITIONS as u32;
+/// First index of the shadows, 256 entries for each partition.
+pub const SHADOWS: u32 = FRAMES + (ENTRIES * PARTITIONS) as u32;
+/// One more than the last index.
+pub const END: u32 = SHADOWS + (ENTRIES * PARTITIONS) as u32;
+
+/// Index of the partition count.
+pub const COUNT: u32 = 0;
+/// Index of the turn length.
+pub const Q: u32 = 1;
+/// Index of the memory length.
+pub const WORDS: u32 = 2;
+/// Index of the current partition.
+pub const CURRENT: u32 = 3;
+/// Index of the steps left.
+pub const LEFT: u32 = 4;
+
+/// Place of PAGES among a partition's scalars.
+pub const PAGES: u32 = 0;
+/// Place of DPC among a partition's scalars.
+pub const DPC: u32 = 1;
+/// Place of PC among a partition's scalars.
+pub const PC: u32 = 2;
+/// Place of special 0 among a partition's scalars; the others follow by number.
+pub const SPECIALS: u32 = 3;
+/// Place of the counter's low word among a partition's scalars.
+pub const COUNTER_LOW: u32 = SPECIALS + special::COUNT as u32;
+/// Place of the counter's high word among a partition's scalars.
+pub const COUNTER_HIGH: u32 = COUNTER_LOW + 1;
+
+/// Index of a scalar of a partition.
+pub fn scalar(partition: u32, place: u32) -> u32 {
+    PARTS + SCALARS * partition + place
+}
+
+/// Index of a special register of a partition.
+pub fn special(partition: u32, number: usize) -> u32 {
+    scalar(partition, SPECIALS + number as u32)
+}
+
+/// Index of a register of a partition.
+pub fn register(partition: u32, number: u32) -> u32 {
+    REGISTERS + 32 * partition + number
+}
+
+/// Index of a place of a partition's frame list.
+pub fn frame(partition: u32, place: u32) -> u32 {
+    FRAMES + ENTRIES as u32 * partition + place
+}
+
+/// Index of a shadow entry of a partition.
+pub fn shadow(partition: u32, px: u32) -> u32 {
+    SHADOWS + ENTRIES as u32 * partition + px
+}
+
+/// The number at an index, or none beyond the last.
+pub fn get(house: &House, index: u32) -> Option<u32> {
+    let (part, place) = split(index);
+    Some(match index {
+        COUNT => house.count,
+        Q => house.q,
+        WORDS => house.words,
+        CURRENT => house.current,
+        LEFT => house.left,
+        RUNNING..PARTS => u32::from(house.running[place]),
+        PARTS..REGISTERS => get_scalar(&house.guests[part], place as u32),
+        REGISTERS..FRAMES => house.guests[part].registers[place],
+        FRAMES..SHADOWS => house.guests[part].space.frames[place],
+        SHADOWS..END => house.guests[part].space.shadow[place],
+        _ => return None,
+    })
+}
+
+/// Puts a number at an index; beyond the last nothing happens. A flag becomes true for any number
+/// but 0.
+pub fn set(house: &mut House, index: u32, value: u32) {
+    let (part, place) = split(index);
+    match index {
+        COUNT => house.count = value,
+        Q => house.q = value,
+        WORDS => house.words = value,
+        CURRENT => house.current = value,
+        LEFT => house.left = value,
+        RUNNING..PARTS => house.running[place] = value != 0,
+        PARTS..REGISTERS => set_scalar(&mut house.guests[part], place as u32, value),
+        REGISTERS..FRAMES => house.guests[part].registers[place] = value,
+        FRAMES..SHADOWS => house.guests[part].space.frames[place] = value,
+        SHADOWS..END => house.guests[part].space.shadow[place] = value,
+        _ => {}
+    }
+}
+
+/// The partition of an index and the place in its part of the array.
+fn split(index: u32) -> (usize, usize) {
+    let (start, size) = match index {
+        RUNNING..PARTS => (RUNNING, PARTITIONS as u32),
+        PARTS..REGISTERS => (PARTS, SCALARS),
+        REGISTERS..FRAMES => (REGISTERS, 32),
+        FRAMES..SHADOWS => (FRAMES, ENTRIES as u32),
+        SHADOWS..END => (SHADOWS, ENTRIES as u32),
+        _ => return (0, 0),
+    };
+    (((index - start) / size) as usize, ((index - start) % size) as usize)
+}
+
+/// A name for the place of an index, for people.
+pub fn name(index: u32) -> String {
+    let (part, place) = split(index);
+    match index {
+        COUNT => "count".into(),
+        Q => "q".into(),
+        WORDS => "words".into(),
+        CURRENT => "current".into(),
+        LEFT => "left".into(),
+        RUNNING..PARTS => format!("running[{place}]"),
+        PARTS..REGISTERS => format!("partition {part} {}", SCALAR_NAMES[place]),
+        REGISTERS..FRAMES => format!("partition {part} register {place}"),
+        FRAMES..SHADOWS => format!("partition {part} frame {place}"),
+        SHADOWS..END => format!("partition {part} shadow {place}"),
+        _ => format!("nowhere ({index})"),
+    }
+}
+
+const SCALAR_NAMES: [&str; SCALARS as usize] = [
+    "pages",
+    "dpc",
+    "pc",
+    "sr",
+    "esr",
+    "eca",
+    "epc",
+    "edpc",
+    "edata",
+    "mode",
+    "pto",
+    "ptl",
+    "emode",
+    "counter low",
+    "counter high",
+];
+
+fn get_scalar(guest: &Guest, place: u32) -> u32 {
+    match place {
+        PAGES => guest.space.pages,
+        DPC => guest.dpc,
+        PC => guest.pc,
+        COUNTER_LOW => guest.counter as u32,
+        COUNTER_HIGH => (guest.counter >> 32) as u32,
+        _ => guest.specials[(place - SPECIALS) as usize],
+    }
+}
+
+fn set_scalar(guest: &mut Guest, place: u32, value: u32) {
+    match place {
+        PAGES => guest.space.pages = value,
+        DPC => guest.dpc = value,
+        PC => guest.pc = value,
+        COUNTER_LOW => guest.counter = guest.counter >> 32 << 32 | u64::from(value),
+        COUNTER_HIGH => guest.counter = guest.counter & 0xFFFF_FFFF | u64::from(value) << 32,
+        _ => guest.specials[(place - SPECIALS) as usize] = value,
+    }
+}
+
+#[cfg(test)]
+mod tests {
+    use super::*;
+
+    #[test]
+    fn every_index_is_its_own_place() {
+        let mut house = House::NONE;
+        for index in 0..END {
+            assert_eq!(get(&house, index), Some(0), "index {index}");
+            set(&mut house, index, 1);
+            assert_eq!(get(&house, index), Some(1), "index {index}");
+        }
+        assert_eq!(END, 4_485);
+        assert_eq!(get(&house, END), None);
+    }
+
+    #[test]
+    fn a_poke_beyond_the_last_index_changes_nothing() {
+        let mut house = House::NONE;
+        set(&mut house, END, 1);
+        set(&mut house, u32::MAX, 1);
+        assert_eq!(house, House::NONE);
+    }
+}

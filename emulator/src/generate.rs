@@ -1,0 +1,172 @@
+//! Random scripts and house files. The same seed gives the same ones.
+
+mod calls;
+mod files;
+mod programs;
+mod runs;
+mod states;
+mod words;
+
+use crate::counts::Counts;
+use crate::house::Answer;
+use crate::memory::FRAME_WORDS;
+use crate::rng::Rng;
+use crate::script::{Command, Player};
+
+/// The most frames of a random house: each call's text has a digest of them all.
+const MOST_FRAMES: u32 = 64;
+
+/// A script and its name.
+#[derive(Clone, Debug)]
+pub struct Script {
+    /// The name, for messages.
+    pub name: String,
+    /// The commands; they begin with a cleared house.
+    pub commands: Vec<Command>,
+}
+
+/// A house file and its name.
+#[derive(Clone, Debug)]
+pub struct File {
+    /// The name, for messages.
+    pub name: String,
+    /// The bytes.
+    pub bytes: Vec<u8>,
+}
+
+/// How often each house number must be answered in a million steps.
+pub const ANSWERS_EACH: u64 = 50;
+/// The numbers that scripts give: 0 to 14.
+const SCRIPT_NUMBERS: usize = 15;
+
+/// Random scripts, until their guests have done `steps` steps and every house number from 0 to 14
+/// was answered often enough.
+pub fn scripts(seed: u64, steps: u64) -> Vec<Script> {
+    let mut scripts = Vec::new();
+    let mut total = Counts::default();
+    let answers = steps * ANSWERS_EACH / 1_000_000;
+    while total.all_steps() < steps || few_answers(&total, answers) {
+        let number = scripts.len() as u64;
+        let mut session = Session::new(Rng::new(seed ^ number << 32));
+        let kind = compose(&mut session, number);
+        total += &session.counts;
+        let name = format!("{kind} {number} of seed {seed}");
+        scripts.push(Script { name, commands: session.commands });
+    }
+    scripts
+}
+
+fn few_answers(counts: &Counts, answers: u64) -> bool {
+    counts.answers[..SCRIPT_NUMBERS].iter().any(|&given| given < answers)
+}
+
+/// Writes one script of the kind whose turn it is; tells the kind.
+fn compose(session: &mut Session, number: u64) -> &'static str {
+    match number % 8 {
+        0..=4 => {
+            runs::compose(session);
+            "programs"
+        }
+        5 | 6 => {
+            states::compose(session);
+            "states"
+        }
+        _ => {
+            calls::compose(session);
+            "calls"
+        }
+    }
+}
+
+/// Random house files: `count` that are damaged or cut, and a tenth as many that are whole.
+pub fn files(seed: u64, count: usize) -> Vec<File> {
+    (0..count + count.div_ceil(10))
+        .map(|number| {
+            let mut rng = Rng::new(!seed ^ (number as u64) << 32);
+            let (kind, bytes) = files::compose(&mut rng, number < count);
+            File { name: format!("{kind} file {number} of seed {seed}"), bytes }
+        })
+        .collect()
+}
+
+/// A script that grows: each command is played at once, so that the next can build on what it did.
+struct Session {
+    rng: Rng,
+    player: Player,
+    commands: Vec<Command>,
+    counts: Counts,
+}
+
+impl Session {
+    fn new(rng: Rng) -> Self {
+        Session { rng, player: Player::new(), commands: Vec::new(), counts: Counts::default() }
+    }
+
+    fn emit(&mut self, command: Command) -> Option<Answer> {
+        let answer = self.player.play(&command, &mut String::new(), &mut self.counts);
+        self.commands.push(command);
+        answer
+    }
+
+    /// The partitions of the house.
+    fn partitions(&self) -> u32 {
+        self.player.house.count.min(8)
+    }
+
+    /// A partition that exists.
+    fn partition(&mut self) -> u32 {
+        let partitions = self.partitions();
+        self.rng.below(partitions.max(1))
+    }
+
+    fn field(&mut self, index: u32, value: u32) {
+        self.emit(Command::Field { index, value });
+    }
+
+    /// Boots partitions with the given page counts on shuffled frames, with some frames to spare.
+    fn boot(&mut self, pages: &[u32]) {
+        let used: u32 = pages.iter().sum();
+        let frames = (used + self.rng.below(4)).min(MOST_FRAMES);
+        let mut list = self.rng.permutation(frames);
+        list.truncate(used as usize);
+        let q = self.turn_length();
+        self.emit(Command::Length { words: frames * FRAME_WORDS as u32 });
+        self.emit(Command::Boot { pages: pages.to_vec(), q, frames: list });
+    }
+
+    fn turn_length(&mut self) -> u32 {
+        match self.rng.below(3) {
+            0 => self.rng.between(1, 8),
+            1 => self.rng.pick(&[1, 13, 50, 100, 1_000, 10_000]),
+            _ => self.rng.between(1, 10_000),
+        }
+    }
+
+    /// Page counts for one to eight partitions, mostly few.
+    fn page_counts(&mut self, most: u32) -> Vec<u32> {
+        let partitions = match self.rng.below(4) {
+            0 => 1,
+            1 => self.rng.between(4, 8),
+            _ => self.rng.between(2, 3),
+        };
+        (0..partitions).map(|_| self.rng.between(1, most)).collect()
+    }
+
+    /// Writes a word of a partition's guest memory.
+    fn poke_guest(&mut self, partition: u32, place: u32, value: u32) {
+        let list = self.player.house.guests[partition as usize].space.list();
+        let frame = list[place as usize / FRAME_WORDS];
+        let index = frame * FRAME_WORDS as u32 + place % FRAME_WORDS as u32;
+        if self.player.lent()[index as usize] != value {
+            self.emit(Command::Poke { index, value });
+        }
+    }
+
+    /// Starts a partition if none runs, so that the next run does something.
+    fn keep_running(&mut self) {
+        if !self.player.house.running.contains(&true) {
+            let partition = self.partition();
+            self.emit(Command::Start { partition });
+        }
+    }
+}

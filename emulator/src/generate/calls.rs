@@ -1,0 +1,334 @@
+//! Calls with right and wrong arguments, on sound and damaged houses.
+
+use super::Session;
+use crate::dlx::special::{EMODE, MODE};
+use crate::fields::{self, COUNT, CURRENT, LEFT, Q, RUNNING, WORDS};
+use crate::house::House;
+use crate::memory::{PROTECTED, VALID};
+use crate::rng::Rng;
+use crate::script::{Command, MOST_OUTPUT};
+
+/// A change of the house: index and value.
+type Change = (u32, u32);
+
+/// A script of this kind.
+pub fn compose(session: &mut Session) {
+    for _ in 0..session.rng.between(2, 4) {
+        for _ in 0..session.rng.below(8) {
+            wrong_boot(session);
+        }
+        let pages = session.page_counts(4);
+        session.boot(&pages);
+        for _ in 0..session.rng.between(5, 15) {
+            something(session);
+        }
+    }
+}
+
+fn something(session: &mut Session) {
+    match session.rng.below(8) {
+        0 | 1 => damage_and_repair(session),
+        2 => wrong_length(session),
+        3 => refused_run(session),
+        4 => nothing_running(session),
+        5 => read_out(session),
+        _ => any_call(session),
+    }
+}
+
+/// A boot with one or more wrong arguments.
+fn wrong_boot(session: &mut Session) {
+    let mut pages: Vec<u32> = session.page_counts(6);
+    let used: u32 = pages.iter().sum();
+    let mut frames = session.rng.permutation(used);
+    let enough = 1_024 * used;
+    let (mut q, mut words) = (session.turn_length(), enough);
+    for _ in 0..session.rng.pick(&[1, 1, 1, 2, 3]) {
+        let rng = &mut session.rng;
+        match rng.below(9) {
+            0 => pages.resize(rng.pick(&[0, 9, 9, 10, 16]), 1),
+            1 => wrong_page_count(rng, &mut pages, &mut frames),
+            2 => q = rng.pick(&[0, 10_001, u32::MAX]),
+            3 => words = rng.pick(&[0, 1, 1_023, enough + 1, enough - 1, 65_535]),
+            4 => wrong_list_length(rng, &mut frames),
+            5 => wrong_frames(rng, &mut frames, words / 1_024),
+            _ => repeat_frames(rng, &mut frames),
+        }
+    }
+    session.emit(Command::Length { words });
+    session.emit(Command::Boot { pages, q, frames });
+}
+
+fn wrong_page_count(rng: &mut Rng, pages: &mut [u32], frames: &mut Vec<u32>) {
+    for _ in 0..rng.between(1, 2) {
+        if !pages.is_empty() {
+            let at = rng.index(pages.len());
+            pages[at] = rng.pick(&[0, 257, u32::MAX, 256]);
+        }
+    }
+    let sum: u64 = pages.iter().map(|&count| u64::from(count)).sum();
+    if sum <= 2_048 && rng.chance(70) {
+        let most = sum as u32;
+        *frames = rng.permutation(most);
+    }
+}
+
+fn wrong_list_length(rng: &mut Rng, frames: &mut Vec<u32>) {
+    match rng.below(3) {
+        0 => frames.clear(),
+        1 => drop(frames.pop()),
+        _ => frames.push(rng.below(64)),
+    }
+}
+
+fn wrong_frames(rng: &mut Rng, frames: &mut [u32], limit: u32) {
+    for _ in 0..rng.between(1, 3) {
+        if !frames.is_empty() {
+            let at = rng.index(frames.len());
+            frames[at] = rng.pick(&[limit, limit + 1, u32::MAX, 1 << 20]);
+        }
+    }
+}
+
+fn repeat_frames(rng: &mut Rng, frames: &mut [u32]) {
+    for _ in 0..rng.between(1, 3) {
+        if !frames.is_empty() {
+            let (from, to) = (rng.index(frames.len()), rng.index(frames.len()));
+            frames[to] = frames[from];
+        }
+    }
+}
+
+/// Any call, with a partition that may not exist.
+fn any_call(session: &mut Session) {
+    let partitions = session.partitions();
+    let rng = &mut session.rng;
+    let partition = match rng.below(6) {
+        0 => partitions,
+        1 => rng.pick(&[7, 8, 9, u32::MAX]),
+        _ => rng.below(partitions.max(1)),
+    };
+    let command = match rng.below(6) {
+        0 => Command::Run { steps: rng.below(12) },
+        1 => Command::Start { partition },
+        2 | 3 => Command::Stop { partition },
+        4 => Command::Empty { partition },
+        _ => return read_from(session, partition),
+    };
+    session.emit(command);
+}
+
+/// A read-out from any partition.
+pub fn read_out(session: &mut Session) {
+    let partition = session.partition();
+    read_from(session, partition);
+}
+
+fn read_from(session: &mut Session, partition: u32) {
+    let pages = session.player.house.guests.get(partition as usize).map_or(1, |g| g.space.pages);
+    let end = pages.min(256) * 4_096;
+    let rng = &mut session.rng;
+    let mut address = 4 * rng.below(end / 4 + 1);
+    let most = u64::from((end - address) / 4);
+    let small = u64::from(rng.below(10));
+    let count = match rng.below(12) {
+        0 => most,
+        1 => most + 1,
+        2 => rng.pick(&[u64::MAX, 1 << 62, 1 << 30, 1 << 32, u64::MAX / 4]),
+        3 => 0,
+        4 => most.min(u64::from(rng.below(3_000))),
+        _ => most.min(small),
+    };
+    if rng.chance(8) {
+        address = match rng.below(3) {
+            0 => address + rng.between(1, 3),
+            1 => rng.word() & !3,
+            _ => end,
+        };
+    }
+    let fits = count.min(MOST_OUTPUT as u64) as u32;
+    let output = match rng.below(6) {
+        0 => fits.saturating_sub(1),
+        1 => rng.below(20),
+        2 => fits,
+        _ => (fits + rng.below(5)).min(MOST_OUTPUT as u32),
+    };
+    session.emit(Command::Read { partition, address, count, output });
+}
+
+/// A run that is too long.
+pub fn refused_run(session: &mut Session) {
+    let steps = session.rng.pick(&[1_000_001, 1_000_002, u32::MAX, 1 << 31]);
+    session.emit(Command::Run { steps });
+}
+
+/// Stops all, runs, and starts one again.
+fn nothing_running(session: &mut Session) {
+    for partition in session.rng.permutation(8) {
+        if partition < session.partitions() {
+            session.emit(Command::Stop { partition });
+        }
+    }
+    for _ in 0..session.rng.between(1, 2) {
+        let steps = session.rng.pick(&[0, 1, 5, 1_000_000, 1_000_001]);
+        session.emit(Command::Run { steps });
+    }
+    if session.rng.chance(80) {
+        session.keep_running();
+    }
+}
+
+/// Calls while the memory's length is another than at boot.
+pub fn wrong_length(session: &mut Session) {
+    let words = session.player.lent().len() as u32;
+    let other = session.rng.pick(&[0, words + 1, words - 1, words + 1_024, words - 1_024, 65_536]);
+    session.emit(Command::Length { words: other });
+    for _ in 0..session.rng.between(1, 3) {
+        match session.rng.below(4) {
+            0 => drop(session.emit(Command::Run { steps: 3 })),
+            1 => refused_run(session),
+            2 => read_out(session),
+            _ => any_call(session),
+        }
+    }
+    session.emit(Command::Length { words });
+}
+
+/// Changes the house by hand, calls, and puts it right again if it was damaged.
+pub fn damage_and_repair(session: &mut Session) {
+    if session.player.house.damaged() {
+        return;
+    }
+    let changes = damage(&mut session.rng, &session.player.house);
+    let old: Vec<Change> = changes
+        .iter()
+        .filter_map(|&(index, _)| Some((index, fields::get(&session.player.house, index)?)))
+        .collect();
+    for &(index, value) in &changes {
+        session.field(index, value);
+    }
+    let damaged = session.player.house.damaged();
+    for _ in 0..session.rng.between(1, 3) {
+        match session.rng.below(5) {
+            0 => wrong_length(session),
+            _ => any_call(session),
+        }
+    }
+    if damaged {
+        for (index, value) in old {
+            session.field(index, value);
+        }
+        any_call(session);
+    }
+}
+
+/// One of the ways in which a house can be damaged; some values lie just inside the limits.
+fn damage(rng: &mut Rng, house: &House) -> Vec<Change> {
+    let partition = rng.below(house.count);
+    match rng.below(16) {
+        0 => vec![(COUNT, rng.pick(&[0, 9, u32::MAX, house.count - 1, house.count + 1]))],
+        1 => vec![(Q, rng.pick(&[0, 10_000, 10_001, u32::MAX, house.left]))],
+        2 => vec![(WORDS, wrong_words(rng, house.words))],
+        3 => vec![wrong_current(rng, house)],
+        4 => vec![(LEFT, rng.pick(&[0, house.q, house.q + 1, u32::MAX]))],
+        5 => vec![flip(rng.below(8), house)],
+        6 => all_stopped(rng),
+        7 => vec![wrong_pages(rng, partition, house)],
+        8 => vec![(fields::register(partition, 0), rng.word() | 1)],
+        9 | 10 => vec![wrong_mode(rng, partition)],
+        11 => vec![wrong_frame(rng, partition, house)],
+        12 => vec![unused_frame(rng, partition, house)],
+        13 | 14 => vec![wrong_shadow(rng, partition, house)],
+        _ => vec![unused_partition(rng, house)],
+    }
+}
+
+fn wrong_words(rng: &mut Rng, words: u32) -> u32 {
+    rng.pick(&[0, 1, words + 1, words - 1, 1_024, 1_024 * 1_024, 1_024 * 1_025, u32::MAX])
+}
+
+fn wrong_current(rng: &mut Rng, house: &House) -> Change {
+    let any = rng.below(9);
+    (CURRENT, rng.pick(&[any, house.count, u32::MAX]))
+}
+
+fn flip(partition: u32, house: &House) -> Change {
+    (RUNNING + partition, u32::from(!house.running[partition as usize]))
+}
+
+/// All flags off; the turn as it was, or none, or none with an index left over.
+fn all_stopped(rng: &mut Rng) -> Vec<Change> {
+    let mut changes: Vec<Change> = (0..8).map(|partition| (RUNNING + partition, 0)).collect();
+    if rng.chance(70) {
+        changes.push((LEFT, 0));
+        changes.push((CURRENT, rng.below(3)));
+    }
+    changes
+}
+
+fn wrong_pages(rng: &mut Rng, partition: u32, house: &House) -> Change {
+    let pages = house.guests[partition as usize].space.pages;
+    let value = rng.pick(&[0, 257, 256, u32::MAX, pages - 1, pages + 1]);
+    (fields::scalar(partition, fields::PAGES), value)
+}
+
+fn wrong_mode(rng: &mut Rng, partition: u32) -> Change {
+    let special = rng.pick(&[MODE, EMODE]);
+    (fields::special(partition, special), rng.pick(&[1, 2, 3, u32::MAX]))
+}
+
+/// A frame number beyond the memory, or one that stands elsewhere too.
+fn wrong_frame(rng: &mut Rng, partition: u32, house: &House) -> Change {
+    let pages = house.guests[partition as usize].space.pages;
+    let value = match rng.below(3) {
+        0 => rng.pick(&[house.words / 1_024, u32::MAX, 1 << 20]),
+        1 => any_frame(rng, house),
+        _ => rng.below(house.words / 1_024),
+    };
+    (fields::frame(partition, rng.below(pages)), value)
+}
+
+/// A frame of any partition.
+fn any_frame(rng: &mut Rng, house: &House) -> u32 {
+    let space = &house.guests[rng.index(house.count as usize)].space;
+    space.frames[rng.index(space.pages as usize)]
+}
+
+fn unused_frame(rng: &mut Rng, partition: u32, house: &House) -> Change {
+    let pages = house.guests[partition as usize].space.pages;
+    let any = rng.between(pages, 255);
+    let place = rng.pick(&[pages, 255, any]);
+    (fields::frame(partition, place), rng.between(1, 3))
+}
+
+/// A valid entry with a frame of any partition or none, or something in an empty entry or in the
+/// unused bits.
+fn wrong_shadow(rng: &mut Rng, partition: u32, house: &House) -> Change {
+    let own = house.guests[partition as usize].space.frames[0];
+    let bit = 1 << rng.below(10);
+    let value = match rng.below(7) {
+        0 => any_frame(rng, house) << 12 | VALID | rng.below(2) << 10,
+        1 => rng.below(70) << 12 | VALID,
+        2 => own << 12 | VALID | bit,
+        3 => own << 12 | PROTECTED,
+        4 => PROTECTED,
+        5 => bit,
+        _ => 0xF_FFFF << 12 | VALID,
+    };
+    (fields::shadow(partition, rng.below(256)), value)
+}
+
+/// Anything in the place of a partition that the house does not have.
+fn unused_partition(rng: &mut Rng, house: &House) -> Change {
+    if house.count == 8 {
+        return (fields::register(7, 0), 1);
+    }
+    let partition = rng.between(house.count, 7);
+    let index = match rng.below(5) {
+        0 | 1 => fields::scalar(partition, rng.below(fields::SCALARS)),
+        2 => fields::register(partition, rng.below(32)),
+        3 => fields::frame(partition, rng.below(256)),
+        _ => fields::shadow(partition, rng.below(256)),
+    };
+    (index, rng.pick(&[1, 4, VALID, u32::MAX]))
+}

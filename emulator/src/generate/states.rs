@@ -1,0 +1,168 @@
+//! Scripts that set a guest's state by hand and do one or a few steps from it.
+
+use super::{words, Session};
+use crate::counts::Counts;
+use crate::dlx::special::{EDPC, EMODE, EPC, ESR, MODE, PTL, PTO, SR};
+use crate::dlx::{decode, Instruction};
+use crate::fields;
+use crate::memory::{shadow_entry, Access, PROTECTED, VALID};
+use crate::script::Command;
+
+/// Pages of user addresses that the tables have.
+const MAPPED: u32 = 12;
+
+/// A script of this kind.
+pub fn compose(session: &mut Session) {
+    let pages: Vec<u32> = session.page_counts(5).into_iter().take(3).collect();
+    session.boot(&pages);
+    for (partition, &count) in pages.iter().enumerate() {
+        let table = session.rng.below(count);
+        write_table(session, partition as u32, count, table);
+    }
+    for _ in 0..session.rng.between(20, 40) {
+        one_case(session);
+    }
+}
+
+/// A table with entries of all sorts; one of them maps the table itself.
+fn write_table(session: &mut Session, partition: u32, pages: u32, table: u32) {
+    session.field(fields::special(partition, PTO), table);
+    for px in (0..MAPPED).chain([255]) {
+        let page = if px == 1 { table } else { session.rng.below(pages) };
+        let entry = match session.rng.below(10) {
+            0 => page << 12,
+            1 => (pages + session.rng.below(2)) << 12 | VALID,
+            2 => page << 12 | VALID | PROTECTED,
+            _ => page << 12 | VALID | session.rng.below(1 << 10),
+        };
+        session.poke_guest(partition, 1_024 * table + px, entry);
+    }
+}
+
+/// A state, an instruction, and a run.
+fn one_case(session: &mut Session) {
+    let partition = session.player.house.current;
+    set_specials(session, partition);
+    set_pair(session, partition);
+    if session.rng.chance(25) {
+        set_shadow(session, partition);
+    }
+    let instruction = words::instruction(&mut session.rng);
+    set_registers(session, partition, instruction);
+    place_instruction(session, partition, instruction);
+    let steps = if session.rng.chance(75) { 1 } else { session.rng.between(2, 6) };
+    session.emit(Command::Run { steps });
+    if session.rng.chance(5) {
+        session.emit(Command::Empty { partition });
+    }
+}
+
+fn set_specials(session: &mut Session, partition: u32) {
+    let rng = &mut session.rng;
+    let mut changes = vec![(MODE, u32::from(rng.chance(60)))];
+    if rng.chance(40) {
+        changes.push((SR, rng.pick(&[0, 64, u32::MAX])));
+    }
+    if rng.chance(40) {
+        changes.push((PTL, rng.pick(&[MAPPED, 256, 257, 3, 0, u32::MAX])));
+    }
+    if rng.chance(6) {
+        changes.push((PTO, rng.pick(&[0, 1, 2, 5, 0x10_0000, u32::MAX])));
+    }
+    if rng.chance(20) {
+        changes.extend([(EMODE, rng.below(2)), (ESR, rng.word())]);
+        changes.extend([(EPC, 4 * rng.below(3_000)), (EDPC, 4 * rng.below(3_000))]);
+    }
+    for (special, value) in changes {
+        session.field(fields::special(partition, special), value);
+    }
+    if session.rng.chance(5) {
+        session.field(fields::scalar(partition, fields::COUNTER_LOW), u32::MAX);
+        session.field(fields::scalar(partition, fields::COUNTER_HIGH), u32::MAX);
+    }
+}
+
+/// DPC and PC.
+fn set_pair(session: &mut Session, partition: u32) {
+    let page = any_page(session);
+    let rng = &mut session.rng;
+    let mut dpc = 4_096 * page + 4 * rng.between(300, 1_000);
+    if rng.chance(4) {
+        dpc += rng.between(1, 3);
+    }
+    let pc = match rng.below(10) {
+        0 => rng.word(),
+        1 => rng.pick(&[u32::MAX, 0xFFFF_FFFC, 0xFFFF_FFF8, 0]),
+        _ => dpc.wrapping_add(4),
+    };
+    session.field(fields::scalar(partition, fields::DPC), dpc);
+    session.field(fields::scalar(partition, fields::PC), pc);
+}
+
+/// A page of addresses: mostly one that there is.
+fn any_page(session: &mut Session) -> u32 {
+    let rng = &mut session.rng;
+    match rng.below(20) {
+        0 => 255,
+        1 => rng.pick(&[256, 257, 0xF_FFFF]),
+        2 => rng.below(256),
+        _ => rng.below(MAPPED - 4),
+    }
+}
+
+fn set_shadow(session: &mut Session, partition: u32) {
+    let list = session.player.house.guests[partition as usize].space.list().to_vec();
+    let px = any_page(session).min(255);
+    let entry = match session.rng.below(4) {
+        0 => 0,
+        _ => shadow_entry(session.rng.pick(&list), session.rng.word()),
+    };
+    session.field(fields::shadow(partition, px), entry);
+}
+
+/// Registers that the instruction reads; RS1 gives an address where one is needed.
+fn set_registers(session: &mut Session, partition: u32, word: u32) {
+    let (rs1, rs2) = (word >> 21 & 31, word >> 16 & 31);
+    let value = words::value(&mut session.rng);
+    set_register(session, partition, rs2, value);
+    let value = match decode(word) {
+        Some(Instruction::Lw { imm, .. } | Instruction::Sw { imm, .. }) => {
+            data_address(session, partition).wrapping_sub(imm)
+        }
+        Some(Instruction::Jump { .. }) => 4 * session.rng.below(8_000) + u32::from(value == 1),
+        _ => words::value(&mut session.rng),
+    };
+    set_register(session, partition, rs1, value);
+}
+
+fn set_register(session: &mut Session, partition: u32, number: u32, value: u32) {
+    let value = if number == 0 { 0 } else { value };
+    session.field(fields::register(partition, number), value);
+}
+
+/// A data address; often that of a table entry, in system mode or through the page that maps it.
+fn data_address(session: &mut Session, partition: u32) -> u32 {
+    let guest = &session.player.house.guests[partition as usize];
+    let (dpc, pto, user) = (guest.dpc, guest.specials[PTO], guest.user());
+    let page = any_page(session);
+    let rng = &mut session.rng;
+    let px = if rng.chance(50) { dpc >> 12 & 255 } else { rng.below(MAPPED + 2) };
+    match rng.below(10) {
+        0..=2 if user => 4_096 + 4 * px,
+        0..=2 => pto.wrapping_mul(4_096).wrapping_add(4 * px),
+        3 => 4_096 * page + rng.below(4_096),
+        _ => 4_096 * page + 4 * rng.below(1_024),
+    }
+}
+
+/// Puts the instruction where the fetch will find it, if it finds anything.
+fn place_instruction(session: &mut Session, partition: u32, instruction: u32) {
+    let guest = &session.player.house.guests[partition as usize];
+    let table = guest.user().then(|| guest.table());
+    let mut space = guest.space.clone();
+    let place =
+        space.locate(session.player.lent(), table, guest.dpc, Access::Load, &mut Counts::default());
+    if let Some(place) = place {
+        session.poke_guest(partition, 1_024 * place.page + place.word, instruction);
+    }
+}

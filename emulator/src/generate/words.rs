@@ -1,0 +1,85 @@
+//! Random instruction words and values.
+
+use crate::assemble::{function, i_type, j_type, movi2s, movs2i, opcode, r_type, rfe, trap};
+use crate::rng::Rng;
+
+/// Opcodes that work out RD from RS1 and the immediate.
+pub const IMMEDIATE: [u32; 14] = [8, 10, 12, 13, 14, 15, 24, 25, 26, 27, 28, 29, 30, 31];
+/// Functions that work out RD from RS1 and RS2.
+pub const REGISTER: [u32; 13] = [32, 34, 36, 37, 38, 40, 41, 42, 43, 44, 45, 46, 47];
+/// Values at which arithmetic and comparisons change their answer.
+const EDGES: [u32; 10] =
+    [0, 1, 2, 4, u32::MAX, 0x7FFF_FFFF, 0x8000_0000, 0x8000_0001, 0x7FFF, 0xFFFF_8000];
+
+/// A value for a register: an edge, a small number, or any word.
+pub fn value(rng: &mut Rng) -> u32 {
+    match rng.below(4) {
+        0 | 1 => rng.pick(&EDGES),
+        2 => rng.below(5_000),
+        _ => rng.word(),
+    }
+}
+
+/// An immediate: small multiples of 4, edges, or any 16 bits.
+pub fn immediate(rng: &mut Rng) -> u32 {
+    match rng.below(4) {
+        0 => 4 * rng.below(32),
+        1 => rng.pick(&EDGES),
+        2 => rng.below(16).wrapping_sub(8),
+        _ => rng.word(),
+    }
+}
+
+/// A register number, mostly one of the first few.
+pub fn register(rng: &mut Rng) -> u32 {
+    match rng.below(20) {
+        0 => rng.below(32),
+        1 => 31,
+        _ => rng.below(13),
+    }
+}
+
+/// An instruction that works on registers only.
+pub fn compute(rng: &mut Rng) -> u32 {
+    let (rd, rs1, rs2) = (register(rng) % 13, register(rng), register(rng));
+    if rng.chance(50) {
+        i_type(rng.pick(&IMMEDIATE), rd, rs1, immediate(rng))
+    } else {
+        // SA is not used and ignored.
+        r_type(rng.pick(&REGISTER), rd, rs1, rs2) | rng.below(32) << 6
+    }
+}
+
+/// A word that is not in the table, or a special number above 9.
+pub fn ill(rng: &mut Rng) -> u32 {
+    let above = rng.between(10, 31) as usize;
+    match rng.below(6) {
+        0 => 0,
+        1 => r_type(rng.pick(&[33, 35, 39, 0, 1, 15, 18, 31, 48, 63]), 1, 2, 3),
+        2 => i_type(rng.pick(&[1, 6, 7, 9, 11, 16, 21, 32, 34, 36, 42, 44, 61]), 1, 2, 4),
+        3 => movs2i(register(rng), above),
+        4 => movi2s(above, register(rng)),
+        _ => rng.word() & 0x03FF_FFC0 | 50,
+    }
+}
+
+/// Any instruction, now and then a word that is none.
+pub fn instruction(rng: &mut Rng) -> u32 {
+    let short = (4 * rng.below(24)).wrapping_sub(32);
+    let (a, b) = (register(rng), register(rng));
+    match rng.below(100) {
+        0..=39 => compute(rng),
+        40..=59 => i_type(rng.pick(&[opcode::LW, opcode::SW]), a, b, immediate(rng)),
+        60..=69 => i_type(rng.pick(&[opcode::BEQZ, opcode::BNEZ]), a, b, short),
+        70..=74 => j_type(rng.pick(&[opcode::J, opcode::JAL]), short),
+        75 => j_type(rng.pick(&[opcode::J, opcode::JAL]), rng.word()),
+        76..=79 => i_type(rng.pick(&[opcode::JR, opcode::JALR]), a, b, immediate(rng)),
+        80..=82 => trap(rng.word()),
+        83..=85 => rfe() | rng.word() & 0x03FF_FFFF,
+        86..=89 => movs2i(a, rng.index(10)) | rng.word() & 0x03FF_0000,
+        90..=94 => movi2s(rng.index(10), a) | rng.word() & 0x001F_F800,
+        95..=96 => ill(rng),
+        97 => r_type(function::ADD, a, b, a),
+        _ => rng.word(),
+    }
+}

@@ -1,0 +1,20 @@
+//! A second emulator of the house of partitions.
+//!
+//! It is written from document 01 alone, shares no line with the proved house, and exists to be
+//! compared with it: the same script of calls, or the same house file, must give the same text.
+
+pub mod assemble;
+pub mod compare;
+pub mod counts;
+pub mod dlx;
+pub mod fields;
+pub mod generate;
+pub mod house;
+pub mod housefile;
+pub mod memory;
+pub mod named;
+pub mod process;
+pub mod rng;
+pub mod script;
+pub mod shrink;
+pub mod source;

@@ -1,0 +1,224 @@
+//! The command line.
+
+use std::io::{self, Read, Write};
+use std::path::Path;
+use std::process::ExitCode;
+use std::time::Duration;
+use std::{env, fs};
+
+use emulator::compare::{compare, shrink_script, Options};
+use emulator::counts::Counts;
+use emulator::process::Program;
+use emulator::{generate, housefile, named, script, source};
+
+const HELP: &str = "\
+emulator: a second emulator of the house of partitions, to be compared with the proved one
+
+emulator compare --drill CMD --night CMD [--seed N] [--steps N] [--files N] [--jobs N] [--limit N]
+    Plays named and random scripts with CMD of --drill, and gives named and random house files
+    to CMD of --night, both on standard input, and compares every answer with its own. One of
+    the two CMD may be left out. Shows the smallest script or file that differs. Status 0 and a
+    last line `emulator: N compared, 0 differ` only when all agree.
+    --seed   start of the random numbers (1)
+    --steps  guest steps of the random scripts, at least (1000000)
+    --files  random house files that are damaged or cut (2000)
+    --jobs   programs that run at the same time (2)
+    --limit  seconds that a program may take (600)
+emulator play [SCRIPT]
+    Plays a script (FORMAT.md) and prints what it sees after each call.
+emulator night [FILE]
+    Reads a house file, boots, runs, and prints the report.
+emulator show [SCRIPT]
+    Prints the commands of a script.
+emulator shrink --drill CMD [SCRIPT]
+    Makes a script on which CMD differs as small as it goes.
+emulator generate --out DIR [--seed N] [--steps N] [--files N]
+    Writes the named and random scripts and house files into DIR.
+emulator make [SOURCE] --out FILE
+    Makes a house file from a readable source; `emulator form` tells what stands in one.
+
+Without a file, or for -, standard input is read.
+";
+
+fn main() -> ExitCode {
+    let arguments: Vec<String> = env::args().skip(1).collect();
+    match command(&arguments) {
+        Ok(status) => status,
+        Err(message) => {
+            eprintln!("emulator: {message}");
+            ExitCode::from(2)
+        }
+    }
+}
+
+fn command(arguments: &[String]) -> Result<ExitCode, String> {
+    let Some((name, rest)) = arguments.split_first() else {
+        return Err("expected a command, was given none; `emulator help` lists them".into());
+    };
+    match name.as_str() {
+        "compare" => run_compare(&Arguments::parse(rest)?),
+        "play" => print(&script::play(&input(&Arguments::parse(rest)?)?, &mut Counts::default())),
+        "night" => {
+            print(&housefile::night(&input(&Arguments::parse(rest)?)?, &mut Counts::default()))
+        }
+        "show" => show(&Arguments::parse(rest)?),
+        "shrink" => run_shrink(&Arguments::parse(rest)?),
+        "generate" => run_generate(&Arguments::parse(rest)?),
+        "make" => make(&Arguments::parse(rest)?),
+        "form" => print(source::FORM),
+        "help" | "--help" | "-h" => print(HELP),
+        other => Err(format!(
+            "expected compare, play, night, show, shrink, generate, make, form or help, was given {other}"
+        )),
+    }
+}
+
+/// Options by name, and at most one file.
+#[derive(Default)]
+struct Arguments {
+    options: Vec<(String, String)>,
+    file: Option<String>,
+}
+
+impl Arguments {
+    fn parse(arguments: &[String]) -> Result<Arguments, String> {
+        const NAMES: [&str; 8] =
+            ["--drill", "--night", "--seed", "--steps", "--files", "--jobs", "--limit", "--out"];
+        let mut parsed = Arguments::default();
+        let mut rest = arguments.iter();
+        while let Some(argument) = rest.next() {
+            if NAMES.contains(&argument.as_str()) {
+                let value = rest.next().ok_or(format!("expected a value after {argument}"))?;
+                parsed.options.push((argument.clone(), value.clone()));
+            } else if argument.starts_with("--") {
+                return Err(format!("expected one of {}, was given {argument}", NAMES.join(" ")));
+            } else if parsed.file.replace(argument.clone()).is_some() {
+                return Err(format!("expected one file, was given {argument} too"));
+            }
+        }
+        Ok(parsed)
+    }
+
+    fn text(&self, name: &str) -> Option<&str> {
+        let given = self.options.iter().rev().find(|(option, _)| option == name);
+        given.map(|(_, value)| value.as_str())
+    }
+
+    fn number(&self, name: &str, otherwise: u64) -> Result<u64, String> {
+        match self.text(name) {
+            None => Ok(otherwise),
+            Some(text) => {
+                let plain: String = text.chars().filter(|&letter| letter != '_').collect();
+                plain
+                    .parse()
+                    .map_err(|_| format!("expected a number after {name}, was given {text}"))
+            }
+        }
+    }
+
+    fn program(&self, name: &str) -> Result<Option<Program>, String> {
+        let limit = Duration::from_secs(self.number("--limit", 600)?);
+        self.text(name).map(|line| Program::new(line, limit)).transpose()
+    }
+
+    fn seed(&self) -> Result<u64, String> {
+        self.number("--seed", 1)
+    }
+
+    fn steps(&self) -> Result<u64, String> {
+        self.number("--steps", 1_000_000)
+    }
+
+    fn files(&self) -> Result<usize, String> {
+        Ok(self.number("--files", 2_000)? as usize)
+    }
+}
+
+fn run_compare(arguments: &Arguments) -> Result<ExitCode, String> {
+    let options = Options {
+        drill: arguments.program("--drill")?,
+        night: arguments.program("--night")?,
+        seed: arguments.seed()?,
+        steps: arguments.steps()?,
+        files: arguments.files()?,
+        jobs: arguments.number("--jobs", 2)? as usize,
+    };
+    if options.drill.is_none() && options.night.is_none() {
+        return Err("expected --drill CMD or --night CMD, was given neither".into());
+    }
+    let outcome = compare(&options)?;
+    let end = format!("emulator: {} compared, {} differ\n", outcome.compared, outcome.differ);
+    print(&(outcome.report + &end))?;
+    Ok(if outcome.differ == 0 { ExitCode::SUCCESS } else { ExitCode::FAILURE })
+}
+
+fn run_shrink(arguments: &Arguments) -> Result<ExitCode, String> {
+    let drill = arguments.program("--drill")?.ok_or("expected --drill CMD, was given none")?;
+    let (commands, wrong) = script::read(&input(arguments)?);
+    if let Some(at) = wrong {
+        return Err(format!("the script has a wrong command at byte {at}"));
+    }
+    match shrink_script(&drill, &commands) {
+        Some(small) => print(&small),
+        None => print("the script agrees\n"),
+    }
+}
+
+fn show(arguments: &Arguments) -> Result<ExitCode, String> {
+    let (commands, wrong) = script::read(&input(arguments)?);
+    let mut text: String = commands.iter().map(|command| format!("{command}\n")).collect();
+    if let Some(at) = wrong {
+        text.push_str(&format!("wrong command at {at}\n"));
+    }
+    print(&text)
+}
+
+/// Writes every script and file under its name, with dashes for what is not a letter or digit.
+fn run_generate(arguments: &Arguments) -> Result<ExitCode, String> {
+    let directory = arguments.text("--out").ok_or("expected --out DIR, was given none")?;
+    fs::create_dir_all(directory).map_err(|error| format!("{directory}: {error}"))?;
+    let (seed, steps) = (arguments.seed()?, arguments.steps()?);
+    let scripts = named::scripts().into_iter().chain(generate::scripts(seed, steps));
+    for one in scripts {
+        save(directory, &one.name, "script", &script::write(&one.commands))?;
+    }
+    for file in named::files().into_iter().chain(generate::files(seed, arguments.files()?)) {
+        save(directory, &file.name, "house", &file.bytes)?;
+    }
+    Ok(ExitCode::SUCCESS)
+}
+
+fn save(directory: &str, name: &str, kind: &str, bytes: &[u8]) -> Result<(), String> {
+    let plain = |letter: char| if letter.is_ascii_alphanumeric() { letter } else { '-' };
+    let name: String = name.chars().map(plain).collect();
+    let path = Path::new(directory).join(format!("{name}.{kind}"));
+    fs::write(&path, bytes).map_err(|error| format!("{}: {error}", path.display()))
+}
+
+fn make(arguments: &Arguments) -> Result<ExitCode, String> {
+    let out = arguments.text("--out").ok_or("expected --out FILE, was given none")?;
+    let text = String::from_utf8(input(arguments)?).map_err(|_| "the source is not UTF-8 text")?;
+    let bytes = source::bytes(&text).map_err(|message| match &arguments.file {
+        Some(path) => format!("{path}: {message}"),
+        None => message,
+    })?;
+    fs::write(out, bytes).map_err(|error| format!("{out}: {error}"))?;
+    Ok(ExitCode::SUCCESS)
+}
+
+/// The bytes of the file, or of standard input.
+fn input(arguments: &Arguments) -> Result<Vec<u8>, String> {
+    match arguments.file.as_deref() {
+        None | Some("-") => {
+            let mut bytes = Vec::new();
+            io::stdin().read_to_end(&mut bytes).map_err(|error| error.to_string())?;
+            Ok(bytes)
+        }
+        Some(path) => fs::read(path).map_err(|error| format!("{path}: {error}")),
+    }
+}
+
+fn print(text: &str) -> Result<ExitCode, String> {
+    io::stdout().write_all(text.as_bytes()).map_err(|error| error.to_string())?;
+    Ok(ExitCode::SUCCESS)
+}

@@ -1,0 +1,215 @@
+//! Addresses and shadows: how a guest byte address becomes one word of the lent host memory.
+
+use crate::counts::Counts;
+
+/// Words of a frame.
+pub const FRAME_WORDS: usize = 1_024;
+/// Bytes of a page.
+pub const PAGE_BYTES: u64 = 4_096;
+/// Entries of a shadow table, and places of a frame list.
+pub const ENTRIES: usize = 256;
+/// Bit 11 of an entry: valid.
+pub const VALID: u32 = 1 << 11;
+/// Bit 10 of an entry: protected.
+pub const PROTECTED: u32 = 1 << 10;
+/// The answer of address composition for a fault.
+pub const FAULT: u32 = u32::MAX;
+
+/// Address composition: the guest page of a table entry, or [`FAULT`]. `store` 0 is a load, all
+/// else a store.
+pub fn compose(entry: u32, pages: u32, store: u32) -> u32 {
+    let page = entry >> 12;
+    let forbidden = store != 0 && entry & PROTECTED != 0;
+    if entry & VALID == 0 || page >= pages || forbidden {
+        FAULT
+    } else {
+        page
+    }
+}
+
+/// The shadow entry for a host frame, with the protection of the guest's own entry.
+pub fn shadow_entry(frame: u32, guest_entry: u32) -> u32 {
+    frame << 12 | VALID | guest_entry & PROTECTED
+}
+
+/// What an access does with its word; a fetch loads.
+#[derive(Clone, Copy, Debug, PartialEq, Eq)]
+pub enum Access {
+    /// The word is read.
+    Load,
+    /// The word is written.
+    Store,
+}
+
+/// The guest's page table: its origin in pages and its length in entries.
+#[derive(Clone, Copy, Debug, PartialEq, Eq)]
+pub struct Table {
+    /// Page table origin.
+    pub pto: u32,
+    /// Page table length, a count.
+    pub ptl: u32,
+}
+
+/// A word of guest memory.
+#[derive(Clone, Copy, Debug, PartialEq, Eq)]
+pub struct Place {
+    /// The guest page.
+    pub page: u32,
+    /// The word inside the page.
+    pub word: u32,
+}
+
+impl Place {
+    /// The place of a guest byte address that is not translated.
+    pub fn of(address: u32) -> Self {
+        Place { page: address >> 12, word: word_in_page(address) }
+    }
+
+    /// The guest byte address.
+    fn address(self) -> u64 {
+        PAGE_BYTES * u64::from(self.page) + 4 * u64::from(self.word)
+    }
+}
+
+fn word_in_page(address: u32) -> u32 {
+    (address & 0xFFF) / 4
+}
+
+/// A partition's pages and its shadow table.
+#[derive(Clone, Debug, PartialEq, Eq)]
+pub struct Space {
+    /// The page count.
+    pub pages: u32,
+    /// The frame list: guest page k is its k-th frame.
+    pub frames: [u32; ENTRIES],
+    /// The shadow table: frame in bits 31..12, bit 11 valid, bit 10 protected; 0 is empty.
+    pub shadow: [u32; ENTRIES],
+}
+
+impl Space {
+    /// The space of no pages.
+    pub const ZERO: Space = Space { pages: 0, frames: [0; ENTRIES], shadow: [0; ENTRIES] };
+
+    /// The frame list without its unused places.
+    pub fn list(&self) -> &[u32] {
+        &self.frames[..self.pages as usize]
+    }
+
+    /// The place of an access, or none for a fault. Only an access in user mode, which has a
+    /// table, is translated.
+    pub fn locate(
+        &mut self,
+        memory: &[u32],
+        table: Option<Table>,
+        address: u32,
+        access: Access,
+        counts: &mut Counts,
+    ) -> Option<Place> {
+        match table {
+            None => self.untranslated(address),
+            Some(table) => {
+                let page = self.translated(memory, table, address >> 12, access, counts)?;
+                Some(Place { page, word: word_in_page(address) })
+            }
+        }
+    }
+
+    /// System mode: the address must be below 4,096 times the page count.
+    fn untranslated(&self, address: u32) -> Option<Place> {
+        let inside = u64::from(address) < PAGE_BYTES * u64::from(self.pages);
+        inside.then(|| Place::of(address))
+    }
+
+    /// User mode: a valid shadow entry alone decides, otherwise the guest's table does.
+    fn translated(
+        &mut self,
+        memory: &[u32],
+        table: Table,
+        px: u32,
+        access: Access,
+        counts: &mut Counts,
+    ) -> Option<u32> {
+        let shadow = *self.shadow.get(px as usize)?;
+        let (page, protection) = if shadow & VALID != 0 {
+            (self.page_of(shadow >> 12), shadow)
+        } else {
+            self.fill(memory, table, px, counts)?
+        };
+        let forbidden = access == Access::Store && protection & PROTECTED != 0;
+        (!forbidden).then_some(page)
+    }
+
+    /// Fills shadow `px` from the guest's table if all tests but protection pass.
+    fn fill(
+        &mut self,
+        memory: &[u32],
+        table: Table,
+        px: u32,
+        counts: &mut Counts,
+    ) -> Option<(u32, u32)> {
+        let entry = self.entry(memory, table, px)?;
+        let page = match compose(entry, self.pages, 0) {
+            FAULT => return None,
+            page => page,
+        };
+        self.shadow[px as usize] = shadow_entry(self.frames[page as usize], entry);
+        counts.fills += 1;
+        Some((page, entry))
+    }
+
+    /// The word at 4,096 PTO + 4 px, worked out without wrapping.
+    fn entry(&self, memory: &[u32], table: Table, px: u32) -> Option<u32> {
+        if px >= table.ptl {
+            return None;
+        }
+        let address = PAGE_BYTES * u64::from(table.pto) + 4 * u64::from(px);
+        let inside = address < PAGE_BYTES * u64::from(self.pages);
+        inside.then(|| self.load(memory, Place::of(address as u32)))
+    }
+
+    /// The guest page of a frame is the frame's place in the list.
+    fn page_of(&self, frame: u32) -> u32 {
+        let place = self.list().iter().position(|&own| own == frame);
+        place.expect("a valid shadow entry of an undamaged house has an own frame") as u32
+    }
+
+    /// The word at a place.
+    pub fn load(&self, memory: &[u32], place: Place) -> u32 {
+        memory[self.host_word(place)]
+    }
+
+    /// Writes the word at a place; a store into entry px of the table empties shadow px.
+    pub fn store(
+        &mut self,
+        memory: &mut [u32],
+        table: Table,
+        place: Place,
+        value: u32,
+        counts: &mut Counts,
+    ) {
+        memory[self.host_word(place)] = value;
+        if let Some(px) = entry_at(table, place) {
+            counts.emptied_by_store += u64::from(self.shadow[px] != 0);
+            self.shadow[px] = 0;
+        }
+    }
+
+    /// Empties all entries; tells how many were valid.
+    pub fn empty(&mut self) -> u64 {
+        let valid = self.shadow.iter().filter(|&&entry| entry != 0).count();
+        self.shadow = [0; ENTRIES];
+        valid as u64
+    }
+
+    fn host_word(&self, place: Place) -> usize {
+        self.frames[place.page as usize] as usize * FRAME_WORDS + place.word as usize
+    }
+}
+
+/// The px whose table entry stands at a place, px below PTL and 256.
+fn entry_at(table: Table, place: Place) -> Option<usize> {
+    let offset = place.address().checked_sub(PAGE_BYTES * u64::from(table.pto))?;
+    let px = offset / 4;
+    let inside = px < u64::from(table.ptl) && px < ENTRIES as u64;
+    inside.then_some(px as usize)
+}

@@ -1,0 +1,378 @@
+//! Scripts of calls: their bytes, and the text that playing them gives (FORMAT.md).
+
+use std::fmt::{self, Write};
+
+use crate::counts::Counts;
+use crate::dlx::{decode, Guest};
+use crate::fields;
+use crate::house::{numbers, Answer, House};
+
+/// The most words of lent memory: 64 frames.
+pub const MOST_WORDS: usize = 262_144;
+/// The most partitions that a boot command can name.
+pub const MOST_PARTITIONS: usize = 16;
+/// The longest frame list that a boot command can name.
+pub const MOST_LIST: usize = 4_096;
+/// The longest output of a read-out.
+pub const MOST_OUTPUT: usize = 4_096;
+/// Word i of a read-out's output is this number plus i before the call.
+pub const PATTERN: u32 = 3_405_691_582;
+/// The most words that the text shows of a read-out.
+const SHOWN: u64 = 8;
+
+/// Words of a command before its payload.
+const HEAD: usize = 4;
+
+mod op {
+    pub const BOOT: u32 = 1;
+    pub const RUN: u32 = 2;
+    pub const START: u32 = 3;
+    pub const STOP: u32 = 4;
+    pub const EMPTY: u32 = 5;
+    pub const READ: u32 = 6;
+    pub const POKE: u32 = 7;
+    pub const LENGTH: u32 = 8;
+    pub const FIELD: u32 = 9;
+    pub const FILL: u32 = 10;
+    pub const CLEAR: u32 = 11;
+}
+
+/// A command of a script; the first six are calls.
+#[derive(Clone, Debug, PartialEq, Eq)]
+#[allow(missing_docs)]
+pub enum Command {
+    Boot { pages: Vec<u32>, q: u32, frames: Vec<u32> },
+    Run { steps: u32 },
+    Start { partition: u32 },
+    Stop { partition: u32 },
+    Empty { partition: u32 },
+    Read { partition: u32, address: u32, count: u64, output: u32 },
+    Poke { index: u32, value: u32 },
+    Length { words: u32 },
+    Field { index: u32, value: u32 },
+    Fill { index: u32, count: u32, value: u32 },
+    Clear,
+}
+
+impl Command {
+    /// The name of a call, none for other commands.
+    pub fn call_name(&self) -> Option<&'static str> {
+        match self {
+            Command::Boot { .. } => Some("boot"),
+            Command::Run { .. } => Some("run"),
+            Command::Start { .. } => Some("start"),
+            Command::Stop { .. } => Some("stop"),
+            Command::Empty { .. } => Some("empty"),
+            Command::Read { .. } => Some("read"),
+            _ => None,
+        }
+    }
+
+    /// The command's words.
+    fn words(&self) -> Vec<u32> {
+        match self {
+            Command::Boot { pages, q, frames } => {
+                let head = vec![op::BOOT, pages.len() as u32, *q, frames.len() as u32];
+                [head.as_slice(), pages, frames].concat()
+            }
+            Command::Run { steps } => vec![op::RUN, *steps, 0, 0],
+            Command::Start { partition } => vec![op::START, *partition, 0, 0],
+            Command::Stop { partition } => vec![op::STOP, *partition, 0, 0],
+            Command::Empty { partition } => vec![op::EMPTY, *partition, 0, 0],
+            Command::Read { partition, address, count, output } => {
+                let (low, high) = (*count as u32, (*count >> 32) as u32);
+                vec![op::READ, *partition, *address, *output, low, high]
+            }
+            Command::Poke { index, value } => vec![op::POKE, *index, *value, 0],
+            Command::Length { words } => vec![op::LENGTH, *words, 0, 0],
+            Command::Field { index, value } => vec![op::FIELD, *index, *value, 0],
+            Command::Fill { index, count, value } => vec![op::FILL, *index, *count, *value],
+            Command::Clear => vec![op::CLEAR, 0, 0, 0],
+        }
+    }
+
+    /// The command at the start of some words and how many words it takes; none if it is wrong.
+    fn parse(words: &[u32]) -> Option<(Command, usize)> {
+        let &[op, a, b, c] = words.first_chunk::<HEAD>()?;
+        let rest = &words[HEAD..];
+        let plain = |command| Some((command, HEAD));
+        match op {
+            op::BOOT => parse_boot(rest, a as usize, b, c as usize),
+            op::RUN => plain(Command::Run { steps: a }),
+            op::START => plain(Command::Start { partition: a }),
+            op::STOP => plain(Command::Stop { partition: a }),
+            op::EMPTY => plain(Command::Empty { partition: a }),
+            op::READ => parse_read(rest, a, b, c),
+            op::POKE => plain(Command::Poke { index: a, value: b }),
+            op::LENGTH => plain(Command::Length { words: a }),
+            op::FIELD => plain(Command::Field { index: a, value: b }),
+            op::FILL => plain(Command::Fill { index: a, count: b, value: c }),
+            op::CLEAR => plain(Command::Clear),
+            _ => None,
+        }
+    }
+}
+
+fn parse_boot(rest: &[u32], partitions: usize, q: u32, list: usize) -> Option<(Command, usize)> {
+    if partitions > MOST_PARTITIONS || list > MOST_LIST {
+        return None;
+    }
+    let pages = rest.get(..partitions)?.to_vec();
+    let frames = rest.get(partitions..partitions + list)?.to_vec();
+    Some((Command::Boot { pages, q, frames }, HEAD + partitions + list))
+}
+
+fn parse_read(rest: &[u32], partition: u32, address: u32, output: u32) -> Option<(Command, usize)> {
+    let &[low, high] = rest.first_chunk::<2>()?;
+    if output as usize > MOST_OUTPUT {
+        return None;
+    }
+    let count = u64::from(high) << 32 | u64::from(low);
+    Some((Command::Read { partition, address, count, output }, HEAD + 2))
+}
+
+/// The bytes of a script.
+pub fn write(commands: &[Command]) -> Vec<u8> {
+    let words = commands.iter().flat_map(Command::words);
+    words.flat_map(u32::to_le_bytes).collect()
+}
+
+/// The commands of a script, and the byte offset of the first wrong command, if any.
+pub fn read(bytes: &[u8]) -> (Vec<Command>, Option<usize>) {
+    let word = |four: &[u8]| u32::from_le_bytes([four[0], four[1], four[2], four[3]]);
+    let words: Vec<u32> = bytes.chunks_exact(4).map(word).collect();
+    let mut commands = Vec::new();
+    let mut at = 0;
+    while 4 * at < bytes.len() {
+        match Command::parse(&words[at..]) {
+            Some((command, taken)) => {
+                commands.push(command);
+                at += taken;
+            }
+            None => return (commands, Some(4 * at)),
+        }
+    }
+    (commands, None)
+}
+
+/// The text of a whole script.
+pub fn play(bytes: &[u8], counts: &mut Counts) -> String {
+    let (commands, wrong) = read(bytes);
+    let mut player = Player::new();
+    let mut text = String::new();
+    for command in &commands {
+        player.play(command, &mut text, counts);
+    }
+    if let Some(at) = wrong {
+        line(&mut text, format_args!("wrong command at {at}"));
+    }
+    text
+}
+
+/// Adds a line to the text.
+fn line(text: &mut String, arguments: fmt::Arguments<'_>) {
+    text.write_fmt(arguments).expect("writing to a string");
+    text.push('\n');
+}
+
+/// The digest of words: d = d * 6364136223846793005 + word + 1 modulo 2^64, from 0.
+pub fn digest(words: &[u32]) -> u64 {
+    words.iter().fold(0, |digest: u64, &word| {
+        digest.wrapping_mul(6_364_136_223_846_793_005).wrapping_add(u64::from(word)).wrapping_add(1)
+    })
+}
+
+/// A house and its lent memory, as a script changes them.
+#[derive(Clone, Debug)]
+pub struct Player {
+    /// The house.
+    pub house: House,
+    /// The whole store; the house is lent the first `length` words of it.
+    memory: Vec<u32>,
+    length: usize,
+}
+
+impl Default for Player {
+    fn default() -> Self {
+        Player::new()
+    }
+}
+
+impl Player {
+    /// The house of no partitions, memory zero and of no words.
+    pub fn new() -> Self {
+        Player { house: House::NONE, memory: vec![0; MOST_WORDS], length: 0 }
+    }
+
+    /// The lent memory.
+    pub fn lent(&self) -> &[u32] {
+        &self.memory[..self.length]
+    }
+
+    fn lent_mut(&mut self) -> &mut [u32] {
+        &mut self.memory[..self.length]
+    }
+
+    /// Commands that make a new player like this one.
+    pub fn commands(&self) -> Vec<Command> {
+        let pokes = (0..).zip(self.lent()).filter(|(_, &value)| value != 0);
+        let fields =
+            (0..fields::END).filter_map(|index| Some((index, fields::get(&self.house, index)?)));
+        let fields = fields.filter(|&(_, value)| value != 0);
+        std::iter::once(Command::Length { words: self.length as u32 })
+            .chain(pokes.map(|(index, &value)| Command::Poke { index, value }))
+            .chain(fields.map(|(index, value)| Command::Field { index, value }))
+            .collect()
+    }
+
+    /// Plays one command; a call adds to the text and gives its answer.
+    pub fn play(
+        &mut self,
+        command: &Command,
+        text: &mut String,
+        counts: &mut Counts,
+    ) -> Option<Answer> {
+        let Some(name) = command.call_name() else {
+            self.change(command);
+            return None;
+        };
+        let mut output = Vec::new();
+        let answer = self.call(command, &mut output, counts);
+        let (number, detail) = numbers(answer);
+        counts.answers[number as usize] += 1;
+        line(text, format_args!("call {name} -> {number} {detail}"));
+        self.describe(text);
+        if matches!(command, Command::Read { .. }) {
+            describe_output(text, &output, answer);
+        }
+        Some(answer)
+    }
+
+    /// A command that is not a call.
+    fn change(&mut self, command: &Command) {
+        match *command {
+            Command::Poke { index, value } => self.fill(index, 1, value),
+            Command::Length { words } => self.length = MOST_WORDS.min(words as usize),
+            Command::Field { index, value } => fields::set(&mut self.house, index, value),
+            Command::Fill { index, count, value } => self.fill(index, count, value),
+            _ => *self = Player::new(),
+        }
+    }
+
+    /// Fills lent words; words outside the lent memory are ignored.
+    fn fill(&mut self, index: u32, count: u32, value: u32) {
+        let lent = self.lent_mut();
+        let start = lent.len().min(index as usize);
+        let end = lent.len().min(start + count as usize);
+        lent[start..end].fill(value);
+    }
+
+    fn call(&mut self, command: &Command, output: &mut Vec<u32>, counts: &mut Counts) -> Answer {
+        match *command {
+            Command::Boot { ref pages, q, ref frames } => {
+                let (house, answer) = House::boot(pages, q, frames, self.length);
+                self.house = house;
+                answer
+            }
+            Command::Start { partition } => self.house.start(partition),
+            Command::Stop { partition } => self.house.stop(partition),
+            Command::Empty { partition } => self.house.empty(partition, counts),
+            Command::Read { partition, address, count, output: length } => {
+                *output = (0..length).map(|at| PATTERN + at).collect();
+                self.house.read_out(self.lent(), partition, address, count, output)
+            }
+            Command::Run { steps } => {
+                let lent = &mut self.memory[..self.length];
+                self.house.run(lent, steps, counts)
+            }
+            _ => unreachable!("not a call"),
+        }
+    }
+
+    /// The house, and the lent memory's digest.
+    fn describe(&self, text: &mut String) {
+        let house = &self.house;
+        let scalars = [house.count, house.q, house.words, house.current, house.left];
+        let flags = house.running.map(u32::from);
+        line(text, format_args!("house{}{}", Numbers(&scalars), Numbers(&flags)));
+        for (partition, guest) in house.guests.iter().enumerate() {
+            if *guest != Guest::ZERO {
+                describe_guest(text, partition, guest);
+            }
+        }
+        let lent = self.lent();
+        line(text, format_args!("memory {} {}", lent.len(), digest(lent)));
+    }
+}
+
+fn describe_guest(text: &mut String, partition: usize, guest: &Guest) {
+    let space = &guest.space;
+    line(
+        text,
+        format_args!(
+            "partition {partition} {} {} {} {}{}",
+            space.pages,
+            guest.counter,
+            guest.dpc,
+            guest.pc,
+            Numbers(&guest.specials)
+        ),
+    );
+    line(text, format_args!("registers{}", Numbers(&guest.registers)));
+    let used = space.frames.iter().rposition(|&frame| frame != 0).map_or(0, |last| last + 1);
+    line(text, format_args!("frames{}", Numbers(&space.frames[..used])));
+    text.push_str("shadow");
+    for (px, entry) in space.shadow.iter().enumerate().filter(|(_, &entry)| entry != 0) {
+        write!(text, " {px}:{entry}").expect("writing to a string");
+    }
+    text.push('\n');
+}
+
+fn describe_output(text: &mut String, output: &[u32], answer: Answer) {
+    let shown = match answer {
+        Ok(count) if count <= SHOWN => &output[..count as usize],
+        _ => &[],
+    };
+    line(text, format_args!("output {}{}", digest(output), Numbers(shown)));
+}
+
+/// Numbers in decimals, a space before each.
+struct Numbers<'a>(&'a [u32]);
+
+impl fmt::Display for Numbers<'_> {
+    fn fmt(&self, f: &mut fmt::Formatter<'_>) -> fmt::Result {
+        self.0.iter().try_for_each(|number| write!(f, " {number}"))
+    }
+}
+
+impl fmt::Display for Command {
+    fn fmt(&self, f: &mut fmt::Formatter<'_>) -> fmt::Result {
+        match self {
+            Command::Boot { pages, q, frames } => {
+                write!(f, "boot pages {pages:?} q {q} frames {frames:?}")
+            }
+            Command::Run { steps } => write!(f, "run {steps}"),
+            Command::Start { partition } => write!(f, "start {partition}"),
+            Command::Stop { partition } => write!(f, "stop {partition}"),
+            Command::Empty { partition } => write!(f, "empty {partition}"),
+            Command::Read { partition, address, count, output } => {
+                write!(
+                    f,
+                    "read partition {partition} address {address} count {count} output {output}"
+                )
+            }
+            Command::Poke { index, value } => {
+                write!(f, "poke word {index} = {value:#010x}")?;
+                decode(*value).map_or(Ok(()), |instruction| write!(f, "  {instruction:?}"))
+            }
+            Command::Length { words } => write!(f, "length {words} words"),
+            Command::Field { index, value } => {
+                write!(f, "house {} = {value:#x}", fields::name(*index))
+            }
+            Command::Fill { index, count, value } => {
+                write!(f, "fill word {index} count {count} = {value:#010x}")
+            }
+            Command::Clear => write!(f, "clear"),
+        }
+    }
+}

@@ -1,0 +1,111 @@
+//! The command line, with this program itself as the other one, whole and spoilt.
+
+use std::io::Write;
+use std::process::{Command, Output, Stdio};
+
+const EMULATOR: &str = env!("CARGO_BIN_EXE_emulator");
+
+fn emulator(arguments: &[&str], input: &[u8]) -> Output {
+    let mut child = Command::new(EMULATOR)
+        .args(arguments)
+        .stdin(Stdio::piped())
+        .stdout(Stdio::piped())
+        .stderr(Stdio::piped())
+        .spawn()
+        .expect("the program starts");
+    child.stdin.take().expect("piped").write_all(input).expect("the program reads its input");
+    child.wait_with_output().expect("the program ends")
+}
+
+fn text(output: &Output) -> String {
+    String::from_utf8_lossy(&output.stdout).into_owned()
+}
+
+/// A short comparison with the given programs.
+fn compare(drill: &str, night: &str) -> Output {
+    let sizes = ["--steps", "20000", "--files", "20"];
+    emulator(&[&["compare", "--drill", drill, "--night", night], &sizes[..]].concat(), b"")
+}
+
+/// This program with its text spoilt by sed.
+fn spoilt(command: &str, edit: &str) -> String {
+    format!("sh -c \"'{EMULATOR}' {command} | sed '{edit}'\"")
+}
+
+#[test]
+fn it_agrees_with_itself() {
+    let output = compare(&format!("'{EMULATOR}' play"), &format!("'{EMULATOR}' night"));
+    let text = text(&output);
+    assert_eq!(output.status.code(), Some(0), "{text}");
+    let last = text.lines().last().expect("a last line");
+    assert!(last.starts_with("emulator: ") && last.ends_with(" compared, 0 differ"), "{last}");
+    for total in ["steps ", "calls ", "files "] {
+        assert!(text.lines().any(|line| line.starts_with(total)), "{total}");
+    }
+}
+
+#[test]
+fn it_finds_a_wrong_answer_and_shrinks_the_script() {
+    let drill = spoilt("play", "s/^call run -> 11 0/call run -> 14 0/");
+    let output = compare(&drill, &format!("'{EMULATOR}' night"));
+    let text = text(&output);
+    assert_eq!(output.status.code(), Some(1));
+    assert!(
+        text.contains("  expected: call run -> 11 0\n  given:    call run -> 14 0\n"),
+        "{text}"
+    );
+    // Length, boot, stop, run.
+    assert!(text.contains("smallest script, 4 commands:\n"), "{text}");
+    assert!(!text.ends_with(" 0 differ\n"));
+}
+
+#[test]
+fn it_finds_a_missing_line() {
+    let output = compare(&spoilt("play", "/^shadow 0:/d"), &format!("'{EMULATOR}' night"));
+    assert_eq!(output.status.code(), Some(1));
+    assert!(text(&output).contains("smallest script"));
+}
+
+#[test]
+fn it_finds_a_wrong_report() {
+    let night = spoilt("night", "s/^refused 15 14$/refused 15 15/");
+    let output = compare(&format!("'{EMULATOR}' play"), &night);
+    let text = text(&output);
+    assert_eq!(output.status.code(), Some(1));
+    assert!(text.contains("  expected: refused 15 14\n  given:    refused 15 15\n"), "{text}");
+    assert!(text.contains("smallest file, 1 records:\n  kind 1, 14 bytes"), "{text}");
+}
+
+#[test]
+fn wrong_use_is_told() {
+    let cases: [&[&str]; 7] = [
+        &[],
+        &["frob"],
+        &["compare"],
+        &["compare", "--seed"],
+        &["compare", "--drill", "true", "--seed", "x"],
+        &["play", "--frob"],
+        &["play", "one", "two"],
+    ];
+    for case in cases {
+        let output = emulator(case, b"");
+        assert_eq!(output.status.code(), Some(2), "{case:?}");
+        let told = String::from_utf8_lossy(&output.stderr);
+        assert!(told.starts_with("emulator: expected "), "{case:?}: {told}");
+    }
+}
+
+#[test]
+fn help_names_every_command() {
+    let help = text(&emulator(&["help"], b""));
+    for command in ["compare", "play", "night", "show", "shrink", "generate"] {
+        assert!(help.contains(&format!("emulator {command}")), "{command}");
+    }
+}
+
+#[test]
+fn show_prints_the_commands() {
+    let script: Vec<u8> = [2u32, 3, 0, 0].iter().flat_map(|word| word.to_le_bytes()).collect();
+    assert_eq!(text(&emulator(&["show"], &script)), "run 3\n");
+    assert_eq!(text(&emulator(&["show", "-"], &script[..9])), "wrong command at 0\n");
+}

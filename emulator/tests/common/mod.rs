@@ -1,0 +1,75 @@
+//! Plays named scripts and keeps what each call left behind.
+#![allow(dead_code)] // not every test file uses all of it
+
+use emulator::counts::Counts;
+use emulator::dlx::Guest;
+use emulator::house::{numbers, House};
+use emulator::named;
+use emulator::script::Player;
+
+/// The state after one call of a named script.
+pub struct After {
+    /// House number and detail.
+    pub answer: (u32, u64),
+    pub house: House,
+    pub memory: Vec<u32>,
+    /// The text of the call.
+    pub text: String,
+}
+
+impl After {
+    /// Partition 0.
+    pub fn guest(&self) -> &Guest {
+        &self.house.guests[0]
+    }
+
+    pub fn register(&self, number: usize) -> u32 {
+        self.guest().registers[number]
+    }
+
+    pub fn special(&self, number: usize) -> u32 {
+        self.guest().specials[number]
+    }
+
+    pub fn shadow(&self, px: usize) -> u32 {
+        self.guest().space.shadow[px]
+    }
+
+    /// DPC and PC.
+    pub fn pair(&self) -> (u32, u32) {
+        (self.guest().dpc, self.guest().pc)
+    }
+
+    /// Current partition and steps left.
+    pub fn turn(&self) -> (u32, u32) {
+        (self.house.current, self.house.left)
+    }
+}
+
+/// What every call of a named script left behind, boot included.
+pub fn play(name: &str) -> Vec<After> {
+    let scripts = named::scripts();
+    let script = scripts.iter().find(|script| script.name == name);
+    let script = script.unwrap_or_else(|| panic!("no script {name}"));
+    let mut player = Player::new();
+    let mut states = Vec::new();
+    for command in &script.commands {
+        let mut text = String::new();
+        let answer = player.play(command, &mut text, &mut Counts::default());
+        if let Some(answer) = answer {
+            let (house, memory) = (player.house.clone(), player.lent().to_vec());
+            states.push(After { answer: numbers(answer), house, memory, text });
+        }
+    }
+    states
+}
+
+/// The state after the last call.
+pub fn last(name: &str) -> After {
+    play(name).pop().expect("a script has calls")
+}
+
+/// The answers of all calls.
+pub fn answers(name: &str) -> Vec<(u32, u64)> {
+    play(name).iter().map(|after| after.answer).collect()
+}

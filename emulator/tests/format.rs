@@ -1,0 +1,149 @@
+//! The script format and the text, as FORMAT.md gives them.
+
+use emulator::counts::Counts;
+use emulator::generate;
+use emulator::script::{digest, play, read, write, Command, Player, MOST_WORDS, PATTERN};
+
+fn text(bytes: &[u8]) -> String {
+    play(bytes, &mut Counts::default())
+}
+
+/// The bytes of words.
+fn words(words: &[u32]) -> Vec<u8> {
+    words.iter().flat_map(|word| word.to_le_bytes()).collect()
+}
+
+#[test]
+fn the_example_of_the_format() {
+    let script = words(&[
+        8,
+        1024,
+        0,
+        0, // length: one frame
+        7,
+        0,
+        0x2001_0005,
+        0, // poke word 0
+        7,
+        1,
+        0xAC01_0008,
+        0, // poke word 1
+        1,
+        1,
+        2,
+        1,
+        1,
+        0, // boot: one partition, q 2, one frame; page count 1; frame 0
+        2,
+        3,
+        0,
+        0, // run 3
+        6,
+        0,
+        8,
+        2,
+        1,
+        0, // read one word at byte address 8 of partition 0
+    ]);
+    let zeros = " 0".repeat(30);
+    let memory = |words: &[u32]| {
+        let mut memory = words.to_vec();
+        memory.resize(1024, 0);
+        format!("memory 1024 {}", digest(&memory))
+    };
+    let before = memory(&[0x2001_0005, 0xAC01_0008]);
+    let after = memory(&[0x2001_0005, 0xAC01_0008, 5]);
+    let house = "house 1 2 1024 0 1 1 0 0 0 0 0 0 0\n\
+                 partition 0 1 3 0 4 0 0 2 16 12 0 0 0 0 0\n";
+    let rest = format!("registers 0 5{zeros}\nframes\nshadow\n{after}\n");
+    let expected = format!(
+        "call boot -> 0 0\n\
+         house 1 2 1024 0 2 1 0 0 0 0 0 0 0\n\
+         partition 0 1 0 0 4 0 0 0 0 0 0 0 0 0 0\n\
+         registers 0 0{zeros}\nframes\nshadow\n{before}\n\
+         call run -> 0 3\n{house}{rest}\
+         call read -> 0 1\n{house}{rest}output {} 5\n",
+        digest(&[5, PATTERN + 1])
+    );
+    assert_eq!(text(&script), expected);
+}
+
+#[test]
+fn the_digest_counts_every_word() {
+    assert_eq!(digest(&[]), 0);
+    assert_eq!(digest(&[0]), 1);
+    assert_eq!(digest(&[0, 0]), 6_364_136_223_846_793_006);
+    assert_eq!(digest(&[7, 9]), 8u64.wrapping_mul(6_364_136_223_846_793_005).wrapping_add(10));
+}
+
+#[test]
+fn wrong_commands_end_the_script() {
+    let run = [2, 0, 0, 0];
+    let cases: [&[u32]; 6] = [
+        &[0, 0, 0, 0],
+        &[12, 0, 0, 0],
+        &[1, 17, 1, 0],
+        &[1, 1, 1, 4_097],
+        &[6, 0, 0, 4_097, 0, 0],
+        &[1, 1, 1, 1, 1],
+    ];
+    for case in cases {
+        let bytes = words(&[&run[..], case].concat());
+        assert!(text(&bytes).ends_with("\nwrong command at 16\n"), "{case:?}");
+    }
+    let cut = &words(&[2, 0, 0, 0, 2, 0, 0, 0])[..29];
+    assert!(text(cut).ends_with("\nwrong command at 16\n"));
+    assert_eq!(read(cut).1, Some(16));
+}
+
+#[test]
+fn pokes_outside_the_lent_memory_are_ignored() {
+    let script = |pokes: &[Command]| {
+        let mut commands = vec![Command::Length { words: 2_000 }];
+        commands.extend_from_slice(pokes);
+        commands.extend([Command::Length { words: 65_536 }, Command::Run { steps: 0 }]);
+        text(&write(&commands))
+    };
+    let outside = [
+        Command::Poke { index: 2_000, value: 1 },
+        Command::Poke { index: u32::MAX, value: 1 },
+        Command::Fill { index: 2_000, count: u32::MAX, value: 1 },
+        Command::Fill { index: u32::MAX, count: u32::MAX, value: 1 },
+        Command::Fill { index: 5, count: 0, value: 1 },
+        Command::Field { index: 4_485, value: 1 },
+    ];
+    assert_eq!(script(&outside), script(&[]));
+    let inside = [Command::Fill { index: 1_999, count: u32::MAX, value: 1 }];
+    assert_eq!(script(&inside), script(&[Command::Poke { index: 1_999, value: 1 }]));
+    assert_ne!(script(&inside), script(&[]));
+}
+
+#[test]
+fn the_memory_keeps_its_contents_and_clear_forgets_them() {
+    let long = Command::Length { words: u32::MAX };
+    let look = Command::Run { steps: 0 };
+    let poke = Command::Poke { index: 3, value: 9 };
+    let kept =
+        [long.clone(), poke.clone(), Command::Length { words: 0 }, long.clone(), look.clone()];
+    let plain = [long.clone(), poke.clone(), look.clone()];
+    assert_eq!(text(&write(&kept)), text(&write(&plain)));
+    let cleared = [long.clone(), poke, Command::Clear, look.clone()];
+    assert_eq!(text(&write(&cleared)), text(&write(&[look])));
+    assert!(text(&write(&plain)).contains(&format!("memory {MOST_WORDS} ")));
+}
+
+#[test]
+fn a_player_can_be_made_again() {
+    for one in generate::scripts(5, 1) {
+        let mut player = Player::new();
+        for command in &one.commands {
+            player.play(command, &mut String::new(), &mut Counts::default());
+        }
+        let look = Command::Read { partition: 0, address: 0, count: 3, output: 5 };
+        let mut text = String::new();
+        player.play(&look, &mut text, &mut Counts::default());
+        let mut commands = player.commands();
+        commands.push(look);
+        assert_eq!(play(&write(&commands), &mut Counts::default()), text, "{}", one.name);
+    }
+}

@@ -1,0 +1,196 @@
+//! Breaks one rule at a time in a copy of this program and looks whether `emulator compare` finds
+//! it. Slow, since each copy is built: `cargo test --test mutants -- --ignored --nocapture`.
+
+use std::path::{Path, PathBuf};
+use std::process::{Command, Output};
+use std::{env, fs};
+
+/// A broken rule: its name, the file, the text that stands there once, and what replaces it.
+struct Mutant(&'static str, &'static str, &'static str, &'static str);
+
+#[rustfmt::skip]
+const MUTANTS: &[Mutant] = &[
+    // The guest machine.
+    Mutant("jumps extend from bit 15", "dlx.rs", "sign_extended(word, 26)", "sign_extended(word, 16)"),
+    Mutant("bnez wants 1", "dlx.rs", "(self.registers[rs1] == 0) == on_zero", "if on_zero { self.registers[rs1] == 0 } else { self.registers[rs1] == 1 }"),
+    Mutant("branch from DPC", "dlx.rs", "next = self.pc.wrapping_add(imm);", "next = self.dpc.wrapping_add(imm);"),
+    Mutant("andi does not extend", "dlx.rs", "12 => immediate(Operation::And)", "12 => Some(Instruction::Compute { operation: Operation::And, rd, rs1, right: Operand::Immediate(word & 0xFFFF) })"),
+    Mutant("function 33 adds", "dlx.rs", "32 => registers", "32 | 33 => registers"),
+    Mutant("opcode 9 adds", "dlx.rs", "8 => immediate", "8 | 9 => immediate"),
+    Mutant("function 39 is xor", "dlx.rs", "38 => registers", "38 | 39 => registers"),
+    Mutant("unused SA counts", "dlx.rs", "36 => registers", "36 if sa == 0 => registers"),
+    Mutant("special 10 reads 0", "dlx.rs", "16 if sa < special::COUNT => Some(Instruction::Movs2i { rd, special: sa })", "16 if sa < special::COUNT + 1 => Some(Instruction::Movs2i { rd, special: sa % 10 })"),
+    Mutant("movi2s reads RD", "dlx.rs", "Some(Instruction::Movi2s { special: sa, rs1 })", "Some(Instruction::Movi2s { special: sa, rs1: rd })"),
+    Mutant("unsigned sle", "dlx.rs", "i32::from(a <= b)", "i32::from(left <= right)"),
+    Mutant("link is PC + 8", "dlx.rs", "self.write(LINK, self.pc.wrapping_add(4))", "self.write(LINK, self.pc.wrapping_add(8))"),
+    Mutant("jalr links first", "dlx.rs", "next = self.jump_target(target);\n                if link {\n                    self.write(LINK, self.pc.wrapping_add(4));\n                }", "if link {\n                    self.write(LINK, self.pc.wrapping_add(4));\n                }\n                next = self.jump_target(target);"),
+    Mutant("register 0 is written", "dlx.rs", "if rd != 0 {", "if rd < 32 {"),
+    Mutant("rfe is allowed in user mode", "dlx.rs", " | Instruction::Rfe)", ")"),
+    Mutant("rfe keeps MODE", "dlx.rs", "self.specials[MODE] = self.specials[EMODE];", ""),
+    Mutant("rfe keeps SR", "dlx.rs", "self.specials[SR] = self.specials[ESR];", ""),
+    Mutant("interrupts keep MODE", "dlx.rs", "specials[MODE] = 0;", ""),
+    Mutant("interrupts keep SR", "dlx.rs", "specials[SR] = 0;", ""),
+    Mutant("pfls goes on", "dlx.rs", "Cause::Pff | Cause::Pfls =>", "Cause::Pff =>"),
+    Mutant("pff keeps EDATA", "dlx.rs", "Interrupt::with_data(Cause::Pff, self.dpc)", "Interrupt::plain(Cause::Pff)"),
+    Mutant("ill clears EDATA", "dlx.rs", "Interrupt::plain(Cause::Ill)", "Interrupt::with_data(Cause::Ill, 0)"),
+    Mutant("misaligned data is pfls", "dlx.rs", "if !address.is_multiple_of(4) {\n            return Err(Interrupt::plain(Cause::Mal));", "if !address.is_multiple_of(4) {\n            return Err(Interrupt::with_data(Cause::Pfls, address));"),
+    Mutant("ovf by SR bit 5", "dlx.rs", "self.specials[SR] & Cause::Ovf.bit()", "self.specials[SR] & Cause::Trap.bit()"),
+    Mutant("EMODE takes all bits", "dlx.rs", "MODE | EMODE => value % 2", "MODE => value % 2"),
+    Mutant("PTL empties nothing", "dlx.rs", "special == PTO || special == PTL", "special == PTO"),
+    Mutant("PTO empties only when changed", "dlx.rs", "let value = self.registers[rs1];\n        self.specials[special] = match", "let value = self.registers[rs1];\n        if self.specials[special] == value {\n            return;\n        }\n        self.specials[special] = match"),
+    Mutant("interrupts empty the shadow", "dlx.rs", "self.dpc = 0;\n        self.pc = 4;", "self.dpc = 0;\n        self.pc = 4;\n        self.space.empty();"),
+    Mutant("DPC's low bits are dropped", "dlx.rs", "if !self.dpc.is_multiple_of(4) {", "if self.dpc % 4 == 1 {"),
+    Mutant("a load into register 0 is no access", "dlx.rs", "Instruction::Lw { rd, rs1, imm } => {", "Instruction::Lw { rd: 0, .. } => {}\n            Instruction::Lw { rd, rs1, imm } => {"),
+    Mutant("interrupts undo fills", "dlx.rs", "let interrupt = self.instruction(memory, counts).err()?;", "let shadow = self.space.shadow;\n        let interrupt = self.instruction(memory, counts).err()?;\n        self.space.shadow = shadow;"),
+    Mutant("stores in system mode empty nothing", "dlx.rs", "self.space.store(memory, self.table(), place", "let table = if self.user() { self.table() } else { Table { pto: 0, ptl: 0 } };\n                self.space.store(memory, table, place"),
+    // Addresses and shadows.
+    Mutant("px 255 faults", "memory.rs", "*self.shadow.get(px as usize)?", "*self.shadow.get(px as usize).filter(|_| px < 255)?"),
+    Mutant("the page number is not tested", "memory.rs", "|| page >= pages", "|| page > pages"),
+    Mutant("entry 1 is never emptied", "memory.rs", "if let Some(px) = entry_at(table, place) {", "if let Some(px) = entry_at(table, place).filter(|&px| px != 1) {"),
+    Mutant("protection is not filled", "memory.rs", "frame << 12 | VALID | guest_entry & PROTECTED", "frame << 12 | VALID | (guest_entry & 0)"),
+    Mutant("all entry bits are filled", "memory.rs", "frame << 12 | VALID | guest_entry & PROTECTED", "frame << 12 | VALID | guest_entry & 0x7FF"),
+    Mutant("PTL is the last entry", "memory.rs", "px >= table.ptl", "px > table.ptl"),
+    Mutant("the table's address wraps", "memory.rs", "let address = PAGE_BYTES * u64::from(table.pto) + 4 * u64::from(px);", "let address = u64::from(table.pto.wrapping_mul(4_096)) + 4 * u64::from(px);"),
+    Mutant("a protected store does not fill", "memory.rs", "(!forbidden).then_some(page)", "if forbidden && shadow == 0 {\n            self.shadow[px as usize] = 0;\n        }\n        (!forbidden).then_some(page)"),
+    Mutant("a hit looks at PTL", "memory.rs", "let shadow = *self.shadow.get(px as usize)?;", "let shadow = *self.shadow.get(px as usize)?;\n        if px >= table.ptl {\n            return None;\n        }"),
+    Mutant("a hit ignores protection", "memory.rs", "(self.page_of(shadow >> 12), shadow)", "(self.page_of(shadow >> 12), 0)"),
+    Mutant("a store never empties", "memory.rs", "self.shadow[px] = 0;", ""),
+    Mutant("an equal store does not empty", "memory.rs", "memory[self.host_word(place)] = value;", "let old = std::mem::replace(&mut memory[self.host_word(place)], value);\n        if old == value {\n            return;\n        }"),
+    Mutant("a store empties all", "memory.rs", "self.shadow[px] = 0;", "self.empty();"),
+    Mutant("a store at PTL empties", "memory.rs", "px < u64::from(table.ptl) && px", "px <= u64::from(table.ptl) && px"),
+    Mutant("256 entries are 255", "memory.rs", "px < ENTRIES as u64", "px < 255"),
+    Mutant("an address may be the end", "memory.rs", "let inside = u64::from(address) < PAGE_BYTES", "let inside = u64::from(address) < 4 + PAGE_BYTES"),
+    Mutant("bit 10 allows stores", "memory.rs", "access == Access::Store && protection & PROTECTED != 0", "access == Access::Store && protection & PROTECTED == 0"),
+    Mutant("valid bit not tested", "memory.rs", "if entry & VALID == 0 || page", "if page"),
+    // Turns and calls.
+    Mutant("a user trap passes the turn", "house.rs", "system && cause == Some(Cause::Trap)", "cause == Some(Cause::Trap) && (system || !system)"),
+    Mutant("a trap keeps the turn", "house.rs", "self.left == 0 || system && cause == Some(Cause::Trap)", "self.left == 0 && (system || cause != None || true)"),
+    Mutant("the counter stops at its end", "house.rs", "guest.counter.wrapping_add(1)", "guest.counter.saturating_add(1)"),
+    Mutant("interrupted steps are not counted", "house.rs", "guest.counter = guest.counter.wrapping_add(1);", "guest.counter = guest.counter.wrapping_add(u64::from(cause.is_none()));"),
+    Mutant("stopping keeps the turn's rest", "house.rs", "Some(next) => (self.current, self.left) = (next, self.q)", "Some(next) => (self.current, self.left) = (next, if self.left > 0 { self.left } else { self.q })"),
+    Mutant("starting takes the turn", "house.rs", "if self.left == 0 {\n            (self", "if self.left < 2 {\n            (self"),
+    Mutant("11 before 14", "house.rs", "if steps > MOST_STEPS {", "if steps > MOST_STEPS && self.left > 0 {"),
+    Mutant("run 0 with nothing running is 11", "house.rs", "if steps > 0 && !self.running", "if !self.running"),
+    Mutant("9 before 8", "house.rs", "self.check_damage()?;\n        self.check_length(memory)?;\n        if steps", "self.check_length(memory)?;\n        self.check_damage()?;\n        if steps"),
+    Mutant("13 before 12", "house.rs", "if !address.is_multiple_of(4) || end", "if (output.len() as u64) < count {\n            return Err(Refusal::Output);\n        }\n        if !address.is_multiple_of(4) || end"),
+    Mutant("the read-out's sum wraps", "house.rs", "u128::from(address) + 4 * u128::from(count)", "u128::from(u64::from(address).wrapping_add(count.wrapping_mul(4)))"),
+    Mutant("the read-out stays in a frame", "house.rs", "Place::of(address + 4 * at as u32)", "Place { page: address >> 12, word: (address / 4 + at as u32) % 1_024 }"),
+    Mutant("256 pages are too many", "house.rs", "!(1..=MOST_PAGES).contains(&count)", "!(1..MOST_PAGES).contains(&count)"),
+    Mutant("8 partitions are too many", "house.rs", "!(1..=PARTITIONS).contains(&count)", "!(1..PARTITIONS).contains(&count)"),
+    Mutant("q 10,000 is too long", "house.rs", "!(1..=MOST_TURN).contains(&q)", "!(1..MOST_TURN).contains(&q)"),
+    Mutant("frames need not be whole", "house.rs", "!whole ||", "!whole && words < 1_024 ||"),
+    Mutant("twice tells the earlier place", "house.rs", "Err(Refusal::Twice(at))", "Err(Refusal::Twice(frames.iter().position(|&other| other == frame).unwrap_or(at)))"),
+    Mutant("list length before memory", "house.rs", "check_memory(memory_words)?;\n    if frames", "if frames.is_empty() {\n        return Err(Refusal::ListLength);\n    }\n    check_memory(memory_words)?;\n    if frames"),
+    // Damage.
+    Mutant("damage: EMODE", "house.rs", "|| guest.specials[EMODE] > 1", ""),
+    Mutant("damage: MODE", "house.rs", "|| guest.specials[MODE] > 1", ""),
+    Mutant("damage: register 0", "house.rs", "guest.registers[0] != 0\n        ||", ""),
+    Mutant("damage: unused frames", "house.rs", "|| space.frames[space.pages as usize..].iter().any(|&frame| frame != 0)", ""),
+    Mutant("damage: unused bits of an entry", "house.rs", "&& unused == 0 &&", "&& (unused == 0 || true) &&"),
+    Mutant("damage: foreign frame in a shadow", "house.rs", "&& space.list().contains(&(entry >> 12))", "&& space.list().len() < 257"),
+    Mutant("damage: empty entry", "house.rs", "entry == 0 || entry & VALID != 0", "entry & VALID == 0 || entry & VALID != 0"),
+    Mutant("damage: flag of an unused place", "house.rs", "|| self.running[count..].contains(&true)", ""),
+    Mutant("damage: partition of an unused place", "house.rs", "self.guests[count..].iter().any(|guest| *guest != Guest::ZERO)\n            ||", ""),
+    Mutant("damage: index while none is current", "house.rs", "self.current != 0 || self.running", "self.running"),
+    Mutant("damage: one runs while none is current", "house.rs", "self.current != 0 || self.running.contains(&true)", "self.current != 0"),
+    Mutant("damage: too many steps left", "house.rs", "self.left > self.q || self.current", "self.current"),
+    Mutant("damage: current does not run", "house.rs", "|| !self.running[self.current as usize]", ""),
+    Mutant("damage: frames twice", "house.rs", "check_frames(&lists, self.words as usize).is_err()", "lists.iter().any(|&frame| frame as usize >= self.words as usize / 1_024)"),
+    Mutant("damage: the memory's size", "house.rs", "|| check_memory(self.words as usize).is_err()", ""),
+    Mutant("damage: q", "house.rs", "|| check_turn(self.q).is_err()", ""),
+    // The house file.
+    Mutant("257 frames in a list", "housefile.rs", "MOST_LIST_BODY: usize = 1_024", "MOST_LIST_BODY: usize = 1_028"),
+    Mutant("nine lists", "housefile.rs", "MOST_LISTS: usize = 8", "MOST_LISTS: usize = 9"),
+    Mutant("extra bytes", "housefile.rs", "if at < bytes.len() {", "if at > bytes.len() {"),
+    Mutant("kind 2 after kind 3", "housefile.rs", "(Stage::Turn | Stage::Lists, 2)", "(Stage::Turn | Stage::Lists | Stage::Frames, 2)"),
+    Mutant("kind 3 frame 16", "housefile.rs", "if frame >= FRAMES {\n            return None;", "if frame >= FRAMES {\n            return Some(Stage::Frames);"),
+    Mutant("the first kind 3 stays", "housefile.rs", "let start = frame * FRAME_WORDS;", "let start = frame * FRAME_WORDS;\n        if self.memory[start..start + FRAME_WORDS].iter().any(|&word| word != 0) {\n            return Some(Stage::Frames);\n        }"),
+    Mutant("kind 4 with a body", "housefile.rs", "body.is_empty().then_some(Stage::End)", "Some(Stage::End)"),
+    Mutant("an empty list is 15", "housefile.rs", "if !well_sized ||", "if !well_sized || body.is_empty() ||"),
+    Mutant("a kind has one byte", "housefile.rs", "let kind = u16::from_le_bytes(bytes.get(4..HEAD)?.try_into().ok()?);", "let kind = u16::from(*bytes.get(4)?);\n    bytes.get(5)?;"),
+    Mutant("the detail is the file's end", "housefile.rs", "let (kind, body) = record(&bytes[at..]).ok_or(wrong)?;", "let (kind, body) = record(&bytes[at..]).ok_or(Wrong(bytes.len() as u64))?;"),
+];
+
+impl Mutant {
+    /// The changed text of the file.
+    fn text(&self) -> String {
+        let path = Path::new(env!("CARGO_MANIFEST_DIR")).join("src").join(self.1);
+        let text = fs::read_to_string(path).expect("a source file");
+        assert_eq!(text.matches(self.2).count(), 1, "{}: the text must stand there once", self.0);
+        text.replace(self.2, self.3)
+    }
+}
+
+/// A copy of this program in which a rule is broken.
+fn copy(directory: &Path, mutant: &Mutant) {
+    let root = Path::new(env!("CARGO_MANIFEST_DIR"));
+    copy_all(&root.join("src"), &directory.join("src"));
+    fs::copy(root.join("Cargo.toml"), directory.join("Cargo.toml")).expect("a copy");
+    fs::write(directory.join("src").join(mutant.1), mutant.text()).expect("a changed file");
+}
+
+fn copy_all(from: &Path, to: &Path) {
+    fs::create_dir_all(to).expect("a directory");
+    for entry in fs::read_dir(from).expect("a directory") {
+        let path = entry.expect("an entry").path();
+        let target = to.join(path.file_name().expect("a name"));
+        if path.is_dir() {
+            copy_all(&path, &target);
+        } else {
+            fs::copy(&path, &target).expect("a copy");
+        }
+    }
+}
+
+/// Builds the copy; the path of its program.
+fn build(directory: &Path) -> PathBuf {
+    let status = Command::new(env!("CARGO"))
+        .args(["build", "--quiet", "-j1"])
+        .current_dir(directory)
+        .env("CARGO_TARGET_DIR", directory.join("target"))
+        .env("RUSTFLAGS", "-Awarnings")
+        .status();
+    assert!(status.expect("cargo starts").success(), "the copy must build");
+    directory.join("target/debug/emulator")
+}
+
+fn compare(program: &Path) -> Output {
+    let command = |name: &str| format!("'{}' {name}", program.display());
+    Command::new(env!("CARGO_BIN_EXE_emulator"))
+        .args(["compare", "--drill", &command("play"), "--night", &command("night")])
+        .args(["--limit", "60", "--files", "400"])
+        .output()
+        .expect("the comparison starts")
+}
+
+/// What to tell of a comparison that found the broken rule.
+fn summary(output: &Output) -> Option<String> {
+    let text = String::from_utf8_lossy(&output.stdout);
+    let last = text.lines().last()?;
+    let smallest = text.lines().find(|line| line.starts_with("smallest"))?;
+    let first = text.lines().find(|line| line.contains("differs"))?;
+    let found = output.status.code() == Some(1) && !last.ends_with(" 0 differ");
+    found.then(|| format!("{first} {smallest} {last}"))
+}
+
+#[test]
+fn every_broken_rule_fits_the_source() {
+    MUTANTS.iter().for_each(|mutant| drop(mutant.text()));
+}
+
+#[test]
+#[ignore = "builds a copy for each broken rule"]
+fn every_broken_rule_is_found() {
+    let only = env::var("MUTANT").unwrap_or_default();
+    let directory = Path::new(env!("CARGO_TARGET_TMPDIR")).join("mutant");
+    let mut missed = Vec::new();
+    for mutant in MUTANTS.iter().filter(|mutant| mutant.0.contains(&only)) {
+        copy(&directory, mutant);
+        let output = compare(&build(&directory));
+        match summary(&output) {
+            Some(told) => println!("{}: {told}", mutant.0),
+            None => missed.push(mutant.0),
+        }
+    }
+    assert!(missed.is_empty(), "not found: {missed:?}");
+}
