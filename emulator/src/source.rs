@@ -2,7 +2,7 @@
 
 use std::collections::HashMap;
 
-use crate::assemble::{i_type, j_type, movi2s, movs2i, r_type};
+use crate::assemble::{function, i_type, j_type, movi2s, movs2i, opcode, r_type, rfe};
 use crate::housefile::{record_bytes, word_bytes};
 use crate::memory::FRAME_WORDS;
 
@@ -169,43 +169,54 @@ const TESTS: [&str; 8] = ["clr", "sgr", "seq", "sge", "sls", "sne", "sle", "set"
 
 fn instruction(name: &str, rest: &[&str]) -> Result<u32, String> {
     let opcode = match name {
-        "j" => Some(2),
-        "jal" => Some(3),
-        "beqz" => Some(4),
-        "bnez" => Some(5),
-        "addi" => Some(8),
-        "subi" => Some(10),
-        "andi" => Some(12),
-        "ori" => Some(13),
-        "xori" => Some(14),
-        "lhgi" => Some(15),
-        "jr" => Some(22),
-        "jalr" => Some(23),
-        "lw" => Some(35),
-        "sw" => Some(43),
-        "trap" => Some(62),
-        "rfe" => Some(63),
-        _ => test(name.strip_suffix('i')).map(|test| 24 + test),
+        "j" => Some(opcode::J),
+        "jal" => Some(opcode::JAL),
+        "beqz" => Some(opcode::BEQZ),
+        "bnez" => Some(opcode::BNEZ),
+        "addi" => Some(opcode::ADDI),
+        "subi" => Some(opcode::SUBI),
+        "andi" => Some(opcode::ANDI),
+        "ori" => Some(opcode::ORI),
+        "xori" => Some(opcode::XORI),
+        "lhgi" => Some(opcode::LHGI),
+        "jr" => Some(opcode::JR),
+        "jalr" => Some(opcode::JALR),
+        "lw" => Some(opcode::LW),
+        "sw" => Some(opcode::SW),
+        "trap" => Some(opcode::TRAP),
+        "rfe" => Some(opcode::RFE),
+        _ => test(name.strip_suffix('i')).map(|test| opcode::CLRI + test),
     };
     let function = match name {
-        "add" => Some(32),
-        "sub" => Some(34),
-        "and" => Some(36),
-        "or" => Some(37),
-        "xor" => Some(38),
-        _ => test(Some(name)).map(|test| 40 + test),
+        "add" => Some(function::ADD),
+        "sub" => Some(function::SUB),
+        "and" => Some(function::AND),
+        "or" => Some(function::OR),
+        "xor" => Some(function::XOR),
+        _ => test(Some(name)).map(|test| function::CLR + test),
     };
     match (opcode, function, rest) {
-        (Some(63), _, []) => Ok(j_type(63, 0)),
-        (Some(op @ (2 | 3 | 62)), _, [imm]) => Ok(j_type(op, immediate(imm, 26)?)),
-        (Some(op @ (4 | 5)), _, [rs1, imm]) => {
+        (Some(opcode::RFE), _, []) => Ok(rfe()),
+        (Some(op @ (opcode::J | opcode::JAL | opcode::TRAP)), _, [imm]) => {
+            Ok(j_type(op, immediate(imm, 26)?))
+        }
+        (Some(op @ (opcode::BEQZ | opcode::BNEZ)), _, [rs1, imm]) => {
             Ok(i_type(op, 0, register(rs1)?, immediate(imm, 16)?))
         }
-        (Some(op @ (22 | 23)), _, [rs1]) => Ok(i_type(op, 0, register(rs1)?, 0)),
-        (Some(15), _, [rd, imm]) => Ok(i_type(15, register(rd)?, 0, immediate(imm, 16)?)),
-        (Some(op @ (8..=14 | 24..=31 | 35 | 43)), _, [rd, rs1, imm]) => {
-            Ok(i_type(op, register(rd)?, register(rs1)?, immediate(imm, 16)?))
+        (Some(op @ (opcode::JR | opcode::JALR)), _, [rs1]) => Ok(i_type(op, 0, register(rs1)?, 0)),
+        (Some(op @ opcode::LHGI), _, [rd, imm]) => {
+            Ok(i_type(op, register(rd)?, 0, immediate(imm, 16)?))
         }
+        (
+            Some(
+                op @ (opcode::ADDI..=opcode::XORI
+                | opcode::CLRI..=opcode::SETI
+                | opcode::LW
+                | opcode::SW),
+            ),
+            _,
+            [rd, rs1, imm],
+        ) => Ok(i_type(op, register(rd)?, register(rs1)?, immediate(imm, 16)?)),
         (None, Some(function), [rd, rs1, rs2]) => {
             Ok(r_type(function, register(rd)?, register(rs1)?, register(rs2)?))
         }
