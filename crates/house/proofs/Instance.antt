@@ -1,12 +1,13 @@
--- Every premise of the demands holds somewhere: a boot of two guests, and calls under which a shadow is filled and emptied, so that nothing is proved of nothing.
+-- Every premise of the demands holds somewhere, so that nothing is proved of nothing: a boot of two guests, calls under which a shadow is filled and
+-- emptied, and each demand's theorem applied to them.
 use mathlib.Core.Path.{_≡_, refl, sym, ap, subst, _∙_}
 use mathlib.Core.Bool.{Bool, true, false, _&&_, and-false}
 use mathlib.Core.List.{List, [], _∷_, _++_}
 use Prim.Native.Nat.{ℕ, zero, suc, _+_, _-_, _*_, _%_, _^_, _<_, _≤_}
 use native.Mathlib.Omega.{arith}
-use borrow.Author.Tests.{eq-eqb, ne-eqb, lt-ltb, le-ltb, lt-leb, le-leb, ltb-true}
+use borrow.Author.Tests.{eq-eqb, ne-eqb, le-ltb, lt-leb, le-leb, ltb-true}
 use lib.Count.{trailingZeros}
-use lib.Dec.{ltb, eqb}
+use lib.Dec.{ltb}
 use lib.ListN.{length, getD, set, replicate, length-set}
 use lib.Seq.{getD-set-other}
 use Rattle.dlx.specs.Words.{extendedBy, readIn, holds}
@@ -20,11 +21,11 @@ use Rattle.translate.specs.Walk.{walked, direct}
 use Rattle.translate.specs.Memory.{loneMemory, loneFound, hosted, given, filled, looked, served, hostRead, emptied, hostWritten, hostReads, hostWrites}
 use Rattle.translate.proofs.Tests.{and-left}
 use Rattle.house.specs.Lists.{inner, outer, listFrom, any, firstFrom}
-use Rattle.house.specs.House.{noHouse, partition, pagesOf, runs, framesOf, shadowOf}
+use Rattle.house.specs.House.{noHouse, pagesOf, runs, framesOf, shadowOf}
 use Rattle.house.specs.Damage.{damaged}
 use Rattle.house.specs.Boot.{Verdict, verdict, sum, firstOf, bootVerdict, laid, offset, bootedHouse}
 use Rattle.house.specs.Turns.{World, world, nextFrom, turnOf, guestStep, settledHouse, stepWith, hostStep, hostSteps}
-use Rattle.house.specs.Calls.{answered, bootCall, runVerdict, runCall, oneVerdict, started, stopped, emptiedHouse, startCall, stopCall, emptyCall, readVerdict, readCall}
+use Rattle.house.specs.Calls.{bootCall, runVerdict, runCall, oneVerdict, started, stopped, emptiedHouse, startCall, stopCall, emptyCall, readVerdict, readCall}
 use Rattle.house.specs.Sound.{Typed, Ready}
 use Rattle.house.specs.Histories.{Boot, booted, Call, run, start, stop, empty, readOut, after, history, Grown, turnsIn, stepsOf, stepsMade, turnsMade, staysRunning, loneOf, loneAtBoot}
 use Rattle.house.specs.Demands.{AgreeOn, OwnFramesAlone, StepOf, nowhere, word, byShadow, listed, byTable}
@@ -77,6 +78,7 @@ ready = booted-ready two-guests memory-words
 
 -- ---- what a call comes to
 
+-- a house of two partitions that is not damaged, in a memory of its size
 record Fit (w : World) : Type 0 where
   typed : Typed w
   whole : damaged (w .house) ≡ false
@@ -129,7 +131,8 @@ filling = run 4 ∷ stop 1 ∷ run 3 ∷ []
 abbrev pub emptying : List Call
 emptying = readOut 0 4096 2 (0 ∷ 0 ∷ []) ∷ run 1 ∷ start 1 ∷ empty 0 ∷ start 9 ∷ run 4 ∷ []
 
--- the worlds between
+-- The worlds between: partition 1 has the turn; partition 0 is alone; it has filled its shadow; a store has emptied entry 1; both run; the call has
+-- emptied the shadow; it was filled again, and emptied by a change of PTO.
 
 abbrev begun : World
 begun = booted two-guests
@@ -155,6 +158,8 @@ cleared = world (emptiedHouse (joined .house) 0) (joined .memory)
 abbrev pub ended : World
 ended = hostSteps 4 cleared
 
+-- ---- shadows filled and emptied
+
 -- all that a step computes with
 computing : ℕ
 unfolding two-guests inner outer listFrom any laid offset bootedHouse nextFrom turnOf guestStep settledHouse stepWith hostStep hostSteps started stopped emptiedHouse judged walked direct hosted given filled looked served hostRead emptied hostWritten hostReads hostWrites step fetched executed loaded stored accessed settled retabled instructionOf registerType effectOf written valueOf overflowsOf operated reached loads stores movedTo specialOf withSpecial interrupted levelOf trailingZeros extendedBy readIn holds turnsIn
@@ -164,13 +169,17 @@ computing = 0
 abbrev entry : World → ℕ → ℕ
 entry w px = getD (shadowOf (w .house) 0) px 0
 
-pub filled-then-emptied : (entry full 1 ≡ entryOf 0 0) × (entry bare 1 ≡ 0)
-filled-then-emptied = unfold computing in (refl, refl)
+pub by-store : (entry full 1 ≡ entryOf 0 0) × (entry bare 1 ≡ 0)
+by-store = unfold computing in (refl, refl)
 
-pub cleared-then-filled : (entry bare 0 ≡ entryOf 3 0) × (entry cleared 0 ≡ 0) × (entry (hostSteps 1 cleared) 0 ≡ entryOf 3 0) × (entry ended 0 ≡ 0)
-cleared-then-filled = unfold computing in (refl, refl, refl, refl)
+pub by-call : (entry joined 0 ≡ entryOf 3 0) × (entry cleared 0 ≡ 0)
+by-call = unfold computing in (refl, refl)
 
--- so many steps are left
+pub by-table : (entry (hostSteps 1 cleared) 0 ≡ entryOf 3 0) × (entry ended 0 ≡ 0)
+by-table = unfold computing in (refl, refl)
+
+-- ---- the history is done
+
 some : {n : ℕ} (k : ℕ) → n ≡ suc k → n ≡ 0 → ⊥
 some k e z = omega arith
 
@@ -186,7 +195,8 @@ full-left = unfold computing in refl
 cleared-left : cleared .house .left ≡ 2
 cleared-left = unfold computing in refl
 
--- each call, and that the next can be made
+ended-left : ended .house .left ≡ 2
+ended-left = unfold computing in refl
 
 fit-begun : Fit begun
 unfolding bootedHouse two-guests
@@ -238,7 +248,7 @@ to-read : (i a n : ℕ) (out : List ℕ) (w : World) → after (readOut i a n ou
 unfolding after readCall
 to-read i a n out w = refl
 
--- another history in which partition 0 makes ten steps
+-- another history, in which partition 0 makes as many steps
 
 abbrev pub aside : List Call
 aside = stop 1 ∷ run 10 ∷ []
@@ -254,8 +264,6 @@ to-lonely = after-stop begun fit-begun 1 (omega arith)
 
 to-far : (after (run 10) lonely ≡ far) × (stepsOf (run 10) lonely ≡ 10)
 to-far = after-run lonely (fit-after begun fit-begun (stop 1) to-lonely) 10 (omega arith) (some 2 (unfold computing in refl))
-
--- ---- what grew
 
 full-is : full ≡ history filling begun
 unfolding history
@@ -289,7 +297,10 @@ ten-aside = simp (to-lonely, to-far .1) (unfold computing stepsOf in refl)
 
 -- ---- demand 1
 
--- refused: no partitions, too long a run, no such partition
+numbered : {v : Verdict} (n d : ℕ) → v ≡ verdict n d → v .number ≡ n
+numbered n d e = ap (λ (v : Verdict). v .number) e
+
+-- refused: no partitions, too long a run, no such partition, a word behind the last page
 pub untouched-boot : bootCall [] 3 [] (0 ∷ []) .world ≡ world noHouse (0 ∷ [])
 unfolding bootCall bootVerdict firstOf
 untouched-boot = refused-means-untouched .boot [] [] (0 ∷ []) 3 (some 0 refl)
@@ -300,27 +311,34 @@ untouched-run = refused-means-untouched .run full 1000001 (some 13 (simp (fit-fu
 
 pub untouched-start : startCall full 9 .world ≡ full
 unfolding startCall
-untouched-start = refused-means-untouched .start full 9 (some 9 (ap (λ (v : Verdict). v .number) (no-verdict full fit-full 9 (omega arith))))
+untouched-start = refused-means-untouched .start full 9 (some 9 (numbered 10 0 (no-verdict full fit-full 9 (omega arith))))
 
 pub untouched-stop : stopCall full 9 .world ≡ full
 unfolding stopCall
-untouched-stop = refused-means-untouched .stop full 9 (some 9 (ap (λ (v : Verdict). v .number) (no-verdict full fit-full 9 (omega arith))))
+untouched-stop = refused-means-untouched .stop full 9 (some 9 (numbered 10 0 (no-verdict full fit-full 9 (omega arith))))
 
 pub untouched-empty : emptyCall full 9 .world ≡ full
 unfolding emptyCall
-untouched-empty = refused-means-untouched .empty full 9 (some 9 (ap (λ (v : Verdict). v .number) (no-verdict full fit-full 9 (omega arith))))
+untouched-empty = refused-means-untouched .empty full 9 (some 9 (numbered 10 0 (no-verdict full fit-full 9 (omega arith))))
 
--- one word beyond the two pages
 pub untouched-read : readCall full 0 8192 1 (0 ∷ []) .output ≡ 0 ∷ []
 unfolding readCall readVerdict firstOf
-untouched-read = refused-means-untouched .read full 0 8192 1 (0 ∷ []) (some 11 (simp (fit-full .whole, eq-eqb (length (full .memory)) (full .house .words) (fit-full .size), fit-full .count) (unfold computing in refl))) .1
+untouched-read =
+    refused-means-untouched .read full 0 8192 1 (0 ∷ [])
+    (some 11 (simp (fit-full .whole, eq-eqb (length (full .memory)) (full .house .words) (fit-full .size), fit-full .count) (unfold computing in refl))) .1
 
--- a memory that differs in word k of another partition's frame, or of none's
+-- a memory that differs in one word: 2048 is partition 1's, 1024 is no partition's
 abbrev elsewhere : ℕ → List ℕ
-elsewhere k = set (full .memory) k 7
+elsewhere x = set (full .memory) x 7
 
-pub differs : getD (full .memory) 2048 0 ≡ getD (elsewhere 2048) 2048 0 → ⊥
-differs = unfold computing in λ e. omega (arith, e)
+pub differ : (full .memory ≡ elsewhere 2048 → ⊥) × (full .memory ≡ elsewhere 1024 → ⊥)
+differ = (λ e. theirs (ap (λ (m : List ℕ). getD m 2048 0) e), λ e. none's (ap (λ (m : List ℕ). getD m 1024 0) e))
+  where
+    theirs : getD (full .memory) 2048 0 ≡ getD (elsewhere 2048) 2048 0 → ⊥
+    theirs = unfold computing in λ e. omega (arith, e)
+
+    none's : getD (full .memory) 1024 0 ≡ getD (elsewhere 1024) 1024 0 → ⊥
+    none's = unfold computing in λ e. omega (arith, e)
 
 -- a property of both frames of partition 0, and of partition 1's
 both : (P : ℕ → Type 0) → P 3 → P 0 → (k : ℕ) → k < pagesOf (full .house) 0 → P (getD (framesOf (full .house) 0) k 0)
@@ -363,14 +381,14 @@ run-isolated = run-isolation (full .house) (full .memory) (elsewhere 1024) 4 (fi
 pub ended-whole : damaged (ended .house) ≡ false
 ended-whole = never-damaged two-guests memory-words ended grown-ended
 
-pub stepped : StepOf full (hostStep full) (full .house .current)
-stepped = step-demand two-guests full grown-full (some 2 full-left)
+pub stepped : StepOf ended (hostStep ended) (ended .house .current)
+stepped = step-demand two-guests ended grown-ended (some 1 ended-left)
 
 pub within : Grown two-guests (hostSteps 3 begun) × (hostSteps 3 begun .house .left ≡ 0 → ⊥)
 unfolding runCall
-within = within-runs two-guests begun grown-begun 4 3 (ap (λ (v : Verdict). v .number) (run-verdict begun fit-begun 4 (omega arith) (some 2 begun-left))) (omega arith)
+within = within-runs two-guests begun grown-begun 4 3 (numbered 0 4 (run-verdict begun fit-begun 4 (omega arith) (some 2 begun-left))) (omega arith)
 
--- a store to page 1 lands in frame 0, one behind PTL nowhere
+-- a store to page 1 lands in frame 0, one from PTL on nowhere
 pub lands : (byTable full 0 true true 4100 ≡ word 1) × (byTable full 0 true true 8192 ≡ nowhere)
 unfolding listed loneFound loneOf
 lands = unfold computing in (refl, refl)
@@ -408,16 +426,16 @@ unequal e = one-way (runs (far .house) 1) (ap (λ (w : World). runs (w .house) 1
     never : runs (far .house) 1 ≡ false
     never = unfold computing in refl
 
--- the table that partition 0 stored into, as the read-out gives it
+-- partition 0's table, by the history's read-out
 read-done : readVerdict full 0 4096 2 (0 ∷ 0 ∷ []) ≡ verdict 0 2
 unfolding readVerdict firstOf
 read-done = simp (fit-full .whole, eq-eqb (length (full .memory)) (full .house .words) (fit-full .size), fit-full .count) (unfold computing in refl)
 
 pub table-read : readCall full 0 4096 2 (0 ∷ 0 ∷ []) .output ≡ 0x00000800 ∷ 0x00001800 ∷ []
 unfolding readCall
-table-read = reads-those-pages two-guests full grown-full 0 4096 2 (0 ∷ 0 ∷ []) (ap (λ (v : Verdict). v .number) read-done) ∙ (unfold computing loneOf in refl)
+table-read = reads-those-pages two-guests full grown-full 0 4096 2 (0 ∷ 0 ∷ []) (numbered 0 2 read-done) ∙ (unfold computing loneOf in refl)
 
--- partition 0 over the second half; partition 1 in the last of 4 steps from boot
+-- partition 0 over the second half; partition 1 by the last of (n-1)q+1 steps from boot
 
 enough : stepsMade emptying full ≡ 5
 unfolding stepsMade
@@ -427,7 +445,6 @@ stays : staysRunning emptying full 0 ≡ true
 unfolding staysRunning
 stays = simp (to-read, to-bare .0, to-joined, to-cleared, to-none, to-ended .0) (unfold computing in refl)
 
--- (n-1)q+1
 bound : (length (two-guests .pages) - 1) * two-guests .q + 1 ≡ 4
 unfolding two-guests
 bound = refl
