@@ -8,13 +8,6 @@ use Rattle.drill.specs.Goes.{Goes}
 use Rattle.drill.proofs.Commands.{stands-still}
 use Rattle.drill.proofs.play.Statement.{statement}
 use Rattle.drill.proofs.play.Tie as tie
-use Rattle.drill.proofs.play.Reads as reads
-use Rattle.drill.proofs.play.Lts as lts
-use Rattle.drill.proofs.reading.first.Reads as first-reads
-use Rattle.drill.proofs.reading.settle.Reads as settle-reads
-use Rattle.drill.proofs.told.finish.Reads as finish-reads
-use Rattle.drill.proofs.turn.Reads as turn-reads
-use Rattle.house.proofs.House.none.Reads as none-reads
 
 abbrev Inv-loop : tie.InvT-loop
 Inv-loop input₀ memory₀ few₀ many₀ text₀ s₀ turns₀ input memory few many text s turns = Goes s (length input₀) (length memory₀) × (length input ≡ length input₀) × (length memory ≡ length memory₀) × (length few ≡ length few₀) × (length many ≡ length many₀) × (length text ≡ length text₀)
@@ -22,21 +15,17 @@ Inv-loop input₀ memory₀ few₀ many₀ text₀ s₀ turns₀ input memory fe
 abbrev μ-loop : tie.MeasureT-loop
 μ-loop input₀ memory₀ few₀ many₀ text₀ s₀ turns₀ input memory few many text s turns = turns
 
--- src/main.rt:59:9
 first-requires : tie.Need-first-requires Inv-loop μ-loop
 first-requires c κs = tt
 
--- src/main.rt:60:9
 settle-requires : tie.Need-settle-requires Inv-loop μ-loop
 settle-requires c κs =
     let s = subst (λ (b : ℕ). Stands (c .before .before .before .before .first .result) b 0) (sym (c .before .before .before .before .first .kept .0)) (c .before .before .before .before .first .ensures) in
     (stands-still s, omega (arith, s .lends))
 
--- src/main.rt:61:9
 none-requires : tie.Need-none-requires Inv-loop μ-loop
 none-requires c κs = tt
 
--- src/main.rt:68:5
 loop-holds : tie.Need-loop-holds Inv-loop μ-loop
 loop-holds c =
     let z = c .before .before .before .before .before .settle .ensures in (
@@ -52,35 +41,27 @@ loop-holds c =
       refl,
     )
 
--- src/main.rt:72:13
 finish-requires : tie.Need-finish-requires Inv-loop μ-loop
 finish-requires c κs = omega (arith, c .before .before .before .before .before .before .loop .inv .0 .used, c .before .before .before .before .before .before .loop .inv .5, c .before .before .before .before .before .before .before .before .before .before .before .before .before .before .before .before .before .before .before .before .before .before .before .before .pre)
 
--- src/main.rt:73:13
 same-length : tie.Need-same-length Inv-loop μ-loop
 same-length c = omega (arith, c .before .before .before .before .before .before .before .before .before .loop .inv .1, c .before .before .before .before .before .before .before .before .before .before .before .before .before .before .before .settle .kept, c .before .before .before .before .before .before .before .before .before .before .before .before .before .before .before .before .before .before .before .before .first .kept)
 
--- src/main.rt:73:13
 same-length-2 : tie.Need-same-length-2 Inv-loop μ-loop
 same-length-2 c = omega (arith, c .before .before .before .before .before .before .before .before .before .loop .inv .2, c .before .before .before .before .before .before .before .before .before .before .before .before .before .before .before .settle .kept)
 
--- src/main.rt:73:13
 same-length-3 : tie.Need-same-length-3 Inv-loop μ-loop
 same-length-3 c = c .before .before .before .before .before .before .before .before .before .loop .inv .3
 
--- src/main.rt:73:13
 same-length-4 : tie.Need-same-length-4 Inv-loop μ-loop
 same-length-4 c = c .before .before .before .before .before .before .before .before .before .loop .inv .4
 
--- src/main.rt:73:13
 same-length-5 : tie.Need-same-length-5 Inv-loop μ-loop
 same-length-5 c = omega (arith, c .before .before .before .before .before .before .before .before .before .loop .inv .5, c .before .before .finish .kept)
 
--- src/main.rt:73:13
 returns : tie.Need-returns Inv-loop μ-loop
 returns c = search needs
 
--- src/main.rt:75:9
 turn-requires : tie.Need-turn-requires Inv-loop μ-loop
 turn-requires c κs =
     let v = c .before .before .before .before .before .before .before .before .before .before .loop .inv in
@@ -89,15 +70,12 @@ turn-requires c κs =
     let g = subst (λ (x : ℕ). Goes (c .before .before .before .before .before .before .before .before .before .before .loop .s) (length (c .before .before .before .before .before .before .before .before .before .before .before .before .before .before .before .before .settle .last .0)) x) (sym (v .2)) (v .0) in
     (subst (λ (x : ℕ). Goes (c .before .before .before .before .before .before .before .before .before .before .loop .s) x b) (sym (v .1)) g, (omega (arith, c .before .before .before .before .before .if1 .left), (omega (arith, v .3, w .0), (omega (arith, v .4, w .1 .0), omega (arith, v .5, w .1 .1)))))
 
--- src/main.rt:76:9
 sub-turns : tie.Need-sub-turns Inv-loop μ-loop
 sub-turns c = search needs
 
--- src/main.rt:68:5
 loop-less : tie.Need-loop-less Inv-loop μ-loop
 loop-less c = search needs
 
--- src/main.rt:68:5
 loop-again : tie.Need-loop-again Inv-loop μ-loop
 loop-again c =
     let v = c .before .before .before .before .before .before .before .before .before .before .before .before .before .before .before .before .before .before .before .before .before .loop .inv in
@@ -105,27 +83,21 @@ loop-again c =
     let g = subst (λ (x : ℕ). Goes (c .before .before .before .before .before .before .before .before .before .before .turn .result) x (length (c .before .before .before .before .before .before .before .before .before .before .before .before .before .before .before .before .before .before .before .before .before .loop .memory))) (v .1) (c .before .before .before .before .before .before .before .before .before .before .turn .ensures) in
     (subst (λ (x : ℕ). Goes (c .before .before .before .before .before .before .before .before .before .before .turn .result) (length (c .before .before .before .before .before .before .before .before .before .before .before .before .before .before .before .before .before .before .before .before .before .before .before .before .before .before .before .settle .last .0)) x) (v .2) g, omega (arith, v .1, k), omega (arith, v .2, k), omega (arith, v .3, k), omega (arith, v .4, k), omega (arith, v .5, k))
 
--- src/main.rt:50:1
 same-length-6 : tie.Need-same-length-6 Inv-loop μ-loop
 same-length-6 c = omega (arith, c .before .loop .inv .1, c .before .before .before .before .before .before .before .settle .kept, c .before .before .before .before .before .before .before .before .before .before .before .before .first .kept)
 
--- src/main.rt:50:1
 same-length-7 : tie.Need-same-length-7 Inv-loop μ-loop
 same-length-7 c = omega (arith, c .before .loop .inv .2, c .before .before .before .before .before .before .before .settle .kept)
 
--- src/main.rt:50:1
 same-length-8 : tie.Need-same-length-8 Inv-loop μ-loop
 same-length-8 c = c .before .loop .inv .3
 
--- src/main.rt:50:1
 same-length-9 : tie.Need-same-length-9 Inv-loop μ-loop
 same-length-9 c = c .before .loop .inv .4
 
--- src/main.rt:50:1
 same-length-10 : tie.Need-same-length-10 Inv-loop μ-loop
 same-length-10 c = c .before .loop .inv .5
 
--- src/main.rt:50:1
 returns-2 : tie.Need-returns-2 Inv-loop μ-loop
 returns-2 c = search needs
 

@@ -8,26 +8,16 @@ use Rattle.drill.proofs.Commands.{stands-still, played-within}
 use borrow.Author.Needs.{needs}
 use Rattle.drill.proofs.turn.Statement.{statement}
 use Rattle.drill.proofs.turn.Tie as tie
-use Rattle.drill.proofs.turn.Reads as reads
-use Rattle.drill.proofs.turn.Lts as lts
-use Rattle.drill.proofs.calls.play.Reads as play-reads
-use Rattle.drill.proofs.reading.next.Reads as next-reads
-use Rattle.drill.proofs.reading.settle.Reads as settle-reads
-use Rattle.drill.proofs.told.flushed.Reads as flushed-reads
 
--- src/main.rt:36:9
 flushed-requires : tie.Need-flushed-requires
 flushed-requires c κs = search needs
 
--- src/main.rt:38:9
 play-requires : tie.Need-play-requires
 play-requires c κs = search needs
 
--- src/main.rt:39:9
 next-requires : tie.Need-next-requires
 next-requires c κs = c .before .before .before .before .before .before .before .before .before .before .before .before .before .before .before .before .before .before .before .before .before .before .before .pre .0 .stands
 
--- src/main.rt:40:9
 settle-requires : tie.Need-settle-requires
 settle-requires c κs =
     let g = c .before .before .before .before .before .before .before .before .before .before .before .before .before .before .before .before .before .before .before .before .before .before .before .before .before .before .before .before .pre .0 in
@@ -35,27 +25,21 @@ settle-requires c κs =
     let s = subst (λ (b : ℕ). Stands (c .before .before .before .before .next .result) b (c .before .before .before .before .before .before .before .before .before .before .before .before .before .before .play .result .lent)) (sym (c .before .before .before .before .next .kept .0)) (c .before .before .before .before .next .ensures) in
     (stands-still s, omega (arith, s .lends, l, c .before .before .before .before .before .before .before .before .before .before .before .before .before .before .play .kept))
 
--- src/main.rt:25:1
 same-length : tie.Need-same-length
 same-length c = search needs
 
--- src/main.rt:25:1
 same-length-2 : tie.Need-same-length-2
 same-length-2 c = search needs
 
--- src/main.rt:25:1
 same-length-3 : tie.Need-same-length-3
 same-length-3 c = search needs
 
--- src/main.rt:25:1
 same-length-4 : tie.Need-same-length-4
 same-length-4 c = search needs
 
--- src/main.rt:25:1
 same-length-5 : tie.Need-same-length-5
 same-length-5 c = search needs
 
--- src/main.rt:25:1
 returns : tie.Need-returns
 returns c =
     let g = c .before .before .before .before .before .before .before .before .before .before .before .before .before .before .before .before .before .before .before .before .before .before .before .before .before .before .before .before .before .before .before .before .before .before .pre .0 in

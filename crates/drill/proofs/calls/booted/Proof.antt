@@ -10,81 +10,59 @@ use Rattle.drill.proofs.Taken.{front-length, front-taken, from-front}
 use borrow.Author.Needs.{needs}
 use Rattle.drill.proofs.calls.booted.Statement.{statement}
 use Rattle.drill.proofs.calls.booted.Tie as tie
-use Rattle.drill.proofs.calls.booted.Reads as reads
-use Rattle.drill.proofs.calls.booted.Lts as lts
-use Rattle.boot.proofs.boot.Reads as boot-reads
-use Rattle.dlx.proofs.words.wide.Reads as wide-reads
-use Rattle.script.proofs.words.take.Reads as take-reads
 
--- src/calls.rt:47:9
 wide-requires : tie.Need-wide-requires
 wide-requires c κs = search needs
 
--- src/calls.rt:48:9
 wide-requires-2 : tie.Need-wide-requires-2
 wide-requires-2 c κs = search needs
 
--- src/calls.rt:49:26
 slice-relend-prefix-take : tie.Need-slice-relend-prefix-take
 slice-relend-prefix-take c = search needs
 
--- src/calls.rt:49:26
 slice-aggregate-take : tie.Need-slice-aggregate-take
 slice-aggregate-take c = sym (front-length (c .before .before .before .before .before .before .before .args .pages .now) (c .before .before .wide .result) (c .before .before .before .before .before .before .before .args .c .a) 16 (c .before .before .wide .ensures) (c .before .before .before .before .before .before .before .pre .0 .pages) (c .before .before .before .before .before .before .before .pre .1 .0))
 
--- src/calls.rt:49:5
 take-requires : tie.Need-take-requires
 take-requires c κs = omega (arith, front-length (c .before .before .before .before .before .before .before .args .pages .now) (c .before .before .wide .result) (c .before .before .before .before .before .before .before .args .c .a) 16 (c .before .before .wide .ensures) (c .before .before .before .before .before .before .before .pre .0 .pages) (c .before .before .before .before .before .before .before .pre .1 .0), c .before .before .wide .ensures, c .before .before .before .before .before .before .before .pre .0 .stands)
 
--- src/calls.rt:50:23
 mul-take : tie.Need-mul-take
 mul-take c = search needs
 
--- src/calls.rt:50:30
 slice-relend-prefix-take-2 : tie.Need-slice-relend-prefix-take-2
 slice-relend-prefix-take-2 c = search needs
 
--- src/calls.rt:50:30
 slice-aggregate-take-2 : tie.Need-slice-aggregate-take-2
 slice-aggregate-take-2 c = sym (front-length (c .before .before .before .before .before .before .before .before .before .before .before .args .frames .now) (c .before .before .before .before .before .wide2 .result) (c .before .before .before .before .before .before .before .before .before .before .before .args .c .c) 4096 (c .before .before .before .before .before .wide2 .ensures) (c .before .before .before .before .before .before .before .before .before .before .before .pre .0 .frames) (c .before .before .before .before .before .before .before .before .before .before .before .pre .1 .1))
 
--- src/calls.rt:50:5
 take-requires-2 : tie.Need-take-requires-2
 take-requires-2 c κs = omega (arith, front-length (c .before .before .before .before .before .before .before .before .before .before .before .args .frames .now) (c .before .before .before .before .before .wide2 .result) (c .before .before .before .before .before .before .before .before .before .before .before .args .c .c) 4096 (c .before .before .before .before .before .wide2 .ensures) (c .before .before .before .before .before .before .before .before .before .before .before .pre .0 .frames) (c .before .before .before .before .before .before .before .before .before .before .before .pre .1 .1), c .before .before .before .before .before .wide2 .ensures, c .before .before .before .before .before .before .wide .ensures, c .before .before .before .before .before .before .before .before .before .before .before .pre .0 .stands)
 
--- src/calls.rt:51:10
 slice-reshare-prefix-boot : tie.Need-slice-reshare-prefix-boot
 slice-reshare-prefix-boot c = search needs
 
--- src/calls.rt:51:10
 slice-aggregate-boot : tie.Need-slice-aggregate-boot
 slice-aggregate-boot c =
     let g = c .before .before .before .before .before .before .before .before .before .before .before .before .before .before .before .args in
     front-count (g .more .now) (c .before .before .before .before .before .before .before .take .last .1 .1 .0) (drop (c .before .before .before .before .before .before .before .before .before .before .wide .result) (g .pages .now)) (g .pages .now) (c .before .before .before .before .before .before .before .before .before .before .wide .result) (g .c .a) 16 (c .before .before .before .before .before .before .before .before .before .before .wide .ensures) (c .before .before .before .before .before .before .before .before .before .before .before .before .before .before .before .pre .0 .pages) (c .before .before .before .before .before .before .before .before .before .before .before .before .before .before .before .pre .1 .0) 0 (c .before .before .before .before .before .before .before .take .ensures)
 
--- src/calls.rt:51:28
 slice-reshare-prefix-boot-2 : tie.Need-slice-reshare-prefix-boot-2
 slice-reshare-prefix-boot-2 c = search needs
 
--- src/calls.rt:51:28
 slice-aggregate-boot-2 : tie.Need-slice-aggregate-boot-2
 slice-aggregate-boot-2 c =
     let g = c .before .before .before .before .before .before .before .before .before .before .before .before .before .before .before .before .args in
     front-count (g .more .now) (c .before .before .before .before .take2 .last .1 .1 .0) (drop (c .before .before .before .before .before .before .before .before .before .before .wide2 .result) (g .frames .now)) (g .frames .now) (c .before .before .before .before .before .before .before .before .before .before .wide2 .result) (g .c .c) 4096 (c .before .before .before .before .before .before .before .before .before .before .wide2 .ensures) (c .before .before .before .before .before .before .before .before .before .before .before .before .before .before .before .before .pre .0 .frames) (c .before .before .before .before .before .before .before .before .before .before .before .before .before .before .before .before .pre .1 .1) (4 * c .before .before .before .before .before .before .before .before .before .before .before .wide .result) (c .before .before .before .before .take2 .ensures)
 
--- src/calls.rt:51:5
 boot-requires : tie.Need-boot-requires
 boot-requires c κs = search needs
 
--- src/calls.rt:37:1
 same-length : tie.Need-same-length
 same-length c = search needs
 
--- src/calls.rt:37:1
 same-length-2 : tie.Need-same-length-2
 same-length-2 c = search needs
 
--- src/calls.rt:37:1
 returns : tie.Need-returns
 unfolding bootOf
 returns c =

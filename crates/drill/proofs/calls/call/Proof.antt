@@ -4,36 +4,25 @@ use Rattle.drill.specs.Player.{callTextOf}
 use borrow.Author.Needs.{needs}
 use Rattle.drill.proofs.calls.call.Statement.{statement}
 use Rattle.drill.proofs.calls.call.Tie as tie
-use Rattle.drill.proofs.calls.call.Reads as reads
-use Rattle.drill.proofs.calls.call.Lts as lts
-use Rattle.drill.proofs.calls.called.Reads as called-reads
-use Rattle.drill.proofs.told.call.Reads as call-reads
 
--- src/calls.rt:100:9
 called-requires : tie.Need-called-requires
 called-requires c κs = search needs
 
--- src/calls.rt:102:9
 call-requires : tie.Need-call-requires
 call-requires c κs = search needs
 
--- src/calls.rt:87:1
 same-length : tie.Need-same-length
 same-length c = search needs
 
--- src/calls.rt:87:1
 same-length-2 : tie.Need-same-length-2
 same-length-2 c = search needs
 
--- src/calls.rt:87:1
 same-length-3 : tie.Need-same-length-3
 same-length-3 c = search needs
 
--- src/calls.rt:87:1
 same-length-4 : tie.Need-same-length-4
 same-length-4 c = search needs
 
--- src/calls.rt:87:1
 returns : tie.Need-returns
 unfolding callTextOf
 returns c = (ap (λ (x : Answered). x .world) (c .before .before .before .before .before .before .before .before .before .before .before .before .called .ensures), rw (← c .before .before .before .before .before .before .before .before .before .before .before .before .called .ensures) (c .before .before .call .ensures))

@@ -5,41 +5,28 @@ use Rattle.drill.proofs.Shown.{shown-few, shown-in, read-keeps}
 use borrow.Author.Needs.{needs}
 use Rattle.drill.proofs.calls.read.Statement.{statement}
 use Rattle.drill.proofs.calls.read.Tie as tie
-use Rattle.drill.proofs.calls.read.Reads as reads
-use Rattle.drill.proofs.calls.read.Lts as lts
-use Rattle.drill.proofs.calls.read_out.Reads as read-out-reads
-use Rattle.drill.proofs.told.call.Reads as call-reads
-use Rattle.drill.proofs.told.shown.Reads as shown-reads
-use Rattle.text.proofs.lines.output.Reads as output-reads
 
--- src/calls.rt:102:9
 read-out-requires : tie.Need-read-out-requires
 read-out-requires c κs = search needs
 
--- src/calls.rt:104:9
 call-requires : tie.Need-call-requires
 call-requires c κs = search needs
 
--- src/calls.rt:105:9
 shown-requires : tie.Need-shown-requires
 shown-requires c κs = search needs
 
--- src/calls.rt:106:9
 output-requires : tie.Need-output-requires
 output-requires c κs =
     let l = shown-in _ _ _ _ _ _ _ _ _ (c .before .before .before .before .before .before .before .before .before .before .read-out .ensures) in
     let f = shown-few (c .before .before .before .before .before .before .before .before .before .before .read-out .result .number) (c .before .before .before .before .before .before .before .before .before .before .read-out .result .detail) in
     (omega (arith, l, c .before .before .shown .ensures, c .before .before .before .before .before .before .before .before .before .before .read-out .kept), omega (arith, f, c .before .before .shown .ensures, c .before .before .before .before .before .call .ensures .within, c .before .before .before .before .before .call .kept, c .before .before .before .before .before .before .before .before .before .before .before .before .before .before .before .before .pre))
 
--- src/calls.rt:90:1
 same-length : tie.Need-same-length
 same-length c = search needs
 
--- src/calls.rt:90:1
 same-length-2 : tie.Need-same-length-2
 same-length-2 c = search needs
 
--- src/calls.rt:90:1
 returns : tie.Need-returns
 unfolding readTextOf
 returns c =

@@ -8,58 +8,42 @@ use Rattle.drill.specs.Player.{lentOf, changedOf}
 use borrow.Author.Needs.{needs}
 use Rattle.drill.proofs.reading.changed.Statement.{statement}
 use Rattle.drill.proofs.reading.changed.Tie as tie
-use Rattle.drill.proofs.reading.changed.Reads as reads
-use Rattle.drill.proofs.reading.changed.Lts as lts
-use Rattle.script.proofs.words.fill.Reads as fill-reads
-use Rattle.script.proofs.words.lent.Reads as lent-reads
 
--- src/reading.rt:106:9
 lent-requires : tie.Need-lent-requires
 lent-requires c κs = search needs
 
--- src/reading.rt:106:9
 returns : tie.Need-returns
 unfolding lentOf changedOf
 returns c = (rw (eq-eqb _ _ (c .before .if1 .taken)) (c .lent .ensures), rw (eq-eqb _ _ (c .before .if1 .taken)))
 
--- src/reading.rt:109:21
 slice-relend-prefix-fill : tie.Need-slice-relend-prefix-fill
 slice-relend-prefix-fill c = search needs
 
--- src/reading.rt:109:21
 slice-aggregate-fill : tie.Need-slice-aggregate-fill
 slice-aggregate-fill c = sym (length-take-le (c .before .before .before .before .before .before .args .lent) (c .before .before .before .before .before .before .args .memory .now) (c .before .before .before .before .before .before .pre))
 
--- src/reading.rt:109:9
 fill-requires : tie.Need-fill-requires
 fill-requires c κs = search needs
 
--- src/reading.rt:110:9
 same-length : tie.Need-same-length
 same-length c = search needs
 
--- src/reading.rt:110:9
 returns-2 : tie.Need-returns-2
 unfolding lentOf changedOf
 returns-2 c = (rw (ne-eqb _ _ (c .before .before .before .before .before .before .if1 .left)), rw (ne-eqb _ _ (c .before .before .before .before .before .before .if1 .left), eq-eqb _ _ (c .before .before .before .before .if2 .taken)) (ap (λ (x : List ℕ). x ++ drop (c .before .before .before .before .before .before .before .before .before .args .lent) (c .before .before .before .before .before .before .before .before .before .args .memory .now)) (c .before .before .fill .ensures)))
 
--- src/reading.rt:112:17
 slice-relend-prefix-fill-2 : tie.Need-slice-relend-prefix-fill-2
 slice-relend-prefix-fill-2 c = search needs
 
--- src/reading.rt:112:17
 slice-aggregate-fill-2 : tie.Need-slice-aggregate-fill-2
 slice-aggregate-fill-2 c = sym (length-take-le (c .before .before .before .before .before .before .args .lent) (c .before .before .before .before .before .before .args .memory .now) (c .before .before .before .before .before .before .pre))
 
--- src/reading.rt:112:5
 fill-requires-2 : tie.Need-fill-requires-2
 fill-requires-2 c κs = search needs
 
--- src/reading.rt:101:1
 same-length-2 : tie.Need-same-length-2
 same-length-2 c = search needs
 
--- src/reading.rt:101:1
 returns-3 : tie.Need-returns-3
 unfolding lentOf changedOf
 returns-3 c = (rw (ne-eqb _ _ (c .before .before .before .before .before .before .if1 .left)), rw (ne-eqb _ _ (c .before .before .before .before .before .before .if1 .left), ne-eqb _ _ (c .before .before .before .before .if2 .left)) (ap (λ (x : List ℕ). x ++ drop (c .before .before .before .before .before .before .before .before .before .args .lent) (c .before .before .before .before .before .before .before .before .before .args .memory .now)) (c .before .before .fill2 .ensures)))

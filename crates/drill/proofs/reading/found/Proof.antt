@@ -7,27 +7,19 @@ use Rattle.drill.proofs.Commands.{command-sized, command-inside}
 use borrow.Author.Needs.{needs}
 use Rattle.drill.proofs.reading.found.Statement.{statement}
 use Rattle.drill.proofs.reading.found.Tie as tie
-use Rattle.drill.proofs.reading.found.Reads as reads
-use Rattle.drill.proofs.reading.found.Lts as lts
-use Rattle.script.proofs.commands.read.Reads as read-reads
 
--- src/reading.rt:55:34
 sub-read : tie.Need-sub-read
 sub-read c = search needs
 
--- src/reading.rt:55:34
 part-read-start : tie.Need-part-read-start
 part-read-start c = search needs
 
--- src/reading.rt:55:34
 part-read-end : tie.Need-part-read-end
 part-read-end c = search needs
 
--- src/reading.rt:55:9
 read-requires : tie.Need-read-requires
 read-requires c κs = search needs
 
--- src/reading.rt:51:1
 returns : tie.Need-returns
 returns c =
     let bs = take (c .before .before .before .args .end - c .before .before .before .args .at) (drop (c .before .before .before .args .at) (c .before .before .before .args .input .now)) in

@@ -7,11 +7,6 @@ use Rattle.drill.specs.Fit.{Stands}
 use Rattle.drill.proofs.Commands.{stands-still, lent-within}
 use Rattle.drill.proofs.reading.settle.Statement.{statement}
 use Rattle.drill.proofs.reading.settle.Tie as tie
-use Rattle.drill.proofs.reading.settle.Reads as reads
-use Rattle.drill.proofs.reading.settle.Lts as lts
-use Rattle.drill.proofs.reading.changed.Reads as changed-reads
-use Rattle.drill.proofs.reading.changes_memory.Reads as changes-memory-reads
-use Rattle.drill.proofs.reading.next.Reads as next-reads
 
 abbrev Inv-loop : tie.InvT-loop
 Inv-loop input₀ memory₀ r₀ turns₀ input memory r turns = (length input ≡ length input₀) × (length memory ≡ length memory₀) × Stands r (length input₀) (r .lent) × (r .lent ≤ length memory₀)
@@ -19,43 +14,33 @@ Inv-loop input₀ memory₀ r₀ turns₀ input memory r turns = (length input �
 abbrev μ-loop : tie.MeasureT-loop
 μ-loop input₀ memory₀ r₀ turns₀ input memory r turns = turns
 
--- src/reading.rt:132:5
 loop-holds : tie.Need-loop-holds Inv-loop μ-loop
 loop-holds c = (refl, refl, c .before .before .pre .0, c .before .before .pre .1)
 
--- src/reading.rt:134:13
 changes-memory-requires : tie.Need-changes-memory-requires Inv-loop μ-loop
 changes-memory-requires c κs = search needs
 
--- src/reading.rt:135:13
 same-length : tie.Need-same-length Inv-loop μ-loop
 same-length c = search needs
 
--- src/reading.rt:135:13
 same-length-2 : tie.Need-same-length-2 Inv-loop μ-loop
 same-length-2 c = search needs
 
--- src/reading.rt:135:13
 returns : tie.Need-returns Inv-loop μ-loop
 returns c = (c .before .before .before .before .loop .inv .2, c .before .before .before .before .loop .inv .3)
 
--- src/reading.rt:137:13
 changed-requires : tie.Need-changed-requires Inv-loop μ-loop
 changed-requires c κs = omega (arith, c .before .before .before .before .before .loop .inv .3, c .before .before .before .before .before .loop .inv .1)
 
--- src/reading.rt:138:9
 next-requires : tie.Need-next-requires Inv-loop μ-loop
 next-requires c κs = subst (λ (b : ℕ). Stands (c .before .before .before .before .before .before .before .before .before .loop .r) b (c .before .before .before .before .before .before .before .before .before .loop .r .lent)) (sym (c .before .before .before .before .before .before .before .before .before .loop .inv .0)) (c .before .before .before .before .before .before .before .before .before .loop .inv .2)
 
--- src/reading.rt:139:9
 sub-turns : tie.Need-sub-turns Inv-loop μ-loop
 sub-turns c = search needs
 
--- src/reading.rt:132:5
 loop-less : tie.Need-loop-less Inv-loop μ-loop
 loop-less c = search needs
 
--- src/reading.rt:132:5
 loop-again : tie.Need-loop-again Inv-loop μ-loop
 loop-again c =
     let v = c .before .before .before .before .before .before .before .before .before .before .before .before .loop .inv in
@@ -63,15 +48,12 @@ loop-again c =
     let l = lent-within (c .before .before .before .before .before .before .before .before .before .before .before .before .loop .r .command) (c .before .before .before .before .before .before .before .before .before .before .before .before .loop .r .lent) (length (c .before .before .before .before .before .before .before .before .before .before .before .before .loop .memory)) (omega (arith, v .3, v .1)) in
     (omega (arith, v .0, c .before .before .next .kept), omega (arith, v .1, c .before .before .before .before .before .before .changed .kept), stands-still s, omega (arith, s .lends, c .before .before .before .before .before .before .changed .ensures .0, l, v .1))
 
--- src/reading.rt:126:1
 same-length-3 : tie.Need-same-length-3 Inv-loop μ-loop
 same-length-3 c = search needs
 
--- src/reading.rt:126:1
 same-length-4 : tie.Need-same-length-4 Inv-loop μ-loop
 same-length-4 c = search needs
 
--- src/reading.rt:126:1
 returns-2 : tie.Need-returns-2 Inv-loop μ-loop
 returns-2 c = (c .before .loop .inv .2, c .before .loop .inv .3)
 

@@ -5,8 +5,6 @@ use borrow.Author.Needs.{needs}
 use lib.ListN.{length, length-set}
 use Rattle.drill.proofs.reading.shift.Statement.{statement}
 use Rattle.drill.proofs.reading.shift.Tie as tie
-use Rattle.drill.proofs.reading.shift.Reads as reads
-use Rattle.drill.proofs.reading.shift.Lts as lts
 
 abbrev Inv-loop : tie.InvT-loop
 Inv-loop input₀ at end left i₀ input i = (length input ≡ length input₀) × (i ≤ left) × (left ≡ end - at)
@@ -14,43 +12,33 @@ Inv-loop input₀ at end left i₀ input i = (length input ≡ length input₀) 
 abbrev μ-loop : tie.MeasureT-loop
 μ-loop input₀ at end left i₀ input i = left - i
 
--- src/reading.rt:32:16
 sub-left : tie.Need-sub-left Inv-loop μ-loop
 sub-left c = search needs
 
--- src/reading.rt:34:5
 loop-holds : tie.Need-loop-holds Inv-loop μ-loop
 loop-holds c = (refl, omega arith, refl)
 
--- src/reading.rt:35:26
 add-input : tie.Need-add-input Inv-loop μ-loop
 add-input c = search needs
 
--- src/reading.rt:35:20
 slice-read-input : tie.Need-slice-read-input Inv-loop μ-loop
 slice-read-input c = search needs
 
--- src/reading.rt:35:9
 slice-write-input : tie.Need-slice-write-input Inv-loop μ-loop
 slice-write-input c = search needs
 
--- src/reading.rt:36:9
 add-i : tie.Need-add-i Inv-loop μ-loop
 add-i c = search needs
 
--- src/reading.rt:34:5
 loop-less : tie.Need-loop-less Inv-loop μ-loop
 loop-less c = search needs
 
--- src/reading.rt:34:5
 loop-again : tie.Need-loop-again Inv-loop μ-loop
 loop-again c = (simp length-set (c .before .before .loop .inv .0), omega arith, c .before .before .loop .inv .2)
 
--- src/reading.rt:28:1
 same-length : tie.Need-same-length Inv-loop μ-loop
 same-length c = search needs
 
--- src/reading.rt:28:1
 returns : tie.Need-returns Inv-loop μ-loop
 returns c = search needs
 

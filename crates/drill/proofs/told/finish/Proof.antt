@@ -4,69 +4,49 @@ use lib.Seq.{length-take-le}
 use borrow.Author.Needs.{needs}
 use Rattle.drill.proofs.told.finish.Statement.{statement}
 use Rattle.drill.proofs.told.finish.Tie as tie
-use Rattle.drill.proofs.told.finish.Reads as reads
-use Rattle.drill.proofs.told.finish.Lts as lts
-use Rattle.io.proofs.write_all.Reads as write-all-reads
-use Rattle.text.proofs.numbers.decimal.Reads as decimal-reads
-use Rattle.text.proofs.numbers.put.Reads as put-reads
 
--- src/told.rt:56:38
 slice-reshare-prefix-write-all : tie.Need-slice-reshare-prefix-write-all
 slice-reshare-prefix-write-all c = search needs
 
--- src/told.rt:56:38
 slice-aggregate-write-all : tie.Need-slice-aggregate-write-all
 slice-aggregate-write-all c = sym (length-take-le (c .before .before .before .before .args .used) (c .before .before .before .before .args .text .now) (omega (arith, c .before .before .before .before .pre)))
 
--- src/told.rt:56:9
 write-all-requires : tie.Need-write-all-requires
 write-all-requires c κs = search needs
 
--- src/told.rt:57:9
 same-length : tie.Need-same-length
 same-length c = search needs
 
--- src/told.rt:57:9
 returns : tie.Need-returns
 returns c = search needs
 
--- src/told.rt:59:42
 slice-aggregate-put : tie.Need-slice-aggregate-put
 slice-aggregate-put c = search needs
 
--- src/told.rt:59:9
 put-requires : tie.Need-put-requires
 put-requires c κs = search needs
 
--- src/told.rt:60:9
 decimal-requires : tie.Need-decimal-requires
 decimal-requires c κs = search needs
 
--- src/told.rt:61:40
 slice-aggregate-put-2 : tie.Need-slice-aggregate-put-2
 slice-aggregate-put-2 c = search needs
 
--- src/told.rt:61:9
 put-requires-2 : tie.Need-put-requires-2
 put-requires-2 c κs = search needs
 
--- src/told.rt:62:34
 slice-reshare-prefix-write-all-2 : tie.Need-slice-reshare-prefix-write-all-2
 slice-reshare-prefix-write-all-2 c = search needs
 
--- src/told.rt:62:34
 slice-aggregate-write-all-2 : tie.Need-slice-aggregate-write-all-2
 slice-aggregate-write-all-2 c = sym (length-take-le (c .before .before .before .put2 .result) (c .before .before .before .put2 .last .0) (omega arith))
 
--- src/told.rt:62:5
 write-all-requires-2 : tie.Need-write-all-requires-2
 write-all-requires-2 c κs = search needs
 
--- src/told.rt:52:1
 same-length-2 : tie.Need-same-length-2
 same-length-2 c = search needs
 
--- src/told.rt:52:1
 returns-2 : tie.Need-returns-2
 returns-2 c = search needs
 

@@ -3,23 +3,16 @@ use lib.Seq.{length-take-le}
 use borrow.Author.Needs.{needs}
 use Rattle.drill.proofs.told.flushed.Statement.{statement}
 use Rattle.drill.proofs.told.flushed.Tie as tie
-use Rattle.drill.proofs.told.flushed.Reads as reads
-use Rattle.drill.proofs.told.flushed.Lts as lts
-use Rattle.io.proofs.write_all.Reads as write-all-reads
 
--- src/told.rt:45:9
 returns : tie.Need-returns
 returns c = search needs
 
--- src/told.rt:47:34
 slice-aggregate-write-all : tie.Need-slice-aggregate-write-all
 slice-aggregate-write-all c = sym (length-take-le (c .before .before .before .args .used) (c .before .before .before .args .text .now) (c .before .before .before .pre))
 
--- src/told.rt:47:5
 write-all-requires : tie.Need-write-all-requires
 write-all-requires c κs = search needs
 
--- src/told.rt:40:1
 returns-2 : tie.Need-returns-2
 returns-2 c = search needs
 

@@ -2,35 +2,27 @@ use Rattle.script.specs.Poke.{ownPoked}
 use borrow.Author.Tests.{lt-ltb, le-ltb, lt-leb, le-leb, eq-eqb, ne-eqb}
 use Rattle.script.proofs.poke.own.Statement.{statement}
 use Rattle.script.proofs.poke.own.Tie as tie
-use Rattle.script.proofs.poke.own.Reads as reads
-use Rattle.script.proofs.poke.own.Lts as lts
 
--- src/poke.rt:80:1
 returns : tie.Need-returns
 unfolding ownPoked
 returns c = simp ((c .match .keys1))
 
--- src/poke.rt:80:1
 returns-2 : tie.Need-returns-2
 unfolding ownPoked
 returns-2 c = simp ((c .match .keys2))
 
--- src/poke.rt:80:1
 returns-3 : tie.Need-returns-3
 unfolding ownPoked
 returns-3 c = simp ((c .match .keys3))
 
--- src/poke.rt:80:1
 returns-4 : tie.Need-returns-4
 unfolding ownPoked
 returns-4 c = simp ((c .match .keys4))
 
--- src/poke.rt:80:1
 returns-5 : tie.Need-returns-5
 unfolding ownPoked
 returns-5 c = simp ((c .match .keys5))
 
--- src/poke.rt:80:1
 returns-6 : tie.Need-returns-6
 unfolding ownPoked
 returns-6 c = simp (ne-eqb _ _ (c .match .rest .1), ne-eqb _ _ (c .match .rest .0 .1), ne-eqb _ _ (c .match .rest .0 .0 .1), ne-eqb _ _ (c .match .rest .0 .0 .0 .1), ne-eqb _ _ (c .match .rest .0 .0 .0 .0 .1))

@@ -3,115 +3,85 @@ use borrow.Author.Tests.{lt-ltb, le-ltb, lt-leb, le-leb, eq-eqb, ne-eqb}
 use borrow.Author.Needs.{needs}
 use Rattle.script.proofs.poke.poke.Statement.{statement}
 use Rattle.script.proofs.poke.poke.Tie as tie
-use Rattle.script.proofs.poke.poke.Reads as reads
-use Rattle.script.proofs.poke.poke.Lts as lts
-use Rattle.dlx.proofs.words.wide.Reads as wide-reads
-use Rattle.script.proofs.poke.own.Reads as own-reads
-use Rattle.script.proofs.poke.scalar.Reads as scalar-reads
 
--- src/poke.rt:113:9
 own-requires : tie.Need-own-requires
 own-requires c κs = search needs
 
--- src/poke.rt:113:9
 returns : tie.Need-returns
 unfolding poked
 returns c = simp (c .own .ensures, lt-ltb _ _ (c .before .if1 .taken), lt-leb _ _ (c .before .if1 .taken))
 
--- src/poke.rt:118:17
 wide-requires : tie.Need-wide-requires
 wide-requires c κs = search needs
 
--- src/poke.rt:118:9
 array-write-running : tie.Need-array-write-running
 array-write-running c = search needs
 
--- src/poke.rt:120:9
 returns-2 : tie.Need-returns-2
 unfolding poked
 returns-2 c = simp (c .wide .ensures, lt-ltb _ _ (c .before .before .if2 .taken), lt-leb _ _ (c .before .before .if2 .taken), le-leb _ _ (c .before .before .before .if1 .left), le-ltb _ _ (c .before .before .before .if1 .left))
 
--- src/poke.rt:124:13
 wide-requires-2 : tie.Need-wide-requires-2
 wide-requires-2 c κs = search needs
 
--- src/poke.rt:125:27
 mul-scalar : tie.Need-mul-scalar
 mul-scalar c = search needs
 
--- src/poke.rt:125:27
 array-copy-out-scalar : tie.Need-array-copy-out-scalar
 array-copy-out-scalar c = search needs
 
--- src/poke.rt:125:20
 scalar-requires : tie.Need-scalar-requires
 scalar-requires c κs = search needs
 
--- src/poke.rt:125:9
 mul-parts : tie.Need-mul-parts
 mul-parts c = search needs
 
--- src/poke.rt:125:9
 array-set-from-parts : tie.Need-array-set-from-parts
 array-set-from-parts c = search needs
 
--- src/poke.rt:127:9
 returns-3 : tie.Need-returns-3
 unfolding poked
 returns-3 c = simp (c .scalar .ensures, c .before .before .wide2 .ensures, lt-ltb _ _ (c .before .before .before .before .if3 .taken), lt-leb _ _ (c .before .before .before .before .if3 .taken), le-leb _ _ (c .before .before .before .before .before .if2 .left), le-ltb _ _ (c .before .before .before .before .before .if2 .left), le-leb _ _ (c .before .before .before .before .before .before .if1 .left), le-ltb _ _ (c .before .before .before .before .before .before .if1 .left))
 
--- src/poke.rt:131:14
 wide-requires-3 : tie.Need-wide-requires-3
 wide-requires-3 c κs = search needs
 
--- src/poke.rt:131:9
 mul-regs : tie.Need-mul-regs
 mul-regs c = search needs
 
--- src/poke.rt:131:9
 array-write-regs : tie.Need-array-write-regs
 array-write-regs c = search needs
 
--- src/poke.rt:133:9
 returns-4 : tie.Need-returns-4
 unfolding poked
 returns-4 c = simp (c .wide3 .ensures, lt-ltb _ _ (c .before .before .if4 .taken), lt-leb _ _ (c .before .before .if4 .taken), le-leb _ _ (c .before .before .before .if3 .left), le-ltb _ _ (c .before .before .before .if3 .left), le-leb _ _ (c .before .before .before .before .if2 .left), le-ltb _ _ (c .before .before .before .before .if2 .left), le-leb _ _ (c .before .before .before .before .before .if1 .left), le-ltb _ _ (c .before .before .before .before .before .if1 .left))
 
--- src/poke.rt:137:16
 wide-requires-4 : tie.Need-wide-requires-4
 wide-requires-4 c κs = search needs
 
--- src/poke.rt:137:9
 mul-frames : tie.Need-mul-frames
 mul-frames c = search needs
 
--- src/poke.rt:137:9
 array-write-frames : tie.Need-array-write-frames
 array-write-frames c = search needs
 
--- src/poke.rt:139:9
 returns-5 : tie.Need-returns-5
 unfolding poked
 returns-5 c = simp (c .wide4 .ensures, lt-ltb _ _ (c .before .before .if5 .taken), lt-leb _ _ (c .before .before .if5 .taken), le-leb _ _ (c .before .before .before .if4 .left), le-ltb _ _ (c .before .before .before .if4 .left), le-leb _ _ (c .before .before .before .before .if3 .left), le-ltb _ _ (c .before .before .before .before .if3 .left), le-leb _ _ (c .before .before .before .before .before .if2 .left), le-ltb _ _ (c .before .before .before .before .before .if2 .left), le-leb _ _ (c .before .before .before .before .before .before .if1 .left), le-ltb _ _ (c .before .before .before .before .before .before .if1 .left))
 
--- src/poke.rt:143:17
 wide-requires-5 : tie.Need-wide-requires-5
 wide-requires-5 c κs = search needs
 
--- src/poke.rt:143:9
 mul-shadows : tie.Need-mul-shadows
 mul-shadows c = search needs
 
--- src/poke.rt:143:9
 array-write-shadows : tie.Need-array-write-shadows
 array-write-shadows c = search needs
 
--- src/poke.rt:145:9
 returns-6 : tie.Need-returns-6
 unfolding poked
 returns-6 c = simp (c .wide5 .ensures, lt-ltb _ _ (c .before .before .if6 .taken), lt-leb _ _ (c .before .before .if6 .taken), le-leb _ _ (c .before .before .before .if5 .left), le-ltb _ _ (c .before .before .before .if5 .left), le-leb _ _ (c .before .before .before .before .if4 .left), le-ltb _ _ (c .before .before .before .before .if4 .left), le-leb _ _ (c .before .before .before .before .before .if3 .left), le-ltb _ _ (c .before .before .before .before .before .if3 .left), le-leb _ _ (c .before .before .before .before .before .before .if2 .left), le-ltb _ _ (c .before .before .before .before .before .before .if2 .left), le-leb _ _ (c .before .before .before .before .before .before .before .if1 .left), le-ltb _ _ (c .before .before .before .before .before .before .before .if1 .left))
 
--- src/poke.rt:109:1
 returns-7 : tie.Need-returns-7
 unfolding poked
 returns-7 c = simp (le-leb _ _ (c .if6 .left), le-ltb _ _ (c .if6 .left), le-leb _ _ (c .before .if5 .left), le-ltb _ _ (c .before .if5 .left), le-leb _ _ (c .before .before .if4 .left), le-ltb _ _ (c .before .before .if4 .left), le-leb _ _ (c .before .before .before .if3 .left), le-ltb _ _ (c .before .before .before .if3 .left), le-leb _ _ (c .before .before .before .before .if2 .left), le-ltb _ _ (c .before .before .before .before .if2 .left), le-leb _ _ (c .before .before .before .before .before .if1 .left), le-ltb _ _ (c .before .before .before .before .before .if1 .left))

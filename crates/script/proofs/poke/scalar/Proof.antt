@@ -3,101 +3,79 @@ use borrow.Author.Tests.{lt-ltb, le-ltb, lt-leb, le-leb, eq-eqb, ne-eqb}
 use borrow.Author.Needs.{needs}
 use Rattle.script.proofs.poke.scalar.Statement.{statement}
 use Rattle.script.proofs.poke.scalar.Tie as tie
-use Rattle.script.proofs.poke.scalar.Reads as reads
-use Rattle.script.proofs.poke.scalar.Lts as lts
 
--- src/poke.rt:68:25
 mul-r : tie.Need-mul-r
 mul-r c = search needs
 
--- src/poke.rt:68:25
 add-r : tie.Need-add-r
 add-r c = search needs
 
--- src/poke.rt:72:25
 mul-r-2 : tie.Need-mul-r-2
 mul-r-2 c = search needs
 
--- src/poke.rt:72:25
 add-r-2 : tie.Need-add-r-2
 add-r-2 c = search needs
 
--- src/poke.rt:10:1
 returns : tie.Need-returns
 unfolding scalarPoked
 returns c = simp ((c .match .keys1))
 
--- src/poke.rt:10:1
 returns-2 : tie.Need-returns-2
 unfolding scalarPoked
 returns-2 c = simp ((c .before .match .keys2))
 
--- src/poke.rt:10:1
 returns-3 : tie.Need-returns-3
 unfolding scalarPoked
 returns-3 c = simp ((c .before .match .keys3))
 
--- src/poke.rt:10:1
 returns-4 : tie.Need-returns-4
 unfolding scalarPoked
 returns-4 c = simp ((c .before .match .keys4))
 
--- src/poke.rt:10:1
 returns-5 : tie.Need-returns-5
 unfolding scalarPoked
 returns-5 c = simp ((c .before .match .keys5))
 
--- src/poke.rt:10:1
 returns-6 : tie.Need-returns-6
 unfolding scalarPoked
 returns-6 c = simp ((c .before .match .keys6))
 
--- src/poke.rt:10:1
 returns-7 : tie.Need-returns-7
 unfolding scalarPoked
 returns-7 c = simp ((c .before .match .keys7))
 
--- src/poke.rt:10:1
 returns-8 : tie.Need-returns-8
 unfolding scalarPoked
 returns-8 c = simp ((c .before .match .keys8))
 
--- src/poke.rt:10:1
 returns-9 : tie.Need-returns-9
 unfolding scalarPoked
 returns-9 c = simp ((c .before .match .keys9))
 
--- src/poke.rt:10:1
 returns-10 : tie.Need-returns-10
 unfolding scalarPoked
 returns-10 c = simp ((c .before .match .keys10))
 
--- src/poke.rt:10:1
 returns-11 : tie.Need-returns-11
 unfolding scalarPoked
 returns-11 c = simp ((c .before .match .keys11))
 
--- src/poke.rt:10:1
 returns-12 : tie.Need-returns-12
 unfolding scalarPoked
 returns-12 c = simp ((c .before .match .keys12))
 
--- src/poke.rt:10:1
 returns-13 : tie.Need-returns-13
 unfolding scalarPoked
 returns-13 c = simp ((c .before .match .keys13))
 
--- src/poke.rt:10:1
 returns-14 : tie.Need-returns-14
 unfolding scalarPoked
 returns-14 c = simp ((c .before .match .keys14))
 
--- src/poke.rt:10:1
 returns-15 : tie.Need-returns-15
 unfolding scalarPoked
 returns-15 c = simp ((c .before .match .keys15))
 
--- src/poke.rt:10:1
 returns-16 : tie.Need-returns-16
 unfolding scalarPoked
 returns-16 c = simp (ne-eqb _ _ (c .match .rest .1), ne-eqb _ _ (c .match .rest .0 .1), ne-eqb _ _ (c .match .rest .0 .0 .1), ne-eqb _ _ (c .match .rest .0 .0 .0 .1), ne-eqb _ _ (c .match .rest .0 .0 .0 .0 .1), ne-eqb _ _ (c .match .rest .0 .0 .0 .0 .0 .1), ne-eqb _ _ (c .match .rest .0 .0 .0 .0 .0 .0 .1), ne-eqb _ _ (c .match .rest .0 .0 .0 .0 .0 .0 .0 .1), ne-eqb _ _ (c .match .rest .0 .0 .0 .0 .0 .0 .0 .0 .1), ne-eqb _ _ (c .match .rest .0 .0 .0 .0 .0 .0 .0 .0 .0 .1), ne-eqb _ _ (c .match .rest .0 .0 .0 .0 .0 .0 .0 .0 .0 .0 .1), ne-eqb _ _ (c .match .rest .0 .0 .0 .0 .0 .0 .0 .0 .0 .0 .0 .1), ne-eqb _ _ (c .match .rest .0 .0 .0 .0 .0 .0 .0 .0 .0 .0 .0 .0 .1), ne-eqb _ _ (c .match .rest .0 .0 .0 .0 .0 .0 .0 .0 .0 .0 .0 .0 .0 .1), ne-eqb _ _ (c .match .rest .0 .0 .0 .0 .0 .0 .0 .0 .0 .0 .0 .0 .0 .0 .1))

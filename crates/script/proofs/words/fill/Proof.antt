@@ -8,10 +8,6 @@ use Rattle.script.specs.Words.{filledOf}
 use Rattle.script.proofs.Filling.{set-to, set-none, set-on, set-end}
 use Rattle.script.proofs.words.fill.Statement.{statement}
 use Rattle.script.proofs.words.fill.Tie as tie
-use Rattle.script.proofs.words.fill.Reads as reads
-use Rattle.script.proofs.words.fill.Lts as lts
-use Rattle.dlx.proofs.words.wide.Reads as wide-reads
-use Rattle.script.proofs.words.least.Reads as least-reads
 
 abbrev Inv-loop : tie.InvT-loop
 Inv-loop words₀ from count value start end i₀ words i = (words ≡ set-to (λ _. value) words₀ from i) × (length words ≡ length words₀) × (from ≤ i) × (i ≤ from + count) × (end ≡ min (from + count) (length words₀))
@@ -19,51 +15,39 @@ Inv-loop words₀ from count value start end i₀ words i = (words ≡ set-to (�
 abbrev μ-loop : tie.MeasureT-loop
 μ-loop words₀ from count value start end i₀ words i = end - i
 
--- src/words.rt:63:9
 wide-requires : tie.Need-wide-requires Inv-loop μ-loop
 wide-requires c κs = search needs
 
--- src/words.rt:64:29
 wide-requires-2 : tie.Need-wide-requires-2 Inv-loop μ-loop
 wide-requires-2 c κs = search needs
 
--- src/words.rt:64:21
 add-least : tie.Need-add-least Inv-loop μ-loop
 add-least c = search needs
 
--- src/words.rt:64:9
 least-requires : tie.Need-least-requires Inv-loop μ-loop
 least-requires c κs = search needs
 
--- src/words.rt:66:5
 loop-holds : tie.Need-loop-holds Inv-loop μ-loop
 loop-holds c = (simp (c .before .before .wide .ensures) (set-none (λ _. c .before .before .before .before .args .value) (c .before .before .before .before .args .words .now) (c .before .before .before .before .args .from)), refl, omega (arith, c .before .before .wide .ensures), omega (arith, c .before .before .wide .ensures), omega (arith, c .least .ensures, c .before .wide2 .ensures, c .before .before .wide .ensures))
 
--- src/words.rt:67:9
 mul-words : tie.Need-mul-words Inv-loop μ-loop
 mul-words c = search needs
 
--- src/words.rt:67:9
 slice-write-words : tie.Need-slice-write-words Inv-loop μ-loop
 slice-write-words c = search needs
 
--- src/words.rt:68:9
 add-i : tie.Need-add-i Inv-loop μ-loop
 add-i c = search needs
 
--- src/words.rt:66:5
 loop-less : tie.Need-loop-less Inv-loop μ-loop
 loop-less c = search needs
 
--- src/words.rt:66:5
 loop-again : tie.Need-loop-again Inv-loop μ-loop
 loop-again c = (ap (λ x. set x (c .before .loop .i) (c .before .before .before .before .before .before .args .value)) (c .before .loop .inv .0) ∙ set-on (λ _. c .before .before .before .before .before .before .args .value) (c .before .before .before .before .before .before .args .words .now) (c .before .before .before .before .before .before .args .from) (c .before .loop .i) (omega arith) (omega arith), simp length-set (c .before .loop .inv .1), omega arith, omega arith, c .before .loop .inv .4)
 
--- src/words.rt:60:1
 same-length : tie.Need-same-length Inv-loop μ-loop
 same-length c = search needs
 
--- src/words.rt:60:1
 returns : tie.Need-returns Inv-loop μ-loop
 unfolding filledOf
 returns c = c .before .loop .inv .0 ∙ set-end (λ _. c .before .before .before .before .before .before .args .value) (c .before .before .before .before .before .before .args .words .now) (c .before .before .before .before .before .before .args .from) (c .before .loop .i) (c .before .before .before .before .before .before .args .from + c .before .before .before .before .before .before .args .count) (omega arith) (omega arith)

@@ -8,8 +8,6 @@ use Rattle.script.specs.Words.{markedOf}
 use Rattle.script.proofs.Filling.{set-to, set-none, set-on, set-end, set-all}
 use Rattle.script.proofs.words.mark.Statement.{statement}
 use Rattle.script.proofs.words.mark.Tie as tie
-use Rattle.script.proofs.words.mark.Reads as reads
-use Rattle.script.proofs.words.mark.Lts as lts
 
 abbrev Inv-loop : tie.InvT-loop
 Inv-loop words₀ i₀ words i = (words ≡ set-to markedOf words₀ 0 i) × (length words ≡ length words₀) × (i ≤ length words₀)
@@ -17,43 +15,33 @@ Inv-loop words₀ i₀ words i = (words ≡ set-to markedOf words₀ 0 i) × (le
 abbrev μ-loop : tie.MeasureT-loop
 μ-loop words₀ i₀ words i = length words₀ - i
 
--- src/words.rt:44:5
 loop-holds : tie.Need-loop-holds Inv-loop μ-loop
 loop-holds c = (set-none markedOf (c .args .words .now) 0, refl, omega arith)
 
--- src/words.rt:45:33
 cast-words : tie.Need-cast-words Inv-loop μ-loop
 cast-words c = search needs
 
--- src/words.rt:45:20
 add-words : tie.Need-add-words Inv-loop μ-loop
 add-words c = search needs
 
--- src/words.rt:45:9
 mul-words : tie.Need-mul-words Inv-loop μ-loop
 mul-words c = search needs
 
--- src/words.rt:45:9
 slice-write-words : tie.Need-slice-write-words Inv-loop μ-loop
 slice-write-words c = search needs
 
--- src/words.rt:46:9
 add-i : tie.Need-add-i Inv-loop μ-loop
 add-i c = search needs
 
--- src/words.rt:44:5
 loop-less : tie.Need-loop-less Inv-loop μ-loop
 loop-less c = search needs
 
--- src/words.rt:44:5
 loop-again : tie.Need-loop-again Inv-loop μ-loop
 loop-again c = (ap (λ x. set x (c .before .loop .i) (markedOf (c .before .loop .i))) (c .before .loop .inv .0) ∙ set-on markedOf (c .before .before .args .words .now) 0 (c .before .loop .i) (omega arith) (omega arith), simp length-set (c .before .loop .inv .1), omega arith)
 
--- src/words.rt:39:1
 same-length : tie.Need-same-length Inv-loop μ-loop
 same-length c = search needs
 
--- src/words.rt:39:1
 returns : tie.Need-returns Inv-loop μ-loop
 returns c = c .before .loop .inv .0 ∙ set-end markedOf (c .before .before .args .words .now) 0 (c .before .loop .i) (length (c .before .before .args .words .now)) (omega arith) (omega arith) ∙ set-all markedOf (c .before .before .args .words .now)
 

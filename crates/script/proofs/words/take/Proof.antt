@@ -9,9 +9,6 @@ use Rattle.script.specs.Words.{wordAt}
 use Rattle.script.proofs.Filling.{set-to, set-none, set-on, set-end, set-all}
 use Rattle.script.proofs.words.take.Statement.{statement}
 use Rattle.script.proofs.words.take.Tie as tie
-use Rattle.script.proofs.words.take.Reads as reads
-use Rattle.script.proofs.words.take.Lts as lts
-use Rattle.script.proofs.words.word.Reads as word-reads
 
 abbrev Inv-loop : tie.InvT-loop
 Inv-loop bytes at words₀ i₀ words i = (words ≡ set-to (λ k. wordAt bytes (at + 4 * k)) words₀ 0 i) × (length words ≡ length words₀) × (i ≤ length words₀)
@@ -19,50 +16,39 @@ Inv-loop bytes at words₀ i₀ words i = (words ≡ set-to (λ k. wordAt bytes 
 abbrev μ-loop : tie.MeasureT-loop
 μ-loop bytes at words₀ i₀ words i = length words₀ - i
 
--- src/words.rt:32:5
 loop-holds : tie.Need-loop-holds Inv-loop μ-loop
 loop-holds c = (set-none (λ (k : ℕ). wordAt (c .before .before .args .bytes .now) (c .before .before .args .at + 4 * k)) (c .before .before .args .words .now) 0, refl, omega arith)
 
--- src/words.rt:33:37
 mul-word : tie.Need-mul-word Inv-loop μ-loop
 mul-word c = search needs
 
--- src/words.rt:33:32
 add-word : tie.Need-add-word Inv-loop μ-loop
 add-word c = search needs
 
--- src/words.rt:33:20
 word-requires : tie.Need-word-requires Inv-loop μ-loop
 word-requires c κs = search needs
 
--- src/words.rt:33:9
 mul-words : tie.Need-mul-words Inv-loop μ-loop
 mul-words c = search needs
 
--- src/words.rt:33:9
 slice-write-words : tie.Need-slice-write-words Inv-loop μ-loop
 slice-write-words c = search needs
 
--- src/words.rt:34:9
 add-i : tie.Need-add-i Inv-loop μ-loop
 add-i c = search needs
 
--- src/words.rt:32:5
 loop-less : tie.Need-loop-less Inv-loop μ-loop
 loop-less c = search needs
 
--- src/words.rt:32:5
 loop-again : tie.Need-loop-again Inv-loop μ-loop
 loop-again c =
     let f : ℕ → ℕ = λ k. wordAt (c .before .before .before .before .before .args .bytes .now) (c .before .before .before .before .before .args .at + 4 * k) in
     let i = c .before .before .loop .i in
     (simp (c .word .ensures, c .before .before .loop .inv .0) (set-on f (c .before .before .before .before .before .args .words .now) 0 i (omega arith) (omega arith)), simp length-set (c .before .before .loop .inv .1), omega arith)
 
--- src/words.rt:27:1
 same-length : tie.Need-same-length Inv-loop μ-loop
 same-length c = search needs
 
--- src/words.rt:27:1
 returns : tie.Need-returns Inv-loop μ-loop
 returns c =
     let f : ℕ → ℕ = λ k. wordAt (c .before .before .before .before .args .bytes .now) (c .before .before .before .before .args .at + 4 * k) in

@@ -7,9 +7,6 @@ use lib.ListN.{length}
 use Rattle.text.specs.Digest.{digestTo, digestOf}
 use Rattle.text.proofs.digest.digest.Statement.{statement}
 use Rattle.text.proofs.digest.digest.Tie as tie
-use Rattle.text.proofs.digest.digest.Reads as reads
-use Rattle.text.proofs.digest.digest.Lts as lts
-use Rattle.text.proofs.digest.mixed.Reads as mixed-reads
 
 abbrev Inv-loop : tie.InvT-loop
 Inv-loop words d₀ i₀ d i = (d ≡ digestTo words i) × (i ≤ length words)
@@ -17,37 +14,29 @@ Inv-loop words d₀ i₀ d i = (d ≡ digestTo words i) × (i ≤ length words)
 abbrev μ-loop : tie.MeasureT-loop
 μ-loop words d₀ i₀ d i = length words - i
 
--- src/digest.rt:25:5
 loop-holds : tie.Need-loop-holds Inv-loop μ-loop
 unfolding digestTo
 loop-holds c = (refl, omega arith)
 
--- src/digest.rt:26:22
 mul-mixed : tie.Need-mul-mixed Inv-loop μ-loop
 mul-mixed c = search needs
 
--- src/digest.rt:26:22
 shared-slice-read-mixed : tie.Need-shared-slice-read-mixed Inv-loop μ-loop
 shared-slice-read-mixed c = search needs
 
--- src/digest.rt:26:9
 mixed-requires : tie.Need-mixed-requires Inv-loop μ-loop
 mixed-requires c κs = search needs
 
--- src/digest.rt:27:9
 add-i : tie.Need-add-i Inv-loop μ-loop
 add-i c = search needs
 
--- src/digest.rt:25:5
 loop-less : tie.Need-loop-less Inv-loop μ-loop
 loop-less c = search needs
 
--- src/digest.rt:25:5
 loop-again : tie.Need-loop-again Inv-loop μ-loop
 unfolding digestTo
 loop-again c = (simp (c .mixed .ensures, c .before .before .before .loop .inv .0, add-one), omega arith)
 
--- src/digest.rt:20:1
 returns : tie.Need-returns Inv-loop μ-loop
 unfolding digestOf
 returns c = c .before .loop .inv .0 ∙ ap (digestTo (c .before .before .before .args .words .now)) (omega arith)

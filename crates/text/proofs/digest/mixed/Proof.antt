@@ -3,43 +3,31 @@ use Rattle.text.proofs.Digests.{by-halves}
 use borrow.Author.Needs.{needs}
 use Rattle.text.proofs.digest.mixed.Statement.{statement}
 use Rattle.text.proofs.digest.mixed.Tie as tie
-use Rattle.text.proofs.digest.mixed.Reads as reads
-use Rattle.text.proofs.digest.mixed.Lts as lts
-use Rattle.std.proofs.num.wrapping_add_u64.Reads as wrapping-add-u64-reads
 
--- src/digest.rt:16:19
 mul-middle : tie.Need-mul-middle
 mul-middle c = search needs
 
--- src/digest.rt:16:32
 mul-middle-2 : tie.Need-mul-middle-2
 mul-middle-2 c = search needs
 
--- src/digest.rt:16:19
 add-middle : tie.Need-add-middle
 add-middle c = search needs
 
--- src/digest.rt:17:32
 mul-wrapping-add-u64 : tie.Need-mul-wrapping-add-u64
 mul-wrapping-add-u64 c = search needs
 
--- src/digest.rt:17:32
 add-wrapping-add-u64 : tie.Need-add-wrapping-add-u64
 add-wrapping-add-u64 c = search needs
 
--- src/digest.rt:17:32
 add-wrapping-add-u64-2 : tie.Need-add-wrapping-add-u64-2
 add-wrapping-add-u64-2 c = search needs
 
--- src/digest.rt:17:58
 mul-wrapping-add-u64-2 : tie.Need-mul-wrapping-add-u64-2
 mul-wrapping-add-u64-2 c = search needs
 
--- src/digest.rt:17:5
 wrapping-add-u64-requires : tie.Need-wrapping-add-u64-requires
 wrapping-add-u64-requires c κs = search needs
 
--- src/digest.rt:11:1
 returns : tie.Need-returns
 returns c = c .wrapping-add-u64 .ensures ∙ sym (by-halves (c .before .args .d) (c .before .args .w))
 

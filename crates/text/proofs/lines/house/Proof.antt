@@ -3,45 +3,31 @@ use Rattle.text.specs.Lines.{houseOf}
 use borrow.Author.Needs.{needs}
 use Rattle.text.proofs.lines.house.Statement.{statement}
 use Rattle.text.proofs.lines.house.Tie as tie
-use Rattle.text.proofs.lines.house.Reads as reads
-use Rattle.text.proofs.lines.house.Lts as lts
-use Rattle.text.proofs.lines.flags.Reads as flags-reads
-use Rattle.text.proofs.numbers.numbers.Reads as numbers-reads
-use Rattle.text.proofs.numbers.put.Reads as put-reads
 
--- src/lines.rt:42:33
 slice-aggregate-put : tie.Need-slice-aggregate-put
 slice-aggregate-put c = search needs
 
--- src/lines.rt:42:9
 put-requires : tie.Need-put-requires
 put-requires c κs = search needs
 
--- src/lines.rt:43:37
 slice-aggregate-numbers : tie.Need-slice-aggregate-numbers
 slice-aggregate-numbers c = search needs
 
--- src/lines.rt:43:9
 numbers-requires : tie.Need-numbers-requires
 numbers-requires c κs = search needs
 
--- src/lines.rt:44:9
 flags-requires : tie.Need-flags-requires
 flags-requires c κs = search needs
 
--- src/lines.rt:45:24
 slice-aggregate-put-2 : tie.Need-slice-aggregate-put-2
 slice-aggregate-put-2 c = search needs
 
--- src/lines.rt:45:5
 put-requires-2 : tie.Need-put-requires-2
 put-requires-2 c κs = search needs
 
--- src/lines.rt:36:1
 same-length : tie.Need-same-length
 same-length c = search needs
 
--- src/lines.rt:36:1
 returns : tie.Need-returns
 unfolding houseOf
 returns c = c .before .before .before .before .before .before .before .before .before .before .before .before .before .before .before .before .before .put .ensures then c .before .before .before .before .before .before .before .before .before .before .before .before .numbers .ensures then c .before .before .before .before .before .before .before .flags .ensures then c .before .before .put2 .ensures

@@ -3,45 +3,31 @@ use Rattle.text.specs.Lines.{memoryOf}
 use borrow.Author.Needs.{needs}
 use Rattle.text.proofs.lines.memory.Statement.{statement}
 use Rattle.text.proofs.lines.memory.Tie as tie
-use Rattle.text.proofs.lines.memory.Reads as reads
-use Rattle.text.proofs.lines.memory.Lts as lts
-use Rattle.text.proofs.digest.digest.Reads as digest-reads
-use Rattle.text.proofs.numbers.number.Reads as number-reads
-use Rattle.text.proofs.numbers.put.Reads as put-reads
 
--- src/lines.rt:79:9
 digest-requires : tie.Need-digest-requires
 digest-requires c κs = search needs
 
--- src/lines.rt:80:33
 slice-aggregate-put : tie.Need-slice-aggregate-put
 slice-aggregate-put c = search needs
 
--- src/lines.rt:80:9
 put-requires : tie.Need-put-requires
 put-requires c κs = search needs
 
--- src/lines.rt:81:9
 number-requires : tie.Need-number-requires
 number-requires c κs = search needs
 
--- src/lines.rt:82:9
 number-requires-2 : tie.Need-number-requires-2
 number-requires-2 c κs = search needs
 
--- src/lines.rt:83:25
 slice-aggregate-put-2 : tie.Need-slice-aggregate-put-2
 slice-aggregate-put-2 c = search needs
 
--- src/lines.rt:83:5
 put-requires-2 : tie.Need-put-requires-2
 put-requires-2 c κs = search needs
 
--- src/lines.rt:75:1
 same-length : tie.Need-same-length
 same-length c = search needs
 
--- src/lines.rt:75:1
 returns : tie.Need-returns
 unfolding memoryOf
 returns c = simp (← c .before .before .before .before .before .before .before .before .before .before .before .before .before .before .before .before .before .before .digest .ensures) (c .before .before .before .before .before .before .before .before .before .before .before .before .before .before .before .put .ensures then c .before .before .before .before .before .before .before .before .before .before .before .number .ensures then c .before .before .before .before .before .before .before .number2 .ensures then c .before .before .put2 .ensures)

@@ -5,108 +5,81 @@ use Rattle.text.proofs.Appending.{roomy}
 use borrow.Author.Needs.{needs}
 use Rattle.text.proofs.lines.name.Statement.{statement}
 use Rattle.text.proofs.lines.name.Tie as tie
-use Rattle.text.proofs.lines.name.Reads as reads
-use Rattle.text.proofs.lines.name.Lts as lts
-use Rattle.text.proofs.numbers.put.Reads as put-reads
 
--- src/lines.rt:54:30
 slice-aggregate-put : tie.Need-slice-aggregate-put
 slice-aggregate-put c = search needs
 
--- src/lines.rt:54:14
 put-requires : tie.Need-put-requires
 put-requires c κs = search needs
 
--- src/lines.rt:55:30
 slice-aggregate-put-2 : tie.Need-slice-aggregate-put-2
 slice-aggregate-put-2 c = search needs
 
--- src/lines.rt:55:14
 put-requires-2 : tie.Need-put-requires-2
 put-requires-2 c κs = search needs
 
--- src/lines.rt:56:30
 slice-aggregate-put-3 : tie.Need-slice-aggregate-put-3
 slice-aggregate-put-3 c = search needs
 
--- src/lines.rt:56:14
 put-requires-3 : tie.Need-put-requires-3
 put-requires-3 c κs = search needs
 
--- src/lines.rt:57:30
 slice-aggregate-put-4 : tie.Need-slice-aggregate-put-4
 slice-aggregate-put-4 c = search needs
 
--- src/lines.rt:57:14
 put-requires-4 : tie.Need-put-requires-4
 put-requires-4 c κs = search needs
 
--- src/lines.rt:58:30
 slice-aggregate-put-5 : tie.Need-slice-aggregate-put-5
 slice-aggregate-put-5 c = search needs
 
--- src/lines.rt:58:14
 put-requires-5 : tie.Need-put-requires-5
 put-requires-5 c κs = search needs
 
--- src/lines.rt:59:30
 slice-aggregate-put-6 : tie.Need-slice-aggregate-put-6
 slice-aggregate-put-6 c = search needs
 
--- src/lines.rt:59:14
 put-requires-6 : tie.Need-put-requires-6
 put-requires-6 c κs = search needs
 
--- src/lines.rt:49:1
 same-length : tie.Need-same-length
 same-length c = search needs
 
--- src/lines.rt:49:1
 returns : tie.Need-returns
 unfolding nameOf
 returns c = simp (c .before .before .before .before .before .match .keys1) (roomy 5 (c .before .before .put .ensures) (omega arith))
 
--- src/lines.rt:49:1
 same-length-2 : tie.Need-same-length-2
 same-length-2 c = search needs
 
--- src/lines.rt:49:1
 returns-2 : tie.Need-returns-2
 unfolding nameOf
 returns-2 c = simp (c .before .before .before .before .before .match .keys2) (roomy 5 (c .before .before .put2 .ensures) (omega arith))
 
--- src/lines.rt:49:1
 same-length-3 : tie.Need-same-length-3
 same-length-3 c = search needs
 
--- src/lines.rt:49:1
 returns-3 : tie.Need-returns-3
 unfolding nameOf
 returns-3 c = simp (c .before .before .before .before .before .match .keys3) (roomy 5 (c .before .before .put3 .ensures) (omega arith))
 
--- src/lines.rt:49:1
 same-length-4 : tie.Need-same-length-4
 same-length-4 c = search needs
 
--- src/lines.rt:49:1
 returns-4 : tie.Need-returns-4
 unfolding nameOf
 returns-4 c = simp (c .before .before .before .before .before .match .keys4) (roomy 5 (c .before .before .put4 .ensures) (omega arith))
 
--- src/lines.rt:49:1
 same-length-5 : tie.Need-same-length-5
 same-length-5 c = search needs
 
--- src/lines.rt:49:1
 returns-5 : tie.Need-returns-5
 unfolding nameOf
 returns-5 c = simp (c .before .before .before .before .before .match .keys5) (roomy 5 (c .before .before .put5 .ensures) (omega arith))
 
--- src/lines.rt:49:1
 same-length-6 : tie.Need-same-length-6
 same-length-6 c = search needs
 
--- src/lines.rt:49:1
 returns-6 : tie.Need-returns-6
 unfolding nameOf
 returns-6 c =

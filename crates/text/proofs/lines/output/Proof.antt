@@ -7,48 +7,33 @@ use Rattle.text.proofs.Appending.{_then_, roomy}
 use borrow.Author.Needs.{needs}
 use Rattle.text.proofs.lines.output.Statement.{statement}
 use Rattle.text.proofs.lines.output.Tie as tie
-use Rattle.text.proofs.lines.output.Reads as reads
-use Rattle.text.proofs.lines.output.Lts as lts
-use Rattle.text.proofs.digest.digest.Reads as digest-reads
-use Rattle.text.proofs.lines.row.Reads as row-reads
-use Rattle.text.proofs.numbers.number.Reads as number-reads
-use Rattle.text.proofs.numbers.put.Reads as put-reads
 
--- src/lines.rt:91:9
 digest-requires : tie.Need-digest-requires
 digest-requires c κs = search needs
 
--- src/lines.rt:92:33
 slice-aggregate-put : tie.Need-slice-aggregate-put
 slice-aggregate-put c = search needs
 
--- src/lines.rt:92:9
 put-requires : tie.Need-put-requires
 put-requires c κs = search needs
 
--- src/lines.rt:93:9
 number-requires : tie.Need-number-requires
 number-requires c κs = search needs
 
--- src/lines.rt:94:25
 slice-aggregate-row : tie.Need-slice-aggregate-row
 slice-aggregate-row c = search needs
 
--- src/lines.rt:94:30
 slice-aggregate-row-2 : tie.Need-slice-aggregate-row-2
 slice-aggregate-row-2 c = sym (length-take-le (c .before .before .before .before .before .before .before .before .before .before .before .before .before .before .before .args .shown) (c .before .before .before .before .before .before .before .before .before .before .before .before .before .before .before .args .words .now) (omega (arith, c .before .before .before .before .before .before .before .before .before .before .before .before .before .before .before .pre)))
 
--- src/lines.rt:94:5
 row-requires : tie.Need-row-requires
 row-requires c κs =
     let n : length (take (c .before .before .before .before .before .before .before .before .before .before .before .before .before .before .before .args .shown) (c .before .before .before .before .before .before .before .before .before .before .before .before .before .before .before .args .words .now)) ≡ c .before .before .before .before .before .before .before .before .before .before .before .before .before .before .before .args .shown = length-take-le _ _ (omega (arith, c .before .before .before .before .before .before .before .before .before .before .before .before .before .before .before .pre)) in
     omega (arith, c .before .before .before .before .before .before .before .before .before .before .before .before .before .before .before .pre)
 
--- src/lines.rt:87:1
 same-length : tie.Need-same-length
 same-length c = search needs
 
--- src/lines.rt:87:1
 returns : tie.Need-returns
 unfolding outputOf
 returns c =

@@ -3,32 +3,22 @@ use Rattle.text.specs.Lines.{rowOf}
 use borrow.Author.Needs.{needs}
 use Rattle.text.proofs.lines.row.Statement.{statement}
 use Rattle.text.proofs.lines.row.Tie as tie
-use Rattle.text.proofs.lines.row.Reads as reads
-use Rattle.text.proofs.lines.row.Lts as lts
-use Rattle.text.proofs.numbers.numbers.Reads as numbers-reads
-use Rattle.text.proofs.numbers.put.Reads as put-reads
 
--- src/lines.rt:17:9
 put-requires : tie.Need-put-requires
 put-requires c κs = search needs
 
--- src/lines.rt:18:9
 numbers-requires : tie.Need-numbers-requires
 numbers-requires c κs = search needs
 
--- src/lines.rt:19:21
 slice-aggregate-put : tie.Need-slice-aggregate-put
 slice-aggregate-put c = search needs
 
--- src/lines.rt:19:5
 put-requires-2 : tie.Need-put-requires-2
 put-requires-2 c κs = search needs
 
--- src/lines.rt:13:1
 same-length : tie.Need-same-length
 same-length c = search needs
 
--- src/lines.rt:13:1
 returns : tie.Need-returns
 unfolding rowOf
 returns c = c .before .before .before .before .before .before .before .before .before .before .before .put .ensures then c .before .before .before .before .before .before .before .numbers .ensures then c .before .before .put2 .ensures

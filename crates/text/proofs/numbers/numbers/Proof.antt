@@ -9,9 +9,6 @@ use Rattle.text.proofs.Appending.{parts-begin, parts-on, parts-end}
 use Rattle.text.specs.Numbers.{numberOf, numbersOf}
 use Rattle.text.proofs.numbers.numbers.Statement.{statement}
 use Rattle.text.proofs.numbers.numbers.Tie as tie
-use Rattle.text.proofs.numbers.numbers.Reads as reads
-use Rattle.text.proofs.numbers.numbers.Lts as lts
-use Rattle.text.proofs.numbers.number.Reads as number-reads
 
 abbrev Inv-loop : tie.InvT-loop
 Inv-loop text₀ used words end₀ i₀ text end i = Puts text₀ used text end (joined (λ k. numberOf (getD words k 0)) i) (21 * i) × (length text ≡ length text₀) × (i ≤ length words)
@@ -19,43 +16,33 @@ Inv-loop text₀ used words end₀ i₀ text end i = Puts text₀ used text end 
 abbrev μ-loop : tie.MeasureT-loop
 μ-loop text₀ used words end₀ i₀ text end i = length words - i
 
--- src/numbers.rt:44:5
 loop-holds : tie.Need-loop-holds Inv-loop μ-loop
 loop-holds c = (parts-begin (λ (k : ℕ). numberOf (getD (c .before .before .args .words .now) k 0)) 21, refl, omega arith)
 
--- src/numbers.rt:45:33
 mul-number : tie.Need-mul-number Inv-loop μ-loop
 mul-number c = search needs
 
--- src/numbers.rt:45:33
 shared-slice-read-number : tie.Need-shared-slice-read-number Inv-loop μ-loop
 shared-slice-read-number c = search needs
 
--- src/numbers.rt:45:33
 cast-number : tie.Need-cast-number Inv-loop μ-loop
 cast-number c = omega (arith, c .shared-slice-known2 .given (c .before .before .before .loop .i))
 
--- src/numbers.rt:45:9
 number-requires : tie.Need-number-requires Inv-loop μ-loop
 number-requires c κs = omega (arith, c .before .before .before .loop .inv .0 .within)
 
--- src/numbers.rt:46:9
 add-i : tie.Need-add-i Inv-loop μ-loop
 add-i c = search needs
 
--- src/numbers.rt:44:5
 loop-less : tie.Need-loop-less Inv-loop μ-loop
 loop-less c = search needs
 
--- src/numbers.rt:44:5
 loop-again : tie.Need-loop-again Inv-loop μ-loop
 loop-again c = (parts-on (λ (k : ℕ). numberOf (getD (c .before .before .before .before .before .before .before .before .before .args .words .now) k 0)) 21 (c .before .before .before .before .before .before .loop .i) (c .before .before .before .before .before .before .loop .inv .0) (c .before .before .number .ensures), omega arith, omega arith)
 
--- src/numbers.rt:38:1
 same-length : tie.Need-same-length Inv-loop μ-loop
 same-length c = search needs
 
--- src/numbers.rt:38:1
 returns : tie.Need-returns Inv-loop μ-loop
 unfolding numbersOf
 returns c = parts-end (λ (k : ℕ). numberOf (getD (c .before .before .before .before .args .words .now) k 0)) 21 (c .before .loop .i) (length (c .before .before .before .before .args .words .now)) (c .before .loop .inv .2) (c .loop-test .left) (c .before .loop .inv .0)

@@ -7,8 +7,6 @@ use lib.ListN.{length, take, length-set}
 use Rattle.text.proofs.Appending.{copy-begins, copy-on, copy-ends}
 use Rattle.text.proofs.numbers.put.Statement.{statement}
 use Rattle.text.proofs.numbers.put.Tie as tie
-use Rattle.text.proofs.numbers.put.Reads as reads
-use Rattle.text.proofs.numbers.put.Lts as lts
 
 abbrev Inv-loop : tie.InvT-loop
 Inv-loop text₀ used bytes i₀ text i = (take (used + i) text ≡ take used text₀ ++ take i bytes) × (length text ≡ length text₀) × (i ≤ length bytes)
@@ -16,43 +14,33 @@ Inv-loop text₀ used bytes i₀ text i = (take (used + i) text ≡ take used te
 abbrev μ-loop : tie.MeasureT-loop
 μ-loop text₀ used bytes i₀ text i = length bytes - i
 
--- src/numbers.rt:12:5
 loop-holds : tie.Need-loop-holds Inv-loop μ-loop
 loop-holds c = (copy-begins (c .args .text .now) (c .args .bytes .now) (c .args .used), refl, omega arith)
 
--- src/numbers.rt:13:26
 shared-slice-read-text : tie.Need-shared-slice-read-text Inv-loop μ-loop
 shared-slice-read-text c = omega arith
 
--- src/numbers.rt:13:14
 add-text : tie.Need-add-text Inv-loop μ-loop
 add-text c = omega arith
 
--- src/numbers.rt:13:9
 slice-write-text : tie.Need-slice-write-text Inv-loop μ-loop
 slice-write-text c = omega arith
 
--- src/numbers.rt:14:9
 add-i : tie.Need-add-i Inv-loop μ-loop
 add-i c = omega arith
 
--- src/numbers.rt:12:5
 loop-less : tie.Need-loop-less Inv-loop μ-loop
 loop-less c = omega arith
 
--- src/numbers.rt:12:5
 loop-again : tie.Need-loop-again Inv-loop μ-loop
 loop-again c = (copy-on _ (c .before .before .loop .text) (c .before .before .before .args .bytes .now) (c .before .before .before .args .used) (c .before .before .loop .i) (c .before .before .loop .inv .0) (omega arith) (omega arith), simp length-set (c .before .before .loop .inv .1), omega arith)
 
--- src/numbers.rt:16:5
 add-result : tie.Need-add-result Inv-loop μ-loop
 add-result c = omega arith
 
--- src/numbers.rt:7:1
 same-length : tie.Need-same-length Inv-loop μ-loop
 same-length c = omega arith
 
--- src/numbers.rt:7:1
 returns : tie.Need-returns Inv-loop μ-loop
 returns c = copy-ends _ _ _ _ _ (c .before .loop .inv .0) (c .before .loop .inv .2) (c .loop-test .left)
 

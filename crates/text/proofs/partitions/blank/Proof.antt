@@ -6,58 +6,42 @@ use borrow.Author.Tests.{lt-ltb, le-ltb, lt-leb, le-leb, eq-eqb, ne-eqb}
 use borrow.Author.Needs.{needs}
 use Rattle.text.proofs.partitions.blank.Statement.{statement}
 use Rattle.text.proofs.partitions.blank.Tie as tie
-use Rattle.text.proofs.partitions.blank.Reads as reads
-use Rattle.text.proofs.partitions.blank.Lts as lts
-use Rattle.text.proofs.partitions.specials.Reads as specials-reads
-use Rattle.text.proofs.partitions.zeros.Reads as zeros-reads
 
--- src/partitions.rt:58:9
 returns : tie.Need-returns
 unfolding blankOf
 returns c = simp (ne-eqb _ _ (c .if1 .taken))
 
--- src/partitions.rt:61:9
 returns-2 : tie.Need-returns-2
 unfolding blankOf
 returns-2 c = simp (ne-eqb _ _ (c .if2 .taken), eq-eqb _ _ (c .before .before .if1 .left))
 
--- src/partitions.rt:63:15
 specials-requires : tie.Need-specials-requires
 specials-requires c κs = search needs
 
--- src/partitions.rt:64:15
 slice-aggregate-zeros : tie.Need-slice-aggregate-zeros
 slice-aggregate-zeros c = search needs
 
--- src/partitions.rt:64:9
 zeros-requires : tie.Need-zeros-requires
 zeros-requires c κs = search needs
 
--- src/partitions.rt:65:9
 returns-3 : tie.Need-returns-3
 returns-3 c = own-not (c .before .before .before .before .before .before .before .before .before .before .before .args .p) _ _ _ (c .before .before .before .before .before .before .if1 .left) (c .before .before .before .before .if2 .left) (ap zerosOf (sym (c .before .before .before .specials .ensures)) ∙ fails _ (c .before .zeros .ensures) (c .if3 .taken))
 
--- src/partitions.rt:67:9
 zeros-requires-2 : tie.Need-zeros-requires-2
 zeros-requires-2 c κs = search needs
 
--- src/partitions.rt:68:9
 returns-4 : tie.Need-returns-4
 returns-4 c = registers-not (c .before .before .before .before .before .before .before .before .before .before .before .before .before .args .p) _ _ _ (c .before .before .before .before .before .before .before .before .if1 .left) (c .before .before .before .before .before .before .if2 .left) (ap zerosOf (sym (c .before .before .before .before .before .specials .ensures)) ∙ holds _ (c .before .before .before .zeros .ensures) (c .before .before .if3 .left)) (fails _ (c .before .zeros2 .ensures) (c .if4 .taken))
 
--- src/partitions.rt:70:9
 zeros-requires-3 : tie.Need-zeros-requires-3
 zeros-requires-3 c κs = search needs
 
--- src/partitions.rt:71:9
 returns-5 : tie.Need-returns-5
 returns-5 c = frames-not (c .before .before .before .before .before .before .before .before .before .before .before .before .before .before .before .args .p) _ _ _ (c .before .before .before .before .before .before .before .before .before .before .if1 .left) (c .before .before .before .before .before .before .before .before .if2 .left) (ap zerosOf (sym (c .before .before .before .before .before .before .before .specials .ensures)) ∙ holds _ (c .before .before .before .before .before .zeros .ensures) (c .before .before .before .before .if3 .left)) (holds _ (c .before .before .before .zeros2 .ensures) (c .before .before .if4 .left)) (fails _ (c .before .zeros3 .ensures) (c .if5 .taken))
 
--- src/partitions.rt:73:5
 zeros-requires-4 : tie.Need-zeros-requires-4
 zeros-requires-4 c κs = search needs
 
--- src/partitions.rt:54:1
 returns-6 : tie.Need-returns-6
 returns-6 c = c .zeros4 .ensures ∙ shadow-left (c .before .before .before .before .before .before .before .before .before .before .before .before .before .before .before .before .args .p) _ _ _ (c .before .before .before .before .before .before .before .before .before .before .before .if1 .left) (c .before .before .before .before .before .before .before .before .before .if2 .left) (ap zerosOf (sym (c .before .before .before .before .before .before .before .before .specials .ensures)) ∙ holds _ (c .before .before .before .before .before .before .zeros .ensures) (c .before .before .before .before .before .if3 .left)) (holds _ (c .before .before .before .before .zeros2 .ensures) (c .before .before .before .if4 .left)) (holds _ (c .before .before .zeros3 .ensures) (c .before .if5 .left))
 

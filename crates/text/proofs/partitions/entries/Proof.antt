@@ -9,9 +9,6 @@ use Rattle.text.proofs.Appending.{parts-begin, parts-on, parts-end}
 use Rattle.text.specs.Partitions.{entryOf, entriesOf}
 use Rattle.text.proofs.partitions.entries.Statement.{statement}
 use Rattle.text.proofs.partitions.entries.Tie as tie
-use Rattle.text.proofs.partitions.entries.Reads as reads
-use Rattle.text.proofs.partitions.entries.Lts as lts
-use Rattle.text.proofs.partitions.entry.Reads as entry-reads
 
 abbrev Inv-loop : tie.InvT-loop
 Inv-loop text₀ used shadow end₀ px₀ text end px = Puts text₀ used text end (joined (λ k. entryOf k (getD shadow k 0)) px) (42 * px) × (length text ≡ length text₀) × (px ≤ length shadow)
@@ -19,39 +16,30 @@ Inv-loop text₀ used shadow end₀ px₀ text end px = Puts text₀ used text e
 abbrev μ-loop : tie.MeasureT-loop
 μ-loop text₀ used shadow end₀ px₀ text end px = length shadow - px
 
--- src/partitions.rt:108:5
 loop-holds : tie.Need-loop-holds Inv-loop μ-loop
 loop-holds c = (parts-begin (λ (k : ℕ). entryOf k (getD (c .before .before .args .shadow .now) k 0)) 42, refl, omega arith)
 
--- src/partitions.rt:109:36
 mul-entry : tie.Need-mul-entry Inv-loop μ-loop
 mul-entry c = search needs
 
--- src/partitions.rt:109:36
 shared-slice-read-entry : tie.Need-shared-slice-read-entry Inv-loop μ-loop
 shared-slice-read-entry c = search needs
 
--- src/partitions.rt:109:9
 entry-requires : tie.Need-entry-requires Inv-loop μ-loop
 entry-requires c κs = omega (arith, c .before .before .before .loop .inv .0 .within)
 
--- src/partitions.rt:110:9
 add-px : tie.Need-add-px Inv-loop μ-loop
 add-px c = search needs
 
--- src/partitions.rt:108:5
 loop-less : tie.Need-loop-less Inv-loop μ-loop
 loop-less c = search needs
 
--- src/partitions.rt:108:5
 loop-again : tie.Need-loop-again Inv-loop μ-loop
 loop-again c = (parts-on (λ (k : ℕ). entryOf k (getD (c .before .before .before .before .before .before .before .before .before .args .shadow .now) k 0)) 42 (c .before .before .before .before .before .before .loop .px) (c .before .before .before .before .before .before .loop .inv .0) (c .before .before .entry .ensures), omega arith, omega arith)
 
--- src/partitions.rt:102:1
 same-length : tie.Need-same-length Inv-loop μ-loop
 same-length c = search needs
 
--- src/partitions.rt:102:1
 returns : tie.Need-returns Inv-loop μ-loop
 unfolding entriesOf
 returns c = parts-end (λ (k : ℕ). entryOf k (getD (c .before .before .before .before .args .shadow .now) k 0)) 42 (c .before .loop .px) (length (c .before .before .before .before .args .shadow .now)) (c .before .loop .inv .2) (c .loop-test .left) (c .before .loop .inv .0)

@@ -7,8 +7,6 @@ use Rattle.text.specs.Partitions.{listedTo, listedOf}
 use Rattle.text.proofs.Listed.{listed-on, listed-is, listed-none}
 use Rattle.text.proofs.partitions.listed.Statement.{statement}
 use Rattle.text.proofs.partitions.listed.Tie as tie
-use Rattle.text.proofs.partitions.listed.Reads as reads
-use Rattle.text.proofs.partitions.listed.Lts as lts
 
 abbrev Inv-loop : tie.InvT-loop
 Inv-loop words n₀ n = (listedTo words n ≡ listedOf words) × (n ≤ length words)
@@ -16,40 +14,31 @@ Inv-loop words n₀ n = (listedTo words n ≡ listedOf words) × (n ≤ length w
 abbrev μ-loop : tie.MeasureT-loop
 μ-loop words n₀ n = n
 
--- src/partitions.rt:45:5
 loop-holds : tie.Need-loop-holds Inv-loop μ-loop
 unfolding listedOf
 loop-holds c = (refl, omega arith)
 
--- src/partitions.rt:46:18
 sub-if1 : tie.Need-sub-if1 Inv-loop μ-loop
 sub-if1 c = search needs
 
--- src/partitions.rt:46:12
 mul-if1 : tie.Need-mul-if1 Inv-loop μ-loop
 mul-if1 c = search needs
 
--- src/partitions.rt:46:12
 shared-slice-read-if1 : tie.Need-shared-slice-read-if1 Inv-loop μ-loop
 shared-slice-read-if1 c = search needs
 
--- src/partitions.rt:47:13
 returns : tie.Need-returns Inv-loop μ-loop
 returns c = listed-is _ _ (c .before .before .before .loop .inv .0) (c .before .before .loop-test .taken) (c .if1 .taken)
 
--- src/partitions.rt:49:9
 sub-n : tie.Need-sub-n Inv-loop μ-loop
 sub-n c = search needs
 
--- src/partitions.rt:45:5
 loop-less : tie.Need-loop-less Inv-loop μ-loop
 loop-less c = search needs
 
--- src/partitions.rt:45:5
 loop-again : tie.Need-loop-again Inv-loop μ-loop
 loop-again c = (listed-on _ _ (c .before .before .before .loop .inv .0) (c .before .before .loop-test .taken) (c .if1 .left), omega arith)
 
--- src/partitions.rt:41:1
 returns-2 : tie.Need-returns-2 Inv-loop μ-loop
 returns-2 c = listed-none (c .before .before .args .words .now) (c .before .loop .n) (c .before .loop .inv .0) (c .loop-test .left)
 

@@ -8,66 +8,47 @@ use Rattle.text.proofs.Listed.{listed-within}
 use borrow.Author.Needs.{needs}
 use Rattle.text.proofs.partitions.partition.Statement.{statement}
 use Rattle.text.proofs.partitions.partition.Tie as tie
-use Rattle.text.proofs.partitions.partition.Reads as reads
-use Rattle.text.proofs.partitions.partition.Lts as lts
-use Rattle.text.proofs.lines.row.Reads as row-reads
-use Rattle.text.proofs.partitions.blank.Reads as blank-reads
-use Rattle.text.proofs.partitions.listed.Reads as listed-reads
-use Rattle.text.proofs.partitions.own.Reads as own-reads
-use Rattle.text.proofs.partitions.shadow.Reads as shadow-reads
 
--- src/partitions.rt:136:8
 blank-requires : tie.Need-blank-requires
 blank-requires c κs = search needs
 
--- src/partitions.rt:137:9
 returns : tie.Need-returns
 unfolding partitionOf
 returns c = rw (sym (c .before .blank .ensures) ∙ c .if1 .taken) (roomy 17149 nothing (omega arith))
 
--- src/partitions.rt:139:9
 listed-requires : tie.Need-listed-requires
 listed-requires c κs = search needs
 
--- src/partitions.rt:140:9
 own-requires : tie.Need-own-requires
 own-requires c κs = search needs
 
--- src/partitions.rt:141:38
 slice-aggregate-row : tie.Need-slice-aggregate-row
 slice-aggregate-row c = search needs
 
--- src/partitions.rt:141:9
 row-requires : tie.Need-row-requires
 row-requires c κs = search needs
 
--- src/partitions.rt:142:40
 slice-aggregate-row-2 : tie.Need-slice-aggregate-row-2
 slice-aggregate-row-2 c = search needs
 
--- src/partitions.rt:142:51
 slice-aggregate-row-3 : tie.Need-slice-aggregate-row-3
 slice-aggregate-row-3 c = sym (length-take-le (c .before .before .before .before .before .before .before .before .before .before .before .before .listed .result) (c .before .before .before .before .before .before .before .before .before .before .before .before .before .before .before .before .before .before .before .args .frames .now) (omega (arith, c .before .before .before .before .before .before .before .before .before .before .before .before .listed .ensures, listed-within (c .before .before .before .before .before .before .before .before .before .before .before .before .before .before .before .before .before .before .before .args .frames .now))))
 
--- src/partitions.rt:142:9
 row-requires-2 : tie.Need-row-requires-2
 row-requires-2 c κs =
     let l = listed-within (c .before .before .before .before .before .before .before .before .before .before .before .before .before .before .before .before .before .before .before .args .frames .now) in
     let n : length (take (c .before .before .before .before .before .before .before .before .before .before .before .before .listed .result) (c .before .before .before .before .before .before .before .before .before .before .before .before .before .before .before .before .before .before .before .args .frames .now)) ≡ c .before .before .before .before .before .before .before .before .before .before .before .before .listed .result = length-take-le _ _ (omega (arith, c .before .before .before .before .before .before .before .before .before .before .before .before .listed .ensures, l)) in
     omega (arith, c .before .before .before .before .before .before .before .before .before .before .before .before .listed .ensures, l)
 
--- src/partitions.rt:143:5
 shadow-requires : tie.Need-shadow-requires
 shadow-requires c κs =
     let l = listed-within (c .before .before .before .before .before .before .before .before .before .before .before .before .before .before .before .before .before .before .before .before .before .before .before .args .frames .now) in
     let n : length (take (c .before .before .before .before .before .before .before .before .before .before .before .before .before .before .before .before .listed .result) (c .before .before .before .before .before .before .before .before .before .before .before .before .before .before .before .before .before .before .before .before .before .before .before .args .frames .now)) ≡ c .before .before .before .before .before .before .before .before .before .before .before .before .before .before .before .before .listed .result = length-take-le _ _ (omega (arith, c .before .before .before .before .before .before .before .before .before .before .before .before .before .before .before .before .listed .ensures, l)) in
     omega (arith, c .before .before .before .before .before .before .before .before .before .before .before .before .before .before .before .before .before .before .before .before .before .before .before .pre, c .before .before .before .before .before .before .before .before .before .before .before .before .before .before .before .before .listed .ensures, l)
 
--- src/partitions.rt:124:1
 same-length : tie.Need-same-length
 same-length c = search needs
 
--- src/partitions.rt:124:1
 returns-2 : tie.Need-returns-2
 unfolding partitionOf
 returns-2 c =

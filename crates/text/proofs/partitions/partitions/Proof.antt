@@ -13,9 +13,6 @@ use Rattle.text.specs.Partitions.{partitionOf, partitionsOf}
 use Rattle.text.proofs.Appending.{parts-begin, parts-on, parts-end}
 use Rattle.text.proofs.partitions.partitions.Statement.{statement}
 use Rattle.text.proofs.partitions.partitions.Tie as tie
-use Rattle.text.proofs.partitions.partitions.Reads as reads
-use Rattle.text.proofs.partitions.partitions.Lts as lts
-use Rattle.text.proofs.partitions.partition.Reads as partition-reads
 
 abbrev Inv-loop : tie.InvT-loop
 Inv-loop text₀ used parts registers frames shadows end₀ i₀ text end i = Puts text₀ used text end (joined (λ k. partitionOf k (getD parts k noPartition) (inner (k * 32) 32 registers) (inner (k * 256) 256 frames) (inner (k * 256) 256 shadows)) i) (17149 * i) × (length text ≡ length text₀) × (i ≤ 8) × (length registers ≡ 256) × (length frames ≡ 2048) × (length shadows ≡ 2048)
@@ -23,83 +20,63 @@ Inv-loop text₀ used parts registers frames shadows end₀ i₀ text end i = Pu
 abbrev μ-loop : tie.MeasureT-loop
 μ-loop text₀ used parts registers frames shadows end₀ i₀ text end i = 8 - i
 
--- src/partitions.rt:156:5
 loop-holds : tie.Need-loop-holds Inv-loop μ-loop
 loop-holds c = (parts-begin _ 17149, refl, omega arith, search (needs, c .before .before .before .before .before .good), search (needs, c .before .before .before .before .before .good), search (needs, c .before .before .before .before .before .good))
 
--- src/partitions.rt:157:17
 mul-a : tie.Need-mul-a Inv-loop μ-loop
 mul-a c = search needs
 
--- src/partitions.rt:158:17
 add-b : tie.Need-add-b Inv-loop μ-loop
 add-b c = search needs
 
--- src/partitions.rt:159:17
 mul-c : tie.Need-mul-c Inv-loop μ-loop
 mul-c c = search needs
 
--- src/partitions.rt:160:17
 add-d : tie.Need-add-d Inv-loop μ-loop
 add-d c = search needs
 
--- src/partitions.rt:165:13
 mul-partition : tie.Need-mul-partition Inv-loop μ-loop
 mul-partition c = search needs
 
--- src/partitions.rt:165:13
 array-copy-out-partition : tie.Need-array-copy-out-partition Inv-loop μ-loop
 array-copy-out-partition c = search needs
 
--- src/partitions.rt:166:13
 mul-partition-2 : tie.Need-mul-partition-2 Inv-loop μ-loop
 mul-partition-2 c = search needs
 
--- src/partitions.rt:166:13
 sub-partition : tie.Need-sub-partition Inv-loop μ-loop
 sub-partition c = search needs
 
--- src/partitions.rt:166:13
 part-partition-start : tie.Need-part-partition-start Inv-loop μ-loop
 part-partition-start c = search needs
 
--- src/partitions.rt:166:13
 part-partition-end : tie.Need-part-partition-end Inv-loop μ-loop
 part-partition-end c = omega (arith, c .before .before .before .before .loop .inv .3)
 
--- src/partitions.rt:167:13
 mul-partition-3 : tie.Need-mul-partition-3 Inv-loop μ-loop
 mul-partition-3 c = search needs
 
--- src/partitions.rt:167:13
 sub-partition-2 : tie.Need-sub-partition-2 Inv-loop μ-loop
 sub-partition-2 c = search needs
 
--- src/partitions.rt:167:13
 part-partition-start-2 : tie.Need-part-partition-start-2 Inv-loop μ-loop
 part-partition-start-2 c = search needs
 
--- src/partitions.rt:167:13
 part-partition-end-2 : tie.Need-part-partition-end-2 Inv-loop μ-loop
 part-partition-end-2 c = omega (arith, c .before .before .before .before .before .before .loop .inv .4)
 
--- src/partitions.rt:168:13
 mul-partition-4 : tie.Need-mul-partition-4 Inv-loop μ-loop
 mul-partition-4 c = search needs
 
--- src/partitions.rt:168:13
 sub-partition-3 : tie.Need-sub-partition-3 Inv-loop μ-loop
 sub-partition-3 c = search needs
 
--- src/partitions.rt:168:13
 part-partition-start-3 : tie.Need-part-partition-start-3 Inv-loop μ-loop
 part-partition-start-3 c = search needs
 
--- src/partitions.rt:168:13
 part-partition-end-3 : tie.Need-part-partition-end-3 Inv-loop μ-loop
 part-partition-end-3 c = omega (arith, c .before .before .before .before .before .before .before .before .loop .inv .5)
 
--- src/partitions.rt:161:9
 partition-requires : tie.Need-partition-requires Inv-loop μ-loop
 partition-requires c κs =
     let v = c .before .before .before .before .before .before .before .before .before .loop .inv in
@@ -107,15 +84,12 @@ partition-requires c κs =
     let h = c .before .before .before .before .before .before .before .before .before .before .before .before .before .before .before .args .h in
     (lent-length i 32 (h .regs) (omega (arith, v .3)), (lent-length i 256 (h .frames) (omega (arith, v .4)), (lent-length i 256 (h .shadows) (omega (arith, v .5)), omega (arith, v .0 .within, v .1, c .before .before .before .before .before .before .before .before .before .before .before .before .before .before .before .pre))))
 
--- src/partitions.rt:170:9
 add-i : tie.Need-add-i Inv-loop μ-loop
 add-i c = search needs
 
--- src/partitions.rt:156:5
 loop-less : tie.Need-loop-less Inv-loop μ-loop
 loop-less c = search needs
 
--- src/partitions.rt:156:5
 loop-again : tie.Need-loop-again Inv-loop μ-loop
 loop-again c =
     let v = c .before .before .before .before .before .before .before .before .before .before .before .before .loop .inv in
@@ -130,11 +104,9 @@ loop-again c =
       v .5,
     )
 
--- src/partitions.rt:146:1
 same-length : tie.Need-same-length Inv-loop μ-loop
 same-length c = search needs
 
--- src/partitions.rt:146:1
 returns : tie.Need-returns Inv-loop μ-loop
 unfolding partitionsOf
 returns c =

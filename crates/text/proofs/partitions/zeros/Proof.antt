@@ -11,8 +11,6 @@ use Rattle.house.proofs.Lists.{all-more, all-no}
 use Rattle.text.specs.Partitions.{zerosOf}
 use Rattle.text.proofs.partitions.zeros.Statement.{statement}
 use Rattle.text.proofs.partitions.zeros.Tie as tie
-use Rattle.text.proofs.partitions.zeros.Reads as reads
-use Rattle.text.proofs.partitions.zeros.Lts as lts
 
 abbrev Inv-loop : tie.InvT-loop
 Inv-loop words i₀ i = (all (λ k. eqb (getD words k 0) 0) i ≡ true) × (i ≤ length words)
@@ -20,37 +18,29 @@ Inv-loop words i₀ i = (all (λ k. eqb (getD words k 0) 0) i ≡ true) × (i �
 abbrev μ-loop : tie.MeasureT-loop
 μ-loop words i₀ i = length words - i
 
--- src/partitions.rt:31:5
 loop-holds : tie.Need-loop-holds Inv-loop μ-loop
 unfolding all
 loop-holds c = (refl, omega arith)
 
--- src/partitions.rt:32:12
 mul-if1 : tie.Need-mul-if1 Inv-loop μ-loop
 mul-if1 c = search needs
 
--- src/partitions.rt:32:12
 shared-slice-read-if1 : tie.Need-shared-slice-read-if1 Inv-loop μ-loop
 shared-slice-read-if1 c = search needs
 
--- src/partitions.rt:33:13
 returns : tie.Need-returns Inv-loop μ-loop
 unfolding zerosOf
 returns c = sym (all-no (λ (k : ℕ). eqb (getD (c .before .before .before .before .args .words .now) k 0) 0) (length (c .before .before .before .before .args .words .now)) (c .before .before .before .loop .i) (c .before .before .loop-test .taken) (ne-eqb _ _ (c .if1 .taken)))
 
--- src/partitions.rt:35:9
 add-i : tie.Need-add-i Inv-loop μ-loop
 add-i c = search needs
 
--- src/partitions.rt:31:5
 loop-less : tie.Need-loop-less Inv-loop μ-loop
 loop-less c = search needs
 
--- src/partitions.rt:31:5
 loop-again : tie.Need-loop-again Inv-loop μ-loop
 loop-again c = (all-more (λ (k : ℕ). eqb (getD (c .before .before .before .before .args .words .now) k 0) 0) (c .before .before .before .loop .i) (c .before .before .before .loop .inv .0) (eq-eqb _ _ (c .if1 .left)), omega arith)
 
--- src/partitions.rt:27:1
 returns-2 : tie.Need-returns-2 Inv-loop μ-loop
 unfolding zerosOf
 returns-2 c =
