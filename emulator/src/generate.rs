@@ -47,11 +47,11 @@ pub fn scripts(seed: u64, steps: u64) -> Vec<Script> {
     let answers = steps * ANSWERS_EACH / 1_000_000;
     while total.all_steps() < steps || few_answers(&total, answers) {
         let number = scripts.len() as u64;
-        let mut session = Session::new(Rng::new(seed ^ number << 32));
-        let kind = compose(&mut session, number);
-        total += &session.counts;
+        let mut draft = Draft::new(Rng::new(seed ^ number << 32));
+        let kind = compose(&mut draft, number);
+        total += &draft.counts;
         let name = format!("{kind} {number} of seed {seed}");
-        scripts.push(Script { name, commands: session.commands });
+        scripts.push(Script { name, commands: draft.commands });
     }
     scripts
 }
@@ -61,18 +61,18 @@ fn few_answers(counts: &Counts, answers: u64) -> bool {
 }
 
 /// Writes one script of the kind whose turn it is; tells the kind.
-fn compose(session: &mut Session, number: u64) -> &'static str {
+fn compose(draft: &mut Draft, number: u64) -> &'static str {
     match number % 8 {
         0..=4 => {
-            runs::compose(session);
+            runs::compose(draft);
             "programs"
         }
         5 | 6 => {
-            states::compose(session);
+            states::compose(draft);
             "states"
         }
         _ => {
-            calls::compose(session);
+            calls::compose(draft);
             "calls"
         }
     }
@@ -90,16 +90,16 @@ pub fn files(seed: u64, count: usize) -> Vec<File> {
 }
 
 /// A script that grows: each command is played at once, so that the next can build on what it did.
-struct Session {
+struct Draft {
     rng: Rng,
     player: Player,
     commands: Vec<Command>,
     counts: Counts,
 }
 
-impl Session {
+impl Draft {
     fn new(rng: Rng) -> Self {
-        Session { rng, player: Player::new(), commands: Vec::new(), counts: Counts::default() }
+        Draft { rng, player: Player::new(), commands: Vec::new(), counts: Counts::default() }
     }
 
     fn emit(&mut self, command: Command) -> Option<Answer> {

@@ -1,6 +1,6 @@
 //! Calls with right and wrong arguments, on sound and damaged houses.
 
-use super::Session;
+use super::Draft;
 use crate::dlx::special::{EMODE, MODE};
 use crate::fields::{self, COUNT, CURRENT, LEFT, Q, RUNNING, WORDS};
 use crate::house::House;
@@ -12,39 +12,39 @@ use crate::script::{Command, MOST_OUTPUT};
 type Change = (u32, u32);
 
 /// A script of this kind.
-pub fn compose(session: &mut Session) {
-    for _ in 0..session.rng.between(2, 4) {
-        for _ in 0..session.rng.below(8) {
-            wrong_boot(session);
+pub fn compose(draft: &mut Draft) {
+    for _ in 0..draft.rng.between(2, 4) {
+        for _ in 0..draft.rng.below(8) {
+            wrong_boot(draft);
         }
-        let pages = session.page_counts(4);
-        session.boot(&pages);
-        for _ in 0..session.rng.between(5, 15) {
-            something(session);
+        let pages = draft.page_counts(4);
+        draft.boot(&pages);
+        for _ in 0..draft.rng.between(5, 15) {
+            something(draft);
         }
     }
 }
 
-fn something(session: &mut Session) {
-    match session.rng.below(8) {
-        0 | 1 => damage_and_repair(session),
-        2 => wrong_length(session),
-        3 => refused_run(session),
-        4 => nothing_running(session),
-        5 => read_out(session),
-        _ => any_call(session),
+fn something(draft: &mut Draft) {
+    match draft.rng.below(8) {
+        0 | 1 => damage_and_repair(draft),
+        2 => wrong_length(draft),
+        3 => refused_run(draft),
+        4 => nothing_running(draft),
+        5 => read_out(draft),
+        _ => any_call(draft),
     }
 }
 
 /// A boot with one or more wrong arguments.
-fn wrong_boot(session: &mut Session) {
-    let mut pages: Vec<u32> = session.page_counts(6);
+fn wrong_boot(draft: &mut Draft) {
+    let mut pages: Vec<u32> = draft.page_counts(6);
     let used: u32 = pages.iter().sum();
-    let mut frames = session.rng.permutation(used);
+    let mut frames = draft.rng.permutation(used);
     let enough = 1_024 * used;
-    let (mut q, mut words) = (session.turn_length(), enough);
-    for _ in 0..session.rng.pick(&[1, 1, 1, 2, 3]) {
-        let rng = &mut session.rng;
+    let (mut q, mut words) = (draft.turn_length(), enough);
+    for _ in 0..draft.rng.pick(&[1, 1, 1, 2, 3]) {
+        let rng = &mut draft.rng;
         match rng.below(9) {
             0 => pages.resize(rng.pick(&[0, 9, 9, 10, 16]), 1),
             1 => wrong_page_count(rng, &mut pages, &mut frames),
@@ -55,8 +55,8 @@ fn wrong_boot(session: &mut Session) {
             _ => repeat_frames(rng, &mut frames),
         }
     }
-    session.emit(Command::Length { words });
-    session.emit(Command::Boot { pages, q, frames });
+    draft.emit(Command::Length { words });
+    draft.emit(Command::Boot { pages, q, frames });
 }
 
 fn wrong_page_count(rng: &mut Rng, pages: &mut [u32], frames: &mut Vec<u32>) {
@@ -100,9 +100,9 @@ fn repeat_frames(rng: &mut Rng, frames: &mut [u32]) {
 }
 
 /// Any call, with a partition that may not exist.
-fn any_call(session: &mut Session) {
-    let partitions = session.partitions();
-    let rng = &mut session.rng;
+fn any_call(draft: &mut Draft) {
+    let partitions = draft.partitions();
+    let rng = &mut draft.rng;
     let partition = match rng.below(6) {
         0 => partitions,
         1 => rng.pick(&[7, 8, 9, u32::MAX]),
@@ -113,21 +113,21 @@ fn any_call(session: &mut Session) {
         1 => Command::Start { partition },
         2 | 3 => Command::Stop { partition },
         4 => Command::Empty { partition },
-        _ => return read_from(session, partition),
+        _ => return read_from(draft, partition),
     };
-    session.emit(command);
+    draft.emit(command);
 }
 
 /// A read-out from any partition.
-pub fn read_out(session: &mut Session) {
-    let partition = session.partition();
-    read_from(session, partition);
+pub fn read_out(draft: &mut Draft) {
+    let partition = draft.partition();
+    read_from(draft, partition);
 }
 
-fn read_from(session: &mut Session, partition: u32) {
-    let pages = session.player.house.guests.get(partition as usize).map_or(1, |g| g.space.pages);
+fn read_from(draft: &mut Draft, partition: u32) {
+    let pages = draft.player.house.guests.get(partition as usize).map_or(1, |g| g.space.pages);
     let end = pages.min(256) * 4_096;
-    let rng = &mut session.rng;
+    let rng = &mut draft.rng;
     let mut address = 4 * rng.below(end / 4 + 1);
     let most = u64::from((end - address) / 4);
     let small = u64::from(rng.below(10));
@@ -153,72 +153,72 @@ fn read_from(session: &mut Session, partition: u32) {
         2 => fits,
         _ => (fits + rng.below(5)).min(MOST_OUTPUT as u32),
     };
-    session.emit(Command::Read { partition, address, count, output });
+    draft.emit(Command::Read { partition, address, count, output });
 }
 
 /// A run that is too long.
-pub fn refused_run(session: &mut Session) {
-    let steps = session.rng.pick(&[1_000_001, 1_000_002, u32::MAX, 1 << 31]);
-    session.emit(Command::Run { steps });
+pub fn refused_run(draft: &mut Draft) {
+    let steps = draft.rng.pick(&[1_000_001, 1_000_002, u32::MAX, 1 << 31]);
+    draft.emit(Command::Run { steps });
 }
 
 /// Stops all, runs, and starts one again.
-fn nothing_running(session: &mut Session) {
-    for partition in session.rng.permutation(8) {
-        if partition < session.partitions() {
-            session.emit(Command::Stop { partition });
+fn nothing_running(draft: &mut Draft) {
+    for partition in draft.rng.permutation(8) {
+        if partition < draft.partitions() {
+            draft.emit(Command::Stop { partition });
         }
     }
-    for _ in 0..session.rng.between(1, 2) {
-        let steps = session.rng.pick(&[0, 1, 5, 1_000_000, 1_000_001]);
-        session.emit(Command::Run { steps });
+    for _ in 0..draft.rng.between(1, 2) {
+        let steps = draft.rng.pick(&[0, 1, 5, 1_000_000, 1_000_001]);
+        draft.emit(Command::Run { steps });
     }
-    if session.rng.chance(80) {
-        session.keep_running();
+    if draft.rng.chance(80) {
+        draft.keep_running();
     }
 }
 
 /// Calls while the memory's length is another than at boot.
-pub fn wrong_length(session: &mut Session) {
-    let words = session.player.lent().len() as u32;
-    let other = session.rng.pick(&[0, words + 1, words - 1, words + 1_024, words - 1_024, 65_536]);
-    session.emit(Command::Length { words: other });
-    for _ in 0..session.rng.between(1, 3) {
-        match session.rng.below(4) {
-            0 => drop(session.emit(Command::Run { steps: 3 })),
-            1 => refused_run(session),
-            2 => read_out(session),
-            _ => any_call(session),
+pub fn wrong_length(draft: &mut Draft) {
+    let words = draft.player.lent().len() as u32;
+    let other = draft.rng.pick(&[0, words + 1, words - 1, words + 1_024, words - 1_024, 65_536]);
+    draft.emit(Command::Length { words: other });
+    for _ in 0..draft.rng.between(1, 3) {
+        match draft.rng.below(4) {
+            0 => drop(draft.emit(Command::Run { steps: 3 })),
+            1 => refused_run(draft),
+            2 => read_out(draft),
+            _ => any_call(draft),
         }
     }
-    session.emit(Command::Length { words });
+    draft.emit(Command::Length { words });
 }
 
 /// Changes the house by hand, calls, and puts it right again if it was damaged.
-pub fn damage_and_repair(session: &mut Session) {
-    if session.player.house.damaged() {
+pub fn damage_and_repair(draft: &mut Draft) {
+    if draft.player.house.damaged() {
         return;
     }
-    let changes = damage(&mut session.rng, &session.player.house);
+    let changes = damage(&mut draft.rng, &draft.player.house);
     let old: Vec<Change> = changes
         .iter()
-        .filter_map(|&(index, _)| Some((index, fields::get(&session.player.house, index)?)))
+        .filter_map(|&(index, _)| Some((index, fields::get(&draft.player.house, index)?)))
         .collect();
     for &(index, value) in &changes {
-        session.field(index, value);
+        draft.field(index, value);
     }
-    let damaged = session.player.house.damaged();
-    for _ in 0..session.rng.between(1, 3) {
-        match session.rng.below(5) {
-            0 => wrong_length(session),
-            _ => any_call(session),
+    let damaged = draft.player.house.damaged();
+    for _ in 0..draft.rng.between(1, 3) {
+        match draft.rng.below(5) {
+            0 => wrong_length(draft),
+            _ => any_call(draft),
         }
     }
     if damaged {
         for (index, value) in old {
-            session.field(index, value);
+            draft.field(index, value);
         }
-        any_call(session);
+        any_call(draft);
     }
 }
 

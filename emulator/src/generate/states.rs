@@ -1,6 +1,6 @@
 //! Scripts that set a guest's state by hand and do one or a few steps from it.
 
-use super::{words, Session};
+use super::{words, Draft};
 use crate::counts::Counts;
 use crate::dlx::special::{EDPC, EMODE, EPC, ESR, MODE, PTL, PTO, SR};
 use crate::dlx::{decode, Instruction};
@@ -12,53 +12,53 @@ use crate::script::Command;
 const MAPPED: u32 = 12;
 
 /// A script of this kind.
-pub fn compose(session: &mut Session) {
-    let pages: Vec<u32> = session.page_counts(5).into_iter().take(3).collect();
-    session.boot(&pages);
+pub fn compose(draft: &mut Draft) {
+    let pages: Vec<u32> = draft.page_counts(5).into_iter().take(3).collect();
+    draft.boot(&pages);
     for (partition, &count) in pages.iter().enumerate() {
-        let table = session.rng.below(count);
-        write_table(session, partition as u32, count, table);
+        let table = draft.rng.below(count);
+        write_table(draft, partition as u32, count, table);
     }
-    for _ in 0..session.rng.between(20, 40) {
-        one_case(session);
+    for _ in 0..draft.rng.between(20, 40) {
+        one_case(draft);
     }
 }
 
 /// A table with entries of all sorts; one of them maps the table itself.
-fn write_table(session: &mut Session, partition: u32, pages: u32, table: u32) {
-    session.field(fields::special(partition, PTO), table);
+fn write_table(draft: &mut Draft, partition: u32, pages: u32, table: u32) {
+    draft.field(fields::special(partition, PTO), table);
     for px in (0..MAPPED).chain([255]) {
-        let page = if px == 1 { table } else { session.rng.below(pages) };
-        let entry = match session.rng.below(10) {
+        let page = if px == 1 { table } else { draft.rng.below(pages) };
+        let entry = match draft.rng.below(10) {
             0 => page << 12,
-            1 => (pages + session.rng.below(2)) << 12 | VALID,
+            1 => (pages + draft.rng.below(2)) << 12 | VALID,
             2 => page << 12 | VALID | PROTECTED,
-            _ => page << 12 | VALID | session.rng.below(1 << 10),
+            _ => page << 12 | VALID | draft.rng.below(1 << 10),
         };
-        session.poke_guest(partition, 1_024 * table + px, entry);
+        draft.poke_guest(partition, 1_024 * table + px, entry);
     }
 }
 
 /// A state, an instruction, and a run.
-fn one_case(session: &mut Session) {
-    let partition = session.player.house.current;
-    set_specials(session, partition);
-    set_pair(session, partition);
-    if session.rng.chance(25) {
-        set_shadow(session, partition);
+fn one_case(draft: &mut Draft) {
+    let partition = draft.player.house.current;
+    set_specials(draft, partition);
+    set_pair(draft, partition);
+    if draft.rng.chance(25) {
+        set_shadow(draft, partition);
     }
-    let instruction = words::instruction(&mut session.rng);
-    set_registers(session, partition, instruction);
-    place_instruction(session, partition, instruction);
-    let steps = if session.rng.chance(75) { 1 } else { session.rng.between(2, 6) };
-    session.emit(Command::Run { steps });
-    if session.rng.chance(5) {
-        session.emit(Command::Empty { partition });
+    let instruction = words::instruction(&mut draft.rng);
+    set_registers(draft, partition, instruction);
+    place_instruction(draft, partition, instruction);
+    let steps = if draft.rng.chance(75) { 1 } else { draft.rng.between(2, 6) };
+    draft.emit(Command::Run { steps });
+    if draft.rng.chance(5) {
+        draft.emit(Command::Empty { partition });
     }
 }
 
-fn set_specials(session: &mut Session, partition: u32) {
-    let rng = &mut session.rng;
+fn set_specials(draft: &mut Draft, partition: u32) {
+    let rng = &mut draft.rng;
     let mut changes = vec![(MODE, u32::from(rng.chance(60)))];
     if rng.chance(40) {
         changes.push((SR, rng.pick(&[0, 64, u32::MAX])));
@@ -74,18 +74,18 @@ fn set_specials(session: &mut Session, partition: u32) {
         changes.extend([(EPC, 4 * rng.below(3_000)), (EDPC, 4 * rng.below(3_000))]);
     }
     for (special, value) in changes {
-        session.field(fields::special(partition, special), value);
+        draft.field(fields::special(partition, special), value);
     }
-    if session.rng.chance(5) {
-        session.field(fields::scalar(partition, fields::COUNTER_LOW), u32::MAX);
-        session.field(fields::scalar(partition, fields::COUNTER_HIGH), u32::MAX);
+    if draft.rng.chance(5) {
+        draft.field(fields::scalar(partition, fields::COUNTER_LOW), u32::MAX);
+        draft.field(fields::scalar(partition, fields::COUNTER_HIGH), u32::MAX);
     }
 }
 
 /// DPC and PC.
-fn set_pair(session: &mut Session, partition: u32) {
-    let page = any_page(session);
-    let rng = &mut session.rng;
+fn set_pair(draft: &mut Draft, partition: u32) {
+    let page = any_page(draft);
+    let rng = &mut draft.rng;
     let mut dpc = 4_096 * page + 4 * rng.between(300, 1_000);
     if rng.chance(4) {
         dpc += rng.between(1, 3);
@@ -95,13 +95,13 @@ fn set_pair(session: &mut Session, partition: u32) {
         1 => rng.pick(&[u32::MAX, 0xFFFF_FFFC, 0xFFFF_FFF8, 0]),
         _ => dpc.wrapping_add(4),
     };
-    session.field(fields::scalar(partition, fields::DPC), dpc);
-    session.field(fields::scalar(partition, fields::PC), pc);
+    draft.field(fields::scalar(partition, fields::DPC), dpc);
+    draft.field(fields::scalar(partition, fields::PC), pc);
 }
 
 /// A page of addresses: mostly one that there is.
-fn any_page(session: &mut Session) -> u32 {
-    let rng = &mut session.rng;
+fn any_page(draft: &mut Draft) -> u32 {
+    let rng = &mut draft.rng;
     match rng.below(20) {
         0 => 255,
         1 => rng.pick(&[256, 257, 0xF_FFFF]),
@@ -110,42 +110,42 @@ fn any_page(session: &mut Session) -> u32 {
     }
 }
 
-fn set_shadow(session: &mut Session, partition: u32) {
-    let list = session.player.house.guests[partition as usize].space.list().to_vec();
-    let px = any_page(session).min(255);
-    let entry = match session.rng.below(4) {
+fn set_shadow(draft: &mut Draft, partition: u32) {
+    let list = draft.player.house.guests[partition as usize].space.list().to_vec();
+    let px = any_page(draft).min(255);
+    let entry = match draft.rng.below(4) {
         0 => 0,
-        _ => shadow_entry(session.rng.pick(&list), session.rng.word()),
+        _ => shadow_entry(draft.rng.pick(&list), draft.rng.word()),
     };
-    session.field(fields::shadow(partition, px), entry);
+    draft.field(fields::shadow(partition, px), entry);
 }
 
 /// Registers that the instruction reads; RS1 gives an address where one is needed.
-fn set_registers(session: &mut Session, partition: u32, word: u32) {
+fn set_registers(draft: &mut Draft, partition: u32, word: u32) {
     let (rs1, rs2) = (word >> 21 & 31, word >> 16 & 31);
-    let value = words::value(&mut session.rng);
-    set_register(session, partition, rs2, value);
+    let value = words::value(&mut draft.rng);
+    set_register(draft, partition, rs2, value);
     let value = match decode(word) {
         Some(Instruction::Lw { imm, .. } | Instruction::Sw { imm, .. }) => {
-            data_address(session, partition).wrapping_sub(imm)
+            data_address(draft, partition).wrapping_sub(imm)
         }
-        Some(Instruction::Jump { .. }) => 4 * session.rng.below(8_000) + u32::from(value == 1),
-        _ => words::value(&mut session.rng),
+        Some(Instruction::Jump { .. }) => 4 * draft.rng.below(8_000) + u32::from(value == 1),
+        _ => words::value(&mut draft.rng),
     };
-    set_register(session, partition, rs1, value);
+    set_register(draft, partition, rs1, value);
 }
 
-fn set_register(session: &mut Session, partition: u32, number: u32, value: u32) {
+fn set_register(draft: &mut Draft, partition: u32, number: u32, value: u32) {
     let value = if number == 0 { 0 } else { value };
-    session.field(fields::register(partition, number), value);
+    draft.field(fields::register(partition, number), value);
 }
 
 /// A data address; often that of a table entry, in system mode or through the page that maps it.
-fn data_address(session: &mut Session, partition: u32) -> u32 {
-    let guest = &session.player.house.guests[partition as usize];
+fn data_address(draft: &mut Draft, partition: u32) -> u32 {
+    let guest = &draft.player.house.guests[partition as usize];
     let (dpc, pto, user) = (guest.dpc, guest.specials[PTO], guest.user());
-    let page = any_page(session);
-    let rng = &mut session.rng;
+    let page = any_page(draft);
+    let rng = &mut draft.rng;
     let px = if rng.chance(50) { dpc >> 12 & 255 } else { rng.below(MAPPED + 2) };
     match rng.below(10) {
         0..=2 if user => 4_096 + 4 * px,
@@ -156,13 +156,13 @@ fn data_address(session: &mut Session, partition: u32) -> u32 {
 }
 
 /// Puts the instruction where the fetch will find it, if it finds anything.
-fn place_instruction(session: &mut Session, partition: u32, instruction: u32) {
-    let guest = &session.player.house.guests[partition as usize];
+fn place_instruction(draft: &mut Draft, partition: u32, instruction: u32) {
+    let guest = &draft.player.house.guests[partition as usize];
     let table = guest.user().then(|| guest.table());
     let mut space = guest.space.clone();
     let place =
-        space.locate(session.player.lent(), table, guest.dpc, Access::Load, &mut Counts::default());
+        space.locate(draft.player.lent(), table, guest.dpc, Access::Load, &mut Counts::default());
     if let Some(place) = place {
-        session.poke_guest(partition, 1_024 * place.page + place.word, instruction);
+        draft.poke_guest(partition, 1_024 * place.page + place.word, instruction);
     }
 }
