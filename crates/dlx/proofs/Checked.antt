@@ -7,10 +7,10 @@ use Rattle.dlx.specs.Words.{extendedBy, readIn, holds}
 use Rattle.dlx.specs.Instructions.{registerType, instructionOf}
 use Rattle.dlx.specs.Processor.{specialOf, withSpecial}
 use Rattle.dlx.specs.Interrupts.{levelOf, interrupted}
-use Rattle.dlx.specs.Execute.{written, valueOf, overflowsOf, operated, reached, loads, stores, movedTo, effectOf}
-use Rattle.dlx.specs.Machine.{executed, fetched, loaded, stored, accessed, settled, retabled, step, steps}
-use Rattle.dlx.specs.Examples.{once, booted, r, interrupt, pair, is-ill, papers, traps, all}
+use Rattle.dlx.specs.Execute.{written, valueOf, overflowsOf, operated, reached, loads, stores, movedTo, trapOf, effectOf}
+use Rattle.dlx.specs.Machine.{executed, fetched, loaded, stored, taken, accessed, settled, retabled, step, steps}
+use Rattle.dlx.specs.Examples.{once, booted, r, interrupt, pair, is-ill, answered, papers, traps, tickets, all}
 
-pub checked : all (papers ++ traps) ≡ true
-unfolding all papers traps r interrupt pair is-ill once booted step steps fetched executed loaded stored accessed settled retabled instructionOf registerType effectOf written valueOf overflowsOf operated reached loads stores movedTo specialOf withSpecial interrupted levelOf trailingZeros extendedBy readIn holds
+pub checked : all (papers ++ (traps ++ tickets)) ≡ true
+unfolding all papers traps tickets r interrupt pair is-ill once answered booted step steps fetched executed loaded stored taken accessed settled retabled instructionOf registerType effectOf written valueOf overflowsOf operated reached loads stores movedTo trapOf specialOf withSpecial interrupted levelOf trailingZeros extendedBy readIn holds
 checked = refl

@@ -16,8 +16,8 @@ use Rattle.dlx.specs.Words.{plus, minus, aligned, holds, readingOf, test
 use Rattle.dlx.specs.Processor.{user, specialOf, withSpecial, wentTo, behind}
 use Rattle.dlx.specs.Interrupts.{unmasked, levelOf, interrupted, returned, savesOld, bringsDatum}
 use Rattle.dlx.specs.Instructions.{instructionOf, registerType, Formed}
-use Rattle.dlx.specs.Execute.{reg, written, valueOf, overflowsOf, operated, reached, loads, stores, inSystem, movedTo, effectOf}
-use Rattle.dlx.specs.Machine.{Ops, Core, core, Outcome, executed, fetched, loaded, stored, accessed, settled, retabled, step}
+use Rattle.dlx.specs.Execute.{reg, written, valueOf, overflowsOf, operated, reached, loads, stores, inSystem, movedTo, trapOf, effectOf}
+use Rattle.dlx.specs.Machine.{Ops, Core, core, Outcome, executed, fetched, loaded, stored, taken, accessed, settled, retabled, step, Request, nothing, sends, takes, requestOf, asked}
 use Rattle.dlx.specs.declared.partition.Table.{Table}
 use Rattle.dlx.specs.declared.partition.Processor.{Processor}
 use Rattle.dlx.specs.declared.instruction.Operation.{Operation}
@@ -27,9 +27,10 @@ use Rattle.dlx.specs.declared.instruction.Instruction.the-variants.{Lw, 
 use Rattle.dlx.specs.declared.execute.Access.{Access}
 use Rattle.dlx.specs.declared.execute.Access.the-variants.{Fault, Word}
 use Rattle.dlx.specs.declared.execute.Change.{Change}
-use Rattle.dlx.specs.declared.execute.Change.the-variants.{Plain, Special, Retable, Cause, Return}
+use Rattle.dlx.specs.declared.execute.Change.the-variants.{Plain, Special, Retable, Cause, Return, Ticket}
 use Rattle.dlx.specs.declared.execute.Effect.{Effect}
-use Rattle.dlx.specs.declared.execute.Effect.the-variants.{Done, Load, Store}
+use Rattle.dlx.specs.declared.execute.Effect.the-variants.{Done, Load, Store, Send, Take}
+use Rattle.dlx.specs.declared.execute.Reply.{Reply}
 
 -- a word
 abbrev W : ℕ → Type 0
@@ -136,15 +137,35 @@ KeptChange (Special n v) = v < 2 ^ 32
 KeptChange (Retable t) = KeptTable t
 KeptChange (Cause causes datum) = (causes < 2 ^ 32) × (datum < 2 ^ 32)
 KeptChange Return = Unit
+KeptChange (Ticket v) = v < 2 ^ 32
 
 abbrev pub KeptEffect : Effect → Type 0
 KeptEffect (Done c) = KeptChange c
 KeptEffect (Load d a) = (d < 32) × (a < 2 ^ 32)
 KeptEffect (Store a v) = (a < 2 ^ 32) × (v < 2 ^ 32)
+KeptEffect (Send v to) = (v < 2 ^ 32) × (to < 2 ^ 32)
+KeptEffect Take = Unit
 
 abbrev pub KeptAccess : Access → Type 0
 KeptAccess Fault = Unit
 KeptAccess (Word w) = w < 2 ^ 32
+
+abbrev pub KeptRequest : Request → Type 0
+KeptRequest nothing = Unit
+KeptRequest (sends v to) = (v < 2 ^ 32) × (to < 2 ^ 32)
+KeptRequest takes = Unit
+
+request-kept : (e : Effect) → KeptEffect e → KeptRequest (requestOf e)
+unfolding requestOf
+request-kept (Done c) h = tt
+request-kept (Load d a) h = tt
+request-kept (Store a v) h = tt
+request-kept (Send v to) h = h
+request-kept Take h = tt
+
+pub record KeptReply (y : Reply) : Type 0 where
+  pub code : y .code < 2 ^ 32
+  pub ticket : y .ticket < 2 ^ 32
 
 -- ---- the registers
 
@@ -278,6 +299,14 @@ module _ (p : Processor) (t : Table) (r : List ℕ) (h : Numbers p) (k : KeptTab
   system-kept : (e : Effect) → KeptEffect e → KeptEffect (inSystem p e)
   system-kept e f = either KeptEffect (user p) (λ _. (omega arith, omega arith)) (λ _. f)
 
+  trap-kept : (i : ℕ) → i < 2 ^ 32 → KeptEffect (trapOf p (reg r 1) (reg r 2) i)
+  unfolding trapOf
+  trap-kept i f =
+      either KeptEffect (user p) (λ _. (omega arith, f)) λ _.
+      either KeptEffect (eqb i 256) (λ _. (g .words 1, g .words 2)) λ _.
+      either KeptEffect (eqb i 257) (λ _. tt) λ _.
+      (omega arith, f)
+
   pub effect-kept : (i : Instruction) → Formed i → KeptEffect (effectOf p t r i)
   unfolding effectOf
   effect-kept (Lw d s i) f = loads-kept d _ i (f .0)
@@ -290,7 +319,7 @@ module _ (p : Processor) (t : Table) (r : List ℕ) (h : Numbers p) (k : KeptTab
   effect-kept (Jalr s) f = (omega arith, omega arith, g .words s)
   effect-kept (J i) f = (omega arith, omega arith, omega arith)
   effect-kept (Jal i) f = (omega arith, omega arith, omega arith)
-  effect-kept (Trap i) f = (omega arith, f)
+  effect-kept (Trap i) f = trap-kept i f
   effect-kept Rfe f = system-kept _ tt
   effect-kept (Register op d s s′) f = operated-kept op d _ _ _ _ (f .0) (g .words s) (g .words s′) (omega arith)
   effect-kept (Movs2i d n) f = system-kept _ (f .0, special-read p h t k n, omega arith)
@@ -320,6 +349,10 @@ settled-kept c (Cause causes datum) h k = record {
 settled-kept c Return h k = record {
   processor = returned-kept (c .processor) (h .processor);
   registers = h .registers;
+}
+settled-kept c (Ticket v) h k = record {
+  processor = went-kept (c .processor) (h .processor) _ (omega arith);
+  registers = written-kept _ 3 0 (written-kept (c .registers) 1 v (h .registers) k) (omega arith);
 }
 
 -- a memory that keeps I, whose words and table's registers are words
@@ -354,11 +387,17 @@ module _ {S : Type 0} (I : S → Type 0) (O : Ops S) (K : Keeps I O) where
   stored-kept p a made h =
       either KeptChange made (λ _. (omega arith, omega arith, omega arith)) (λ _. (omega arith, h))
 
-  accessed-kept : (p : Processor) (e : Effect) (s : S) → KeptEffect e → I s → KeptChange (accessed O p e s .0) × I (accessed O p e s .1)
+  taken-kept : (p : Processor) (y : Reply) → KeptReply y → KeptChange (taken p y)
+  unfolding taken
+  taken-kept p y k = either KeptChange (eqb (y .code) 0) (λ _. k .ticket) (λ _. (omega arith, k .code, omega arith))
+
+  accessed-kept : (y : Reply) → KeptReply y → (p : Processor) (e : Effect) (s : S) → KeptEffect e → I s → KeptChange (accessed O y p e s .0) × I (accessed O y p e s .1)
   unfolding accessed
-  accessed-kept p (Done c) s h i = (h, i)
-  accessed-kept p (Load d a) s h i = let g = K .reads s i (user p) a in (loaded-kept p d a _ (h .0) (h .1) (g .0), g .1)
-  accessed-kept p (Store a v) s h i = (stored-kept p a _ (h .0), K .writes s i (user p) a (λ _. v) (λ _. h .1))
+  accessed-kept y k p (Done c) s h i = (h, i)
+  accessed-kept y k p (Send v to) s h i = ((omega arith, k .code, omega arith), i)
+  accessed-kept y k p Take s h i = (taken-kept p y k, i)
+  accessed-kept y k p (Load d a) s h i = let g = K .reads s i (user p) a in (loaded-kept p d a _ (h .0) (h .1) (g .0), g .1)
+  accessed-kept y k p (Store a v) s h i = (stored-kept p a _ (h .0), K .writes s i (user p) a (λ _. v) (λ _. h .1))
 
   retabled-kept : (c : Change) (s : S) → KeptChange c → I s → I (retabled O c s)
   unfolding retabled
@@ -367,11 +406,17 @@ module _ {S : Type 0} (I : S → Type 0) (O : Ops S) (K : Keeps I O) where
   retabled-kept (Retable t) s h i = K .retables s i t h
   retabled-kept (Cause causes datum) s h i = i
   retabled-kept Return s h i = i
+  retabled-kept (Ticket v) s h i = i
+
+  -- what a step sends is a word, so that queues stay words
+  pub asked-kept : (c : Core) (s : S) → Kept c → I s → KeptRequest (asked O (c, s))
+  unfolding asked
+  asked-kept c s h i = request-kept _ (fetched-kept c s h i .0)
 
   -- a step keeps a core's numbers, and what the memory keeps
-  pub step-kept : (c : Core) (s : S) → Kept c → I s → Kept (step O (c, s) .0 .core) × I (step O (c, s) .1)
+  pub step-kept : (y : Reply) → KeptReply y → (c : Core) (s : S) → Kept c → I s → Kept (step O y (c, s) .0 .core) × I (step O y (c, s) .1)
   unfolding step
-  step-kept c s h i =
+  step-kept y k c s h i =
       let f = fetched-kept c s h i in
-      let a = accessed-kept (c .processor) _ _ (f .0) (f .1) in
+      let a = accessed-kept y k (c .processor) _ _ (f .0) (f .1) in
       (settled-kept c _ h (a .0), retabled-kept _ _ (a .0) (a .1))

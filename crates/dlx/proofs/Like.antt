@@ -5,13 +5,14 @@ use Prim.Native.Nat.{ℕ, zero, suc}
 use Rattle.dlx.specs.Choice.{if_then_else_}
 use Rattle.dlx.specs.Words.{aligned}
 use Rattle.dlx.specs.Processor.{user}
-use Rattle.dlx.specs.Machine.{Ops, Core, Outcome, executed, fetched, loaded, stored, accessed, settled, retabled, step, steps}
+use Rattle.dlx.specs.Machine.{Ops, Core, Outcome, executed, fetched, loaded, stored, accessed, settled, retabled, step, steps, requestOf, asked}
 use Rattle.dlx.specs.declared.partition.Table.{Table}
 use Rattle.dlx.specs.declared.partition.Processor.{Processor}
 use Rattle.dlx.specs.declared.execute.Change.{Change}
-use Rattle.dlx.specs.declared.execute.Change.the-variants.{Plain, Special, Retable, Cause, Return}
+use Rattle.dlx.specs.declared.execute.Change.the-variants.{Plain, Special, Retable, Cause, Return, Ticket}
 use Rattle.dlx.specs.declared.execute.Effect.{Effect}
-use Rattle.dlx.specs.declared.execute.Effect.the-variants.{Done, Load, Store}
+use Rattle.dlx.specs.declared.execute.Effect.the-variants.{Done, Load, Store, Send, Take}
+use Rattle.dlx.specs.declared.execute.Reply.{Reply}
 
 module _ {S S′ : Type 0} (R : S → S′ → Type 0) where
   -- the same answer, and related memories
@@ -39,13 +40,22 @@ module _ {S S′ : Type 0} (R : S → S′ → Type 0) (O : Ops S) (O′ : Ops S
       (record { same = rw (g .same, L .tables s s′ r); rest = g .rest })
       (record { same = refl; rest = r })
 
-  accessed-like : (p : Processor) (e : Effect) (s : S) (s′ : S′) → R s s′ → Both R (accessed O p e s) (accessed O′ p e s′)
+  -- so they ask for the same
+  pub asked-like : (m : Core × S) (m′ : Core × S′) → Both R m m′ → asked O m ≡ asked O′ m′
+  unfolding asked
+  asked-like m m′ b =
+      subst (λ c. requestOf (fetched O m .0) ≡ requestOf (fetched O′ (c, m′ .1) .0)) (b .same)
+      (ap requestOf (fetched-like (m .0) (m .1) (m′ .1) (b .rest) .same))
+
+  accessed-like : (y : Reply) (p : Processor) (e : Effect) (s : S) (s′ : S′) → R s s′ → Both R (accessed O y p e s) (accessed O′ y p e s′)
   unfolding accessed
-  accessed-like p (Done c) s s′ r = record { same = refl; rest = r }
-  accessed-like p (Load d a) s s′ r =
+  accessed-like y p (Done c) s s′ r = record { same = refl; rest = r }
+  accessed-like y p (Send v to) s s′ r = record { same = refl; rest = r }
+  accessed-like y p Take s s′ r = record { same = refl; rest = r }
+  accessed-like y p (Load d a) s s′ r =
       let g = L .reads s s′ r (user p) a in
       record { same = rw (g .same); rest = g .rest }
-  accessed-like p (Store a v) s s′ r =
+  accessed-like y p (Store a v) s s′ r =
       let g = L .writes s s′ r (user p) a (λ _. v) in
       record { same = rw (g .same); rest = g .rest }
 
@@ -56,26 +66,27 @@ module _ {S S′ : Type 0} (R : S → S′ → Type 0) (O : Ops S) (O′ : Ops S
   retabled-like (Retable t) s s′ r = L .retables s s′ r t
   retabled-like (Cause causes datum) s s′ r = r
   retabled-like Return s s′ r = r
+  retabled-like (Ticket v) s s′ r = r
 
   settled-like : (c : Core) (g : Change × S) (g′ : Change × S′) → Both R g g′ → Both R (settled c (g .0), retabled O (g .0) (g .1)) (settled c (g′ .0), retabled O′ (g′ .0) (g′ .1))
   settled-like c g g′ b =
       subst (λ x. Both R (settled c (g .0), retabled O (g .0) (g .1)) (settled c x, retabled O′ x (g′ .1))) (b .same)
       (record { same = refl; rest = retabled-like (g .0) (g .1) (g′ .1) (b .rest) })
 
-  effect-like : (p : Processor) (g : Effect × S) (g′ : Effect × S′) → Both R g g′ → Both R (accessed O p (g .0) (g .1)) (accessed O′ p (g′ .0) (g′ .1))
-  effect-like p g g′ b =
-      subst (λ x. Both R (accessed O p (g .0) (g .1)) (accessed O′ p x (g′ .1))) (b .same)
-      (accessed-like p (g .0) (g .1) (g′ .1) (b .rest))
+  effect-like : (y : Reply) (p : Processor) (g : Effect × S) (g′ : Effect × S′) → Both R g g′ → Both R (accessed O y p (g .0) (g .1)) (accessed O′ y p (g′ .0) (g′ .1))
+  effect-like y p g g′ b =
+      subst (λ x. Both R (accessed O y p (g .0) (g .1)) (accessed O′ y p x (g′ .1))) (b .same)
+      (accessed-like y p (g .0) (g .1) (g′ .1) (b .rest))
 
-  pub step-like : (m : Core × S) (m′ : Core × S′) → Both R m m′ → Both R (step O m) (step O′ m′)
+  pub step-like : (y : Reply) (m : Core × S) (m′ : Core × S′) → Both R m m′ → Both R (step O y m) (step O′ y m′)
   unfolding step
-  step-like m m′ b =
-      subst (λ c. Both R (step O m) (step O′ (c, m′ .1))) (b .same)
-      (settled-like (m .0) _ _ (effect-like (m .0 .processor) _ _ (fetched-like (m .0) (m .1) (m′ .1) (b .rest))))
+  step-like y m m′ b =
+      subst (λ c. Both R (step O y m) (step O′ y (c, m′ .1))) (b .same)
+      (settled-like (m .0) _ _ (effect-like y (m .0 .processor) _ _ (fetched-like (m .0) (m .1) (m′ .1) (b .rest))))
 
-  pub steps-like : (n : ℕ) (m : Core × S) (m′ : Core × S′) → Both R m m′ → Both R (steps O n m) (steps O′ n m′)
+  pub steps-like : (feed : ℕ → Reply) (n : ℕ) (m : Core × S) (m′ : Core × S′) → Both R m m′ → Both R (steps O feed n m) (steps O′ feed n m′)
   unfolding steps
-  steps-like zero m m′ b = b
-  steps-like (suc n) m m′ b =
-      let k = step-like _ _ (steps-like n m m′ b) in
+  steps-like feed zero m m′ b = b
+  steps-like feed (suc n) m m′ b =
+      let k = step-like (feed n) _ _ (steps-like feed n m m′ b) in
       record { same = ap (λ o. o .core) (k .same); rest = k .rest }

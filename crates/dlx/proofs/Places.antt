@@ -1,5 +1,5 @@
 -- The register that a step's change names exists, and a step keeps the number of registers.
-use mathlib.Core.Path.{_≡_, refl}
+use mathlib.Core.Path.{_≡_, refl, _∙_}
 use mathlib.Core.Bool.{Bool, _&&_}
 use mathlib.Core.List.{List}
 use Prim.Native.Nat.{ℕ, _<_}
@@ -12,8 +12,8 @@ use Rattle.dlx.specs.Words.{aligned}
 use Rattle.dlx.specs.Instructions.{instructionOf, Formed}
 use Rattle.dlx.specs.Processor.{user}
 use Rattle.dlx.specs.Interrupts.{unmasked}
-use Rattle.dlx.specs.Execute.{written, overflowsOf, operated, reached, loads, stores, inSystem, movedTo, effectOf}
-use Rattle.dlx.specs.Machine.{Ops, Core, executed, fetched, loaded, stored, accessed, settled, step, Places}
+use Rattle.dlx.specs.Execute.{written, overflowsOf, operated, reached, loads, stores, inSystem, movedTo, trapOf, effectOf}
+use Rattle.dlx.specs.Machine.{Ops, Core, executed, fetched, loaded, stored, taken, accessed, settled, step, Places}
 use Rattle.dlx.specs.declared.partition.Table.{Table}
 use Rattle.dlx.specs.declared.partition.Processor.{Processor}
 use Rattle.dlx.specs.declared.instruction.Operation.{Operation}
@@ -22,15 +22,18 @@ use Rattle.dlx.specs.declared.instruction.Instruction.the-variants.{Lw, 
 use Rattle.dlx.specs.declared.execute.Access.{Access}
 use Rattle.dlx.specs.declared.execute.Access.the-variants.{Fault, Word}
 use Rattle.dlx.specs.declared.execute.Change.{Change}
-use Rattle.dlx.specs.declared.execute.Change.the-variants.{Plain, Special, Retable, Cause, Return}
+use Rattle.dlx.specs.declared.execute.Change.the-variants.{Plain, Special, Retable, Cause, Return, Ticket}
 use Rattle.dlx.specs.declared.execute.Effect.{Effect}
-use Rattle.dlx.specs.declared.execute.Effect.the-variants.{Done, Load, Store}
+use Rattle.dlx.specs.declared.execute.Effect.the-variants.{Done, Load, Store, Send, Take}
+use Rattle.dlx.specs.declared.execute.Reply.{Reply}
 use Rattle.dlx.proofs.Kept.{either, instruction-formed}
 
 abbrev pub PlacesEffect : Effect → Type 0
 PlacesEffect (Done c) = Places c
 PlacesEffect (Load d a) = d < 32
 PlacesEffect (Store a v) = Unit
+PlacesEffect (Send v to) = Unit
+PlacesEffect Take = Unit
 
 operated-places : (op : Operation) (d x y sr next : ℕ) → d < 32 → PlacesEffect (operated op d x y sr next)
 unfolding operated
@@ -47,6 +50,11 @@ moved-places t n v = either Places (eqb n 7) (λ _. tt) λ _. either Places (eqb
 system-places : (p : Processor) (e : Effect) → PlacesEffect e → PlacesEffect (inSystem p e)
 system-places p e h = either PlacesEffect (user p) (λ _. tt) (λ _. h)
 
+trap-places : (p : Processor) (v to i : ℕ) → PlacesEffect (trapOf p v to i)
+unfolding trapOf
+trap-places p v to i =
+    either PlacesEffect (user p) (λ _. tt) λ _. either PlacesEffect (eqb i 256) (λ _. tt) λ _. either PlacesEffect (eqb i 257) (λ _. tt) λ _. tt
+
 effect-places : (p : Processor) (t : Table) (r : List ℕ) (i : Instruction) → Formed i → PlacesEffect (effectOf p t r i)
 unfolding effectOf loads stores
 effect-places p t r (Lw d s i) f = reached-places _ _ (f .0)
@@ -59,7 +67,7 @@ effect-places p t r (Jr s) f = omega arith
 effect-places p t r (Jalr s) f = omega arith
 effect-places p t r (J i) f = omega arith
 effect-places p t r (Jal i) f = omega arith
-effect-places p t r (Trap i) f = tt
+effect-places p t r (Trap i) f = trap-places p _ _ i
 effect-places p t r Rfe f = system-places p _ tt
 effect-places p t r (Register op d s s′) f = operated-places op d _ _ _ _ (f .0)
 effect-places p t r (Movs2i d n) f = system-places p _ (f .0)
@@ -77,15 +85,17 @@ module _ {S : Type 0} (O : Ops S) where
   fetched-places c s =
       either (λ (g : Effect × S). PlacesEffect (g .0)) (aligned (c .processor .dpc)) (λ _. executed-places c _ _) (λ _. tt)
 
-  pub accessed-places : (p : Processor) (e : Effect) (s : S) → PlacesEffect e → Places (accessed O p e s .0)
-  unfolding accessed loaded stored
-  accessed-places p (Done c) s h = h
-  accessed-places p (Load d a) s h = go (O .read s (user p) a .0)
+  pub accessed-places : (y : Reply) (p : Processor) (e : Effect) (s : S) → PlacesEffect e → Places (accessed O y p e s .0)
+  unfolding accessed loaded stored taken
+  accessed-places y p (Done c) s h = h
+  accessed-places y p (Send v to) s h = omega arith
+  accessed-places y p Take s h = either Places (eqb (y .code) 0) (λ _. tt) (λ _. omega arith)
+  accessed-places y p (Load d a) s h = go (O .read s (user p) a .0)
     where
       go : (x : Access) → Places (loaded p d a x)
       go Fault = tt
       go (Word w) = h
-  accessed-places p (Store a v) s h = either Places (O .write s (user p) a (λ _. v) .0) (λ _. omega arith) (λ _. tt)
+  accessed-places y p (Store a v) s h = either Places (O .write s (user p) a (λ _. v) .0) (λ _. omega arith) (λ _. tt)
 
 -- ---- how many registers there are
 
@@ -100,7 +110,8 @@ settled-count c (Special n v) = refl
 settled-count c (Retable t) = refl
 settled-count c (Cause causes datum) = refl
 settled-count c Return = refl
+settled-count c (Ticket v) = written-count (written (c .registers) 1 v) 3 0 ∙ written-count (c .registers) 1 v
 
-pub step-count : {S : Type 0} (O : Ops S) (c : Core) (s : S) → length (step O (c, s) .0 .core .registers) ≡ length (c .registers)
+pub step-count : {S : Type 0} (O : Ops S) (y : Reply) (c : Core) (s : S) → length (step O y (c, s) .0 .core .registers) ≡ length (c .registers)
 unfolding step
-step-count O c s = settled-count c _
+step-count O y c s = settled-count c _

@@ -9,7 +9,7 @@ use Rattle.dlx.specs.Choice.{if_then_else_}
 use Rattle.dlx.specs.Processor.{freshProcessor}
 use Rattle.dlx.specs.Interrupts.{levelOf}
 use Rattle.dlx.specs.Execute.{reg}
-use Rattle.dlx.specs.Machine.{Ops, Core, core, Outcome, step, steps}
+use Rattle.dlx.specs.Machine.{Ops, Core, core, Outcome, reply, step, steps}
 use Rattle.dlx.specs.declared.execute.Access.the-variants.{Fault, Word}
 use Rattle.dlx.specs.declared.partition.Table.{Table}
 use Rattle.dlx.specs.declared.partition.Processor.{Processor}
@@ -56,11 +56,11 @@ memory ws = record { table = record { pto = 97; ptl = 98 }; words = ws }
 
 -- one step of the word w at address 0
 unfoldable pub once : Processor → List ℕ → ℕ → Outcome × Flat
-once p r w = step flat (core p r, memory (w ∷ []))
+once p r w = step flat (reply 0 0) (core p r, memory (w ∷ []))
 
 -- n steps from boot with the program ws at address 0
 unfoldable pub booted : ℕ → List ℕ → Core × Flat
-booted n ws = steps flat n (core freshProcessor zeros, memory ws)
+booted n ws = steps flat (λ _. reply 0 0) n (core freshProcessor zeros, memory ws)
 
 -- ---- what is looked at
 
@@ -105,7 +105,7 @@ papers =
     ∷ interrupt (once (at 0 4 64 0) (both 0x7FFFFFFF 1) 0x00221820) 64 4 8 95 64 0
     ∷ eqb (r 3 (once (at 0 4 64 0) (both 0x7FFFFFFF 1) 0x00221820)) 0
     -- 0x1000FFFC at DPC 8, PC 12: DPC 12, PC 8
-    ∷ pair (step flat (core (at 8 12 0 0) zeros, memory (0 ∷ 0 ∷ 0x1000FFFC ∷ []))) 12 8
+    ∷ pair (step flat (reply 0 0) (core (at 8 12 0 0) zeros, memory (0 ∷ 0 ∷ 0x1000FFFC ∷ []))) 12 8
     -- causes 3 and 6 (72): level 3; the level of 0 is 32
     ∷ eqb (levelOf 72) 3
     ∷ eqb (levelOf 0) 32
@@ -177,8 +177,8 @@ traps =
     ∷ eqb (r 2 (once in-system (both 0xFFFFFFFE 0) 0x6C22FFFE)) 1
     ∷ eqb (r 2 (once in-system (both 0xFFFFFFFE 0) 0x7822FFFE)) 1
     -- a misaligned DPC is mal, before its word is looked at; a DPC outside is pff with the old pair
-    ∷ interrupt (step flat (core (at 2 8 0 1) zeros, memory (0 ∷ []))) 4 8 12 95 0 1
-    ∷ interrupt (step flat (core (at 64 68 0 1) zeros, memory (0 ∷ []))) 8 64 68 64 0 1
+    ∷ interrupt (step flat (reply 0 0) (core (at 2 8 0 1) zeros, memory (0 ∷ []))) 4 8 12 95 0 1
+    ∷ interrupt (step flat (reply 0 0) (core (at 64 68 0 1) zeros, memory (0 ∷ []))) 8 64 68 64 0 1
     -- a misaligned data address is mal, and EDATA is kept; one outside is pfls with the address and the old pair
     ∷ interrupt (once in-system zeros 0x8C010006) 4 4 8 95 0 0
     ∷ interrupt (once in-system zeros 0xAC010040) 16 0 4 64 0 0
@@ -200,6 +200,35 @@ traps =
     ∷ eqb (r 3 (once in-system zeros 0x000019D0)) 97
     ∷ eqb (r 3 (once in-system zeros 0x00001A10)) 98
     ∷ eqb (r 3 (once in-system zeros 0x00001A50)) 1
+    ∷ []
+
+-- ---- tickets: trap 256 sends, trap 257 takes
+
+-- one step of the word w at address 0, with the answer a
+unfoldable pub answered : Processor → List ℕ → ℕ → ℕ → ℕ → Outcome × Flat
+answered p r w code ticket = step flat (reply code ticket) (core p r, memory (w ∷ []))
+
+unfoldable pub tickets : List Bool
+tickets =
+    -- a plain instruction that writes register 3, and does not call
+    pair (answered in-system (both 7 1) 0xF8000100 0 0) 4 8
+    ∷ eqb (r 3 (answered in-system (both 7 1) 0xF8000100 1 9)) 1
+    ∷ eqb (r 1 (answered in-system (both 7 1) 0xF8000100 0 9)) 7
+    ∷ eqb (boolByte (answered in-system (both 7 1) 0xF8000100 0 0 .0 .calls)) 0
+    ∷ eqb (processor (answered in-system (both 7 1) 0xF8000100 0 0) .eca) 92
+    -- one taken goes to register 1; on 3 register 1 stays
+    ∷ eqb (r 1 (answered in-system (both 7 1) 0xF8000101 0 9)) 9
+    ∷ eqb (r 3 (answered in-system (both 7 1) 0xF8000101 0 9)) 0
+    ∷ pair (answered in-system (both 7 1) 0xF8000101 0 9) 4 8
+    ∷ eqb (boolByte (answered in-system (both 7 1) 0xF8000101 0 9 .0 .calls)) 0
+    ∷ eqb (processor (answered in-system (both 7 1) 0xF8000101 0 9) .eca) 92
+    ∷ eqb (r 1 (answered in-system (both 7 1) 0xF8000101 3 9)) 7
+    ∷ eqb (r 3 (answered in-system (both 7 1) 0xF8000101 3 9)) 3
+    -- in user mode they are ordinary traps, and so is 258; an answer not asked for changes nothing
+    ∷ interrupt (answered in-user (both 7 1) 0xF8000100 2 9) 32 4 8 256 0 1
+    ∷ interrupt (answered in-user (both 7 1) 0xF8000101 2 9) 32 4 8 257 0 1
+    ∷ interrupt (answered in-system (both 7 1) 0xF8000102 2 9) 32 4 8 258 0 0
+    ∷ eqb (r 1 (answered in-system (both 7 1) 0x20030005 0 9)) 7
     ∷ []
 
 unfoldable pub all : List Bool → Bool

@@ -16,9 +16,9 @@ use Rattle.dlx.specs.declared.instruction.Operation.the-variants.{Add, S
 use Rattle.dlx.specs.declared.instruction.Instruction.{Instruction}
 use Rattle.dlx.specs.declared.instruction.Instruction.the-variants.{Lw, Sw, Immediate, Lhgi, Beqz, Bnez, Jr, Jalr, J, Jal, Trap, Rfe, Register, Movs2i, Movi2s, Ill}
 use Rattle.dlx.specs.declared.execute.Change.{Change}
-use Rattle.dlx.specs.declared.execute.Change.the-variants.{Plain, Special, Retable, Cause, Return}
+use Rattle.dlx.specs.declared.execute.Change.the-variants.{Plain, Special, Retable, Cause, Return, Ticket}
 use Rattle.dlx.specs.declared.execute.Effect.{Effect}
-use Rattle.dlx.specs.declared.execute.Effect.the-variants.{Done, Load, Store}
+use Rattle.dlx.specs.declared.execute.Effect.the-variants.{Done, Load, Store, Send, Take}
 
 -- ---- the 32 registers
 
@@ -83,6 +83,14 @@ movedTo t n v =
     if eqb n 8 then Retable (record { pto = t .pto; ptl = v }) else
     Special n v
 
+-- trap 256 in system mode sends v, register 1, to the partition numbered in register 2, trap 257 takes a ticket; any other is cause 5
+unfoldable pub trapOf : Processor → ℕ → ℕ → ℕ → Effect
+trapOf p v to i =
+    if user p then Done (Cause trap i) else
+    if eqb i 256 then Send v to else
+    if eqb i 257 then Take else
+    Done (Cause trap i)
+
 unfoldable pub effectOf : Processor → Table → List ℕ → Instruction → Effect
 effectOf p t r (Lw d s i) = loads d (reg r s) i
 effectOf p t r (Sw d s i) = stores (reg r d) (reg r s) i
@@ -94,7 +102,7 @@ effectOf p t r (Jr s) = jumped (reg r s)
 effectOf p t r (Jalr s) = linked p (reg r s)
 effectOf p t r (J i) = jumped (plus (p .pc) i)
 effectOf p t r (Jal i) = linked p (plus (p .pc) i)
-effectOf p t r (Trap i) = Done (Cause trap i)
+effectOf p t r (Trap i) = trapOf p (reg r 1) (reg r 2) i
 effectOf p t r Rfe = inSystem p (Done Return)
 effectOf p t r (Register op d s s′) = operated op d (reg r s) (reg r s′) (p .sr) (behind p)
 effectOf p t r (Movs2i d n) = inSystem p (Done (Plain d (specialOf p t n) (behind p)))

@@ -13,11 +13,12 @@ use Rattle.dlx.specs.Execute.{written, effectOf}
 use Rattle.dlx.specs.declared.partition.Table.{Table}
 use Rattle.dlx.specs.declared.partition.Processor.{Processor}
 use Rattle.dlx.specs.declared.execute.Change.{Change}
-use Rattle.dlx.specs.declared.execute.Change.the-variants.{Plain, Special, Retable, Cause, Return}
+use Rattle.dlx.specs.declared.execute.Change.the-variants.{Plain, Special, Retable, Cause, Return, Ticket}
 use Rattle.dlx.specs.declared.execute.Access.{Access}
 use Rattle.dlx.specs.declared.execute.Access.the-variants.{Fault, Word}
 use Rattle.dlx.specs.declared.execute.Effect.{Effect}
-use Rattle.dlx.specs.declared.execute.Effect.the-variants.{Done, Load, Store}
+use Rattle.dlx.specs.declared.execute.Effect.the-variants.{Done, Load, Store, Send, Take}
+use Rattle.dlx.specs.declared.execute.Reply.{Reply}
 
 -- ---- the memory
 
@@ -66,11 +67,17 @@ loaded p d a (Word w) = Plain d w (behind p)
 unfoldable pub stored : Processor → ℕ → Bool → Change
 stored p a made = if made then Plain 0 0 (behind p) else Cause pfls a
 
--- the data access
-unfoldable pub accessed : {S : Type 0} → Ops S → Processor → Effect → S → Change × S
-accessed O p (Done c) s = (c, s)
-accessed O p (Load d a) s = let g = O .read s (user p) a in (loaded p d a (g .0), g .1)
-accessed O p (Store a v) s = let g = O .write s (user p) a (λ _. v) in (stored p a (g .0), g .1)
+-- a ticket's call answered: register 3 becomes the code; a ticket taken goes to register 1
+unfoldable pub taken : Processor → Reply → Change
+taken p a = if eqb (a .code) 0 then Ticket (a .ticket) else Plain 3 (a .code) (behind p)
+
+-- the data access; a, the answer, is used where a ticket is sent or taken, and nowhere else
+unfoldable pub accessed : {S : Type 0} → Ops S → Reply → Processor → Effect → S → Change × S
+accessed O a p (Done c) s = (c, s)
+accessed O a p (Load d x) s = let g = O .read s (user p) x in (loaded p d x (g .0), g .1)
+accessed O a p (Store x v) s = let g = O .write s (user p) x (λ _. v) in (stored p x (g .0), g .1)
+accessed O a p (Send v to) s = (Plain 3 (a .code) (behind p), s)
+accessed O a p Take s = (taken p a, s)
 
 -- the change of the processor and the registers
 unfoldable pub settled : Core → Change → Outcome
@@ -82,6 +89,8 @@ settled c (Cause causes datum) =
     outcome (core (interrupted (c .processor) causes datum) (c .registers))
     (eqb (levelOf causes) 5 && not (user (c .processor)))
 settled c Return = outcome (core (returned (c .processor)) (c .registers)) false
+settled c (Ticket v) =
+    outcome (core (wentTo (c .processor) (behind (c .processor))) (written (written (c .registers) 1 v) 3 0)) false
 
 -- the change of PTO and PTL
 unfoldable pub retabled : {S : Type 0} → Ops S → Change → S → S
@@ -90,33 +99,69 @@ retabled O (Special n v) s = s
 retabled O (Retable t) s = O .retable s t
 retabled O (Cause causes datum) s = s
 retabled O Return s = s
+retabled O (Ticket v) s = s
 
-unfoldable pub step : {S : Type 0} → Ops S → Core × S → Outcome × S
-step O m =
+-- the step, with the answer a to what it asks
+unfoldable pub step : {S : Type 0} → Ops S → Reply → Core × S → Outcome × S
+step O a m =
     let f = fetched O m in
-    let a = accessed O (m .0 .processor) (f .0) (f .1) in
-    (settled (m .0) (a .0), retabled O (a .0) (a .1))
+    let g = accessed O a (m .0 .processor) (f .0) (f .1) in
+    (settled (m .0) (g .0), retabled O (g .0) (g .1))
 
-unfoldable pub steps : {S : Type 0} → Ops S → ℕ → Core × S → Core × S
-steps O zero m = m
-steps O (suc n) m = let o = step O (steps O n m) in (o .0 .core, o .1)
+-- so many steps, fed answers by step number
+unfoldable pub steps : {S : Type 0} → Ops S → (ℕ → Reply) → ℕ → Core × S → Core × S
+steps O feed zero m = m
+steps O feed (suc n) m = let o = step O (feed n) (steps O feed n m) in (o .0 .core, o .1)
+
+-- ---- what a step asks: a function of the machine before it
+
+pub data Request : Type 0 where
+  nothing : Request
+  sends : ℕ → ℕ → Request
+  takes : Request
+
+unfoldable pub requestOf : Effect → Request
+requestOf (Done c) = nothing
+requestOf (Load d a) = nothing
+requestOf (Store a v) = nothing
+requestOf (Send v to) = sends v to
+requestOf Take = takes
+
+unfoldable pub asked : {S : Type 0} → Ops S → Core × S → Request
+asked O m = requestOf (fetched O m .0)
+
+abbrev pub reply : ℕ → ℕ → Reply
+reply c t = record { code = c; ticket = t }
+
+-- Who answers, with states T: the answer to a request, and the state after it.
+abbrev pub Desk : Type 0 → Type 0
+Desk T = T → Request → Reply × T
+
+-- the data access of a guest at a desk
+abbrev pub accessedAt : {S T : Type 0} → Ops S → Desk T → Processor → Effect → S → T → (Change × S) × T
+accessedAt O D p e s t = let g = D t (requestOf e) in (accessed O (g .0) p e s, g .1)
+
+-- the step of a guest at a desk
+abbrev pub stepAt : {S T : Type 0} → Ops S → Desk T → Core × S → T → (Outcome × S) × T
+stepAt O D m t = let g = D t (asked O m) in (step O (g .0) m, g .1)
 
 -- ---- a stretch: up to so many steps, ending early after a step that calls the hypervisor
 
 -- `made`: how many steps; `called`: whether the last one called
-pub record Stretch (S : Type 0) : Type 0 where
+pub record Stretch (S T : Type 0) : Type 0 where
   pub made : ℕ
   pub called : Bool
   pub core : Core
   pub memory : S
+  pub desk : T
 
 -- up to k steps more, where so many are made
-unfoldable pub stretchFrom : {S : Type 0} → Ops S → ℕ → ℕ → Core × S → Stretch S
-stretchFrom O zero made m = record { made = made; called = false; core = m .0; memory = m .1 }
-stretchFrom O (suc k) made m =
-    let o = step O m in
-    if o .0 .calls then record { made = suc made; called = true; core = o .0 .core; memory = o .1 }
-    else stretchFrom O k (suc made) (o .0 .core, o .1)
+unfoldable pub stretchFrom : {S T : Type 0} → Ops S → Desk T → ℕ → ℕ → Core × S → T → Stretch S T
+stretchFrom O D zero made m t = record { made = made; called = false; core = m .0; memory = m .1; desk = t }
+stretchFrom O D (suc k) made m t =
+    let o = stepAt O D m t in
+    if o .0 .0 .calls then record { made = suc made; called = true; core = o .0 .0 .core; memory = o .0 .1; desk = o .1 }
+    else stretchFrom O D k (suc made) (o .0 .0 .core, o .0 .1) (o .1)
 
 -- the register that a change names exists
 abbrev pub Places : Change → Type 0
@@ -125,3 +170,4 @@ Places (Special n v) = Unit
 Places (Retable t) = Unit
 Places (Cause causes datum) = Unit
 Places Return = Unit
+Places (Ticket v) = Unit

@@ -14,13 +14,23 @@ pub enum Change {
     Cause(u32, u32),
     // rfe.
     Return,
+    // A ticket taken: register 1 becomes it, register 3 becomes 0.
+    Ticket(u32),
 }
 
-// What an instruction asks for: a change, or first a load of a register from an address, or a store of a value there.
+// What an instruction asks for: a change, or first a load of a register from an address, a store of a value there, a ticket sent to a partition, or one taken.
 pub enum Effect {
     Done(Change),
     Load(usize, u32),
     Store(u32, u32),
+    Send(u32, u32),
+    Take,
+}
+
+// What the house answers to a ticket sent or taken: 0 done, 1 full, 2 no such partition, 3 none waiting; and the ticket taken.
+pub struct Reply {
+    pub code: u32,
+    pub ticket: u32,
 }
 
 // What reading a word at an address gives.

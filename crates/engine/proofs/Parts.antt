@@ -1,49 +1,63 @@
 -- A step put together from its parts, and what each part hands on to the next. Each part's answer is a variable here, so that the code's proofs
 -- only hand their equations over.
-use mathlib.Core.Path.{_≡_, sym, subst}
+use mathlib.Core.Path.{_≡_, refl, sym, ap, subst, _∙_}
 use mathlib.Core.Bool.{Bool, true, false}
 use mathlib.Core.List.{List}
 use Prim.Native.Nat.{ℕ, suc, _+_, _-_, _<_, _≤_}
 use native.Mathlib.Numerals.{add-one}
 use native.Mathlib.Omega.{arith}
-use Rattle.dlx.specs.Machine.{Ops, Core, Outcome, outcome, fetched, accessed, settled, retabled, step, stretchFrom, Places}
+use Rattle.dlx.specs.Machine.{Ops, Core, Outcome, outcome, fetched, accessed, settled, retabled, step, Request, requestOf, asked, Desk, accessedAt, stepAt, stretchFrom, Places}
 use Rattle.dlx.specs.declared.partition.Processor.{Processor}
 use Rattle.dlx.specs.declared.execute.Change.{Change}
 use Rattle.dlx.specs.declared.execute.Effect.{Effect}
 use Rattle.dlx.proofs.Places.{PlacesEffect, fetched-places, accessed-places}
+use Rattle.tickets.specs.Queues.{Queues, Seated, desk}
+use Rattle.tickets.proofs.Queues.{desk-queued}
 use Rattle.translate.specs.Memory.{Host, hostMemory}
 use Rattle.translate.proofs.Steps.{Whole, fetched-whole, accessed-whole, step-whole}
 
-pub step-is : {S : Type 0} (O : Ops S) (c : Core) (s s₁ s₂ s₃ : S) (e : Effect) (x : Change) (o : Outcome) → (e, s₁) ≡ fetched O (c, s) → (x, s₂) ≡ accessed O (c .processor) e s₁ → o ≡ settled c x → s₃ ≡ retabled O x s₂ → (o, s₃) ≡ step O (c, s)
-unfolding step
-step-is O c s s₁ s₂ s₃ e x o f a t r = simp (← f, ← a, t, r)
+module _ {S T : Type 0} (O : Ops S) (D : Desk T) where
+  pub step-is : (c : Core) (s s₁ s₂ s₃ : S) (q q₁ : T) (e : Effect) (x : Change) (o : Outcome) → (e, s₁) ≡ fetched O (c, s) → ((x, s₂), q₁) ≡ accessedAt O D (c .processor) e s₁ q → o ≡ settled c x → s₃ ≡ retabled O x s₂ → ((o, s₃), q₁) ≡ stepAt O D (c, s) q
+  unfolding step asked
+  step-is c s s₁ s₂ s₃ q q₁ e x o f a t r =
+      let a₀ : (x, s₂) ≡ accessed O (D q (requestOf e) .0) (c .processor) e s₁ = ap (λ (g : (Change × S) × T). g .0) a in
+      let a₁ : q₁ ≡ D q (requestOf e) .1 = ap (λ (g : (Change × S) × T). g .1) a in
+      simp (← f, ← a₀, ← a₁, t, r)
 
-module _ (fr : List ℕ) (n size : ℕ) where
+module _ (fr : List ℕ) (n size count i : ℕ) where
   pub after-fetch : (c : Core) (h h₁ : Host) (e : Effect) → Whole fr n size h → (e, h₁) ≡ fetched (hostMemory fr n) (c, h) → Whole fr n size h₁ × PlacesEffect e
   after-fetch c h h₁ e w f =
       subst (λ (g : Effect × Host). Whole fr n size (g .1) × PlacesEffect (g .0)) (sym f)
       (fetched-whole fr n size c h w, fetched-places (hostMemory fr n) c h)
 
-  pub after-access : (p : Processor) (h h₂ : Host) (e : Effect) (x : Change) → Whole fr n size h × PlacesEffect e → (x, h₂) ≡ accessed (hostMemory fr n) p e h → Whole fr n size h₂ × Places x
-  after-access p h h₂ e x w a =
-      subst (λ (g : Change × Host). Whole fr n size (g .1) × Places (g .0)) (sym a)
-      (accessed-whole fr n size p e h (w .0), accessed-places (hostMemory fr n) p e h (w .1))
+  pub after-access : (p : Processor) (h h₂ : Host) (q q₁ : Queues) (e : Effect) (x : Change) → Whole fr n size h × PlacesEffect e → ((x, h₂), q₁) ≡ accessedAt (hostMemory fr n) (desk count i) p e h q → Whole fr n size h₂ × Places x
+  after-access p h h₂ q q₁ e x w a =
+      subst (λ (g : (Change × Host) × Queues). Whole fr n size (g .0 .1) × Places (g .0 .0)) (sym a)
+      (accessed-whole fr n size _ p e h (w .0), accessed-places (hostMemory fr n) _ p e h (w .1))
 
-  pub after-step : (c : Core) (h h′ : Host) (o : Outcome) → Whole fr n size h → (o, h′) ≡ step (hostMemory fr n) (c, h) → Whole fr n size h′
-  after-step c h h′ o w s = subst (λ (g : Outcome × Host). Whole fr n size (g .1)) (sym s) (step-whole fr n size c h w)
+  pub after-step : (c : Core) (h h′ : Host) (q q′ : Queues) (o : Outcome) → Whole fr n size h → Seated count i q → ((o, h′), q′) ≡ stepAt (hostMemory fr n) (desk count i) (c, h) q → Whole fr n size h′ × Seated count i q′
+  after-step c h h′ q q′ o w k s =
+      subst (λ (g : (Outcome × Host) × Queues). Whole fr n size (g .0 .1) × Seated count i (g .1)) (sym s)
+      (step-whole fr n size _ c h w, record { queued = desk-queued count i q (k .queued) (k .few) (k .small) _; few = k .few; small = k .small })
 
 -- ---- a stretch, step by step
 
-module _ {S : Type 0} (O : Ops S) (k made : ℕ) (c : Core) (s : S) where
-  pub stretch-done : k ≤ made → record { made = made; called = false; core = c; memory = s } ≡ stretchFrom O (k - made) made (c, s)
+module _ {S T : Type 0} (O : Ops S) (D : Desk T) (k made : ℕ) (c : Core) (s : S) (q : T) where
+  pub stretch-done : k ≤ made → record { made = made; called = false; core = c; memory = s; desk = q } ≡ stretchFrom O D (k - made) made (c, s) q
   unfolding stretchFrom
   stretch-done h = let e : k - made ≡ 0 = omega arith in simp e
 
-  module _ (c′ : Core) (s′ : S) (b : Bool) (less : made < k) (stepped : (outcome c′ b, s′) ≡ step O (c, s)) where
-    pub stretch-called : b ≡ true → record { made = made + 1; called = true; core = c′; memory = s′ } ≡ stretchFrom O (k - made) made (c, s)
-    unfolding stretchFrom
-    stretch-called h = let e : k - made ≡ suc (k - (made + 1)) = omega arith in simp (e, ← stepped, h, add-one)
+  module _ (c′ : Core) (s′ : S) (q′ : T) (b : Bool) (less : made < k) (stepped : ((outcome c′ b, s′), q′) ≡ stepAt O D (c, s) q) where
+    st₀ : (outcome c′ b, s′) ≡ step O (D q (asked O (c, s)) .0) (c, s)
+    st₀ = ap (λ (g : (Outcome × S) × T). g .0) stepped
 
-    pub stretch-on : b ≡ false → stretchFrom O (k - (made + 1)) (made + 1) (c′, s′) ≡ stretchFrom O (k - made) made (c, s)
+    st₁ : q′ ≡ D q (asked O (c, s)) .1
+    st₁ = ap (λ (g : (Outcome × S) × T). g .1) stepped
+
+    pub stretch-called : b ≡ true → record { made = made + 1; called = true; core = c′; memory = s′; desk = q′ } ≡ stretchFrom O D (k - made) made (c, s) q
     unfolding stretchFrom
-    stretch-on h = let e : k - made ≡ suc (k - (made + 1)) = omega arith in rw e (simp (← stepped, h, add-one))
+    stretch-called h = let e : k - made ≡ suc (k - (made + 1)) = omega arith in simp (e, ← st₀, ← st₁, h, add-one)
+
+    pub stretch-on : b ≡ false → stretchFrom O D (k - (made + 1)) (made + 1) (c′, s′) q′ ≡ stretchFrom O D (k - made) made (c, s) q
+    unfolding stretchFrom
+    stretch-on h = let e : k - made ≡ suc (k - (made + 1)) = omega arith in rw e (simp (← st₀, ← st₁, h, add-one))

@@ -3,6 +3,7 @@ use mathlib.Core.List.{List}
 use Prim.Native.Nat.{ℕ}
 use Rattle.dlx.specs.Machine.{Outcome, outcome, core, Stretch}
 use Rattle.translate.specs.Memory.{Host, host}
+use Rattle.tickets.specs.Queues.{Queues}
 use Rattle.engine.specs.declared.Stepped.{Stepped}
 use Rattle.engine.specs.declared.Stretched.{Stretched}
 
@@ -11,10 +12,11 @@ abbrev pub outcomeOf : Stepped → List ℕ → List ℕ → List ℕ → Outcom
 outcomeOf r regs words shadow = (outcome (core (r .processor) regs) (r .calls), host (r .table) words shadow)
 
 -- a stretch's
-abbrev pub stretchOf : Stretched → List ℕ → List ℕ → List ℕ → Stretch Host
-stretchOf r regs words shadow = record {
+abbrev pub stretchOf : Stretched → List ℕ → List ℕ → List ℕ → Queues → Stretch Host Queues
+stretchOf r regs words shadow q = record {
   made = r .made;
   called = r .called;
   core = core (r .processor) regs;
   memory = host (r .table) words shadow;
+  desk = q;
 }

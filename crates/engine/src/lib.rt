@@ -3,7 +3,8 @@ ghost use mathlib.Core.Path.{_≡_};
 ghost use mathlib.Core.List.{List};
 ghost use Prim.Native.Nat.{ℕ};
 ghost use lib.ListN.{length};
-ghost use Rattle.dlx.specs.Machine.{core, fetched, accessed, retabled, step, stretchFrom};
+ghost use Rattle.dlx.specs.Machine.{core, fetched, accessedAt, retabled, stepAt, stretchFrom};
+ghost use Rattle.tickets.specs.Queues.{queues, desk, Seated};
 ghost use Rattle.translate.specs.Memory.{host, hostMemory};
 ghost use Rattle.translate.specs.Premises.{Placed, Shadowed};
 ghost use Rattle.engine.specs.Answers.{outcomeOf, stretchOf};
@@ -65,10 +66,14 @@ fn access(
     frames: &[u32],
     shadow: &mut [u32],
     words: &mut [u32],
+    count: u32,
+    i: u32,
+    tickets: &mut [u32],
+    waiting: &mut [u32],
     e: Effect,
 ) -> Change
-    requires { ⌜ Placed (now frames) pages (length (now words)) ⌝ ∗ ⌜ Shadowed (now frames) pages (now shadow) ⌝ }
-    ensures { λ r. ⌜ (r, host t (now (words .exit)) (now (shadow .exit))) ≡ accessed (hostMemory (now (frames .entry)) pages) p e (host t (now (words .entry)) (now (shadow .entry))) ⌝ }
+    requires { ⌜ Placed (now frames) pages (length (now words)) ⌝ ∗ ⌜ Shadowed (now frames) pages (now shadow) ⌝ ∗ ⌜ Seated count i (queues (now tickets) (now waiting)) ⌝ }
+    ensures { λ r. ⌜ ((r, host t (now (words .exit)) (now (shadow .exit))), queues (now (tickets .exit)) (now (waiting .exit))) ≡ accessedAt (hostMemory (now (frames .entry)) pages) (desk count i) p e (host t (now (words .entry)) (now (shadow .entry))) (queues (now (tickets .entry)) (now (waiting .entry))) ⌝ }
 {
     let next = std::num::wrapping_add_u32(p.pc, 4);
     match e {
@@ -91,6 +96,17 @@ fn access(
             }
             Change::Cause(Partition::PFLS, a)
         }
+        Effect::Send(v, to) => {
+            let reply = tickets::send(count, tickets, waiting, v, to);
+            Change::Plain(3, reply.code, next)
+        }
+        Effect::Take => {
+            let reply = tickets::take(tickets, waiting, i);
+            if reply.code == 0 {
+                return Change::Ticket(reply.ticket);
+            }
+            Change::Plain(3, reply.code, next)
+        }
     }
 }
 
@@ -108,6 +124,7 @@ fn retable(t: Table, shadow: &mut [u32], c: Change) -> Table
         }
         Change::Cause(_, _) => t,
         Change::Return => t,
+        Change::Ticket(_) => t,
     }
 }
 
@@ -120,12 +137,16 @@ pub fn step(
     frames: &[u32],
     shadow: &mut [u32],
     words: &mut [u32],
+    count: u32,
+    i: u32,
+    tickets: &mut [u32],
+    waiting: &mut [u32],
 ) -> Stepped
-    requires { ⌜ length (now regs) ≡ 32 ⌝ ∗ ⌜ Placed (now frames) pages (length (now words)) ⌝ ∗ ⌜ Shadowed (now frames) pages (now shadow) ⌝ }
-    ensures { λ r. ⌜ outcomeOf r (now (regs .exit)) (now (words .exit)) (now (shadow .exit)) ≡ step (hostMemory (now (frames .entry)) pages) (core p (now (regs .entry)), host t (now (words .entry)) (now (shadow .entry))) ⌝ }
+    requires { ⌜ length (now regs) ≡ 32 ⌝ ∗ ⌜ Placed (now frames) pages (length (now words)) ⌝ ∗ ⌜ Shadowed (now frames) pages (now shadow) ⌝ ∗ ⌜ Seated count i (queues (now tickets) (now waiting)) ⌝ }
+    ensures { λ r. ⌜ (outcomeOf r (now (regs .exit)) (now (words .exit)) (now (shadow .exit)), queues (now (tickets .exit)) (now (waiting .exit))) ≡ stepAt (hostMemory (now (frames .entry)) pages) (desk count i) (core p (now (regs .entry)), host t (now (words .entry)) (now (shadow .entry))) (queues (now (tickets .entry)) (now (waiting .entry))) ⌝ }
 {
     let e = fetch(p, t, pages, regs, frames, shadow, words);
-    let c = access(p, t, pages, frames, shadow, words, e);
+    let c = access(p, t, pages, frames, shadow, words, count, i, tickets, waiting, e);
     let s = processor::execute::settle(p, regs, c);
     let n = retable(t, shadow, c);
     let q = s.processor;
@@ -145,16 +166,32 @@ pub fn stretch(
     frames: &[u32],
     shadow: &mut [u32],
     words: &mut [u32],
+    count: u32,
+    i: u32,
+    tickets: &mut [u32],
+    waiting: &mut [u32],
     k: u32,
 ) -> Stretched
-    requires { ⌜ length (now regs) ≡ 32 ⌝ ∗ ⌜ Placed (now frames) pages (length (now words)) ⌝ ∗ ⌜ Shadowed (now frames) pages (now shadow) ⌝ }
-    ensures { λ r. ⌜ stretchOf r (now (regs .exit)) (now (words .exit)) (now (shadow .exit)) ≡ stretchFrom (hostMemory (now (frames .entry)) pages) k 0 (core p (now (regs .entry)), host t (now (words .entry)) (now (shadow .entry))) ⌝ }
+    requires { ⌜ length (now regs) ≡ 32 ⌝ ∗ ⌜ Placed (now frames) pages (length (now words)) ⌝ ∗ ⌜ Shadowed (now frames) pages (now shadow) ⌝ ∗ ⌜ Seated count i (queues (now tickets) (now waiting)) ⌝ }
+    ensures { λ r. ⌜ stretchOf r (now (regs .exit)) (now (words .exit)) (now (shadow .exit)) (queues (now (tickets .exit)) (now (waiting .exit))) ≡ stretchFrom (hostMemory (now (frames .entry)) pages) (desk count i) k 0 (core p (now (regs .entry)), host t (now (words .entry)) (now (shadow .entry))) (queues (now (tickets .entry)) (now (waiting .entry))) ⌝ }
 {
     let mut processor = p;
     let mut table = t;
     let mut made: u32 = 0;
     while made < k {
-        let s = step(processor, table, pages, regs, frames, shadow, words);
+        let s = step(
+            processor,
+            table,
+            pages,
+            regs,
+            frames,
+            shadow,
+            words,
+            count,
+            i,
+            tickets,
+            waiting,
+        );
         processor = s.processor;
         table = s.table;
         made += 1;

@@ -14,20 +14,22 @@ use Rattle.dlx.specs.Words.{extendedBy, readIn, holds}
 use Rattle.dlx.specs.Instructions.{registerType, instructionOf}
 use Rattle.dlx.specs.Processor.{specialOf, withSpecial}
 use Rattle.dlx.specs.Interrupts.{levelOf, interrupted}
-use Rattle.dlx.specs.Execute.{written, valueOf, overflowsOf, operated, reached, loads, stores, movedTo, effectOf}
-use Rattle.dlx.specs.Machine.{executed, fetched, loaded, stored, accessed, settled, retabled, step}
+use Rattle.dlx.specs.Execute.{written, valueOf, overflowsOf, operated, reached, loads, stores, movedTo, trapOf, effectOf}
+use Rattle.dlx.specs.Machine.{executed, fetched, loaded, stored, taken, accessed, settled, retabled, step, requestOf, asked}
 use Rattle.dlx.specs.Examples.{all}
 use Rattle.translate.specs.Entries.{judged, composed}
 use Rattle.translate.specs.Walk.{walked, direct}
 use Rattle.translate.specs.Memory.{hosted, given, filled, looked, served, hostRead, emptied, hostWritten, hostReads, hostWrites}
-use Rattle.translate.proofs.Tests.{by-test, by-eq, and-left, getD-replicate-same}
-use Rattle.house.specs.Lists.{inner, outer, listFrom, any, firstFrom}
+use Rattle.dlx.proofs.Tests.{by-test, by-eq, and-left, getD-replicate-same}
+use Rattle.tickets.specs.Parts.{inner, outer}
+use Rattle.house.specs.Lists.{listFrom, any, firstFrom}
 use Rattle.house.specs.House.{noHouse}
-use Rattle.house.specs.Damage.{outsideLimits, frameTwice, turnWrong, registersWrong, shadowWrong, unusedWrong, partitionUsed, damaged}
+use Rattle.tickets.specs.Queues.{sending, taking, desk}
+use Rattle.house.specs.Damage.{outsideLimits, frameTwice, turnWrong, registersWrong, shadowWrong, unusedWrong, partitionUsed, queuesWrong, damaged}
 use Rattle.house.specs.Boot.{firstOf, sum, bootVerdict, laid, offset, bootedHouse}
-use Rattle.house.specs.Turns.{nextFrom, turnOf, guestStep, settledHouse, stepWith, hostStep, hostSteps}
+use Rattle.house.specs.Turns.{nextFrom, turnOf, requestNow, replyNow, queuesNext, guestStep, settledHouse, stepWith, hostStep, hostSteps}
 use Rattle.house.specs.Calls.{bootCall, runVerdict, runCall, oneVerdict, started, stopped, emptiedHouse, startCall, stopCall, emptyCall, readVerdict, readOut, readCall}
-use Rattle.house.specs.Examples.{alone, two, idle, three, pair, interrupt, current, answers, same, flags, fields, numbers, sameHouse, ran, once, mapped, papers, plain, unbooted, boots, widest, after, trapped, six, counts, turns, refuses, reading, gives, calls, beyond, twice, outOfTurn, misset, astray, used, leftover, damages, places, whole}
+use Rattle.house.specs.Examples.{alone, two, idle, three, pair, interrupt, current, answers, same, flags, fields, numbers, sameHouse, ran, once, mapped, papers, plain, unbooted, boots, widest, after, trapped, six, counts, turns, refuses, reading, gives, calls, beyond, twice, outOfTurn, misset, astray, used, leftover, damages, places, asks, leaves, exchanges, whole}
 use Rattle.house.proofs.Lists.{and-right}
 use Rattle.house.proofs.Searches.{getD-listFrom, length-listFrom}
 
@@ -63,7 +65,7 @@ joined (x ∷ a) b e f = rw (and-left x (all a) e) (joined a b (and-right x (all
 
 -- all that the examples compute with, but damage
 computing : ℕ
-unfolding all papers boots widest turns calls whole damages places alone two idle three pair interrupt current answers same flags fields numbers sameHouse ran once mapped plain unbooted after trapped six counts refuses reading gives beyond twice outOfTurn misset astray used leftover inner outer listFrom any firstFrom firstOf sum bootVerdict laid offset bootedHouse nextFrom turnOf guestStep settledHouse stepWith hostStep hostSteps bootCall runVerdict runCall oneVerdict started stopped emptiedHouse startCall stopCall emptyCall readVerdict readOut readCall judged composed walked direct hosted given filled looked served hostRead emptied hostWritten hostReads hostWrites step fetched executed loaded stored accessed settled retabled instructionOf registerType effectOf written valueOf overflowsOf operated reached loads stores movedTo specialOf withSpecial interrupted levelOf trailingZeros extendedBy readIn holds
+unfolding all papers boots widest turns calls whole damages places exchanges asks leaves alone two idle three pair interrupt current answers same flags fields numbers sameHouse ran once mapped plain unbooted after trapped six counts refuses reading gives beyond twice outOfTurn misset astray used leftover inner outer listFrom any firstFrom firstOf sum bootVerdict laid offset bootedHouse nextFrom turnOf requestNow replyNow queuesNext desk sending taking asked requestOf guestStep settledHouse stepWith hostStep hostSteps bootCall runVerdict runCall oneVerdict started stopped emptiedHouse startCall stopCall emptyCall readVerdict readOut readCall judged composed walked direct hosted given filled looked served hostRead emptied hostWritten hostReads hostWrites step fetched executed loaded stored taken accessed settled retabled instructionOf registerType effectOf written valueOf overflowsOf operated reached loads stores movedTo trapOf specialOf withSpecial interrupted levelOf trailingZeros extendedBy readIn holds
 computing = 0
 
 -- how a call comes to its answer
@@ -73,7 +75,7 @@ answering = 0
 
 -- damage, and the houses in which it is looked for
 damaging : ℕ
-unfolding all places damaged outsideLimits frameTwice turnWrong registersWrong shadowWrong unusedWrong partitionUsed two idle stopped bootedHouse
+unfolding all places damaged outsideLimits frameTwice turnWrong registersWrong shadowWrong unusedWrong queuesWrong partitionUsed two idle stopped bootedHouse
 damaging = 0
 
 -- ---- the claim
@@ -82,10 +84,10 @@ damaging = 0
 apart : any (λ i. any (λ j. eqb (getD (listFrom (λ i. i) 0 256) j 0) (getD (listFrom (λ i. i) 0 256) i 0)) i) 256 ≡ false
 apart = simp rule-at (unfold any in refl)
 
-pub checked : all (papers ++ (boots ++ (widest ++ (turns ++ (calls ++ (damages ++ (places ++ whole))))))) ≡ true
+pub checked : all (papers ++ (boots ++ (widest ++ (turns ++ (calls ++ (damages ++ (places ++ (exchanges ++ whole)))))))) ≡ true
 checked =
     joined papers _ of-papers (joined boots _ of-boots (joined widest _ of-widest (joined turns _ of-turns
-    (joined calls _ of-calls (joined damages _ of-damages (joined places whole of-places of-whole))))))
+    (joined calls _ of-calls (joined damages _ of-damages (joined places _ of-places (joined exchanges whole of-exchanges of-whole)))))))
   where
     of-papers : all papers ≡ true
     of-papers = unfold computing in refl
@@ -117,6 +119,9 @@ checked =
 
     of-places : all places ≡ true
     of-places = unfold damaging in simp (set-at, part-at, rule-at, getD-replicate-same) (unfold computing in refl)
+
+    of-exchanges : all exchanges ≡ true
+    of-exchanges = unfold damaging computing in refl
 
     of-whole : all whole ≡ true
     of-whole = unfold all whole in simp (two-whole, idle-whole, none-damaged)

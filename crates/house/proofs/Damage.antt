@@ -1,6 +1,6 @@
 -- A house of which every statement of `Undamaged` holds is not damaged; the house of no partitions is.
 use mathlib.Core.Path.{_≡_, refl, ap}
-use mathlib.Core.Bool.{Bool, true, false, not}
+use mathlib.Core.Bool.{Bool, true, false, not, _&&_}
 use Prim.Native.Nat.{ℕ, _*_, _/_, _%_, _<_, _≤_}
 use native.Mathlib.Omega.{arith}
 use borrow.Author.Tests.{eqb-true, eqb-false, leb-true, ltb-true, ltb-false, eq-eqb, lt-leb, le-ltb}
@@ -8,19 +8,21 @@ use lib.Dec.{ltb, leb, eqb}
 use lib.ListN.{getD}
 use Rattle.dlx.proofs.Kept.{either}
 use Rattle.translate.specs.Walk.{entries}
-use Rattle.translate.proofs.Tests.{by-test}
+use Rattle.dlx.proofs.Tests.{by-test}
 use Rattle.house.specs.Lists.{any}
 use Rattle.house.specs.House.{noHouse, pagesOf, runs, framesOf, shadowOf}
-use Rattle.house.specs.Damage.{wholeFrames, outsideLimits, stands, frameTwice, turnWrong, registersWrong, shadowWrong, unusedWrong, damaged}
+use Rattle.house.specs.Damage.{wholeFrames, outsideLimits, stands, frameTwice, turnWrong, registersWrong, shadowWrong, unusedWrong, queueWrong, queuesWrong, damaged}
 use Rattle.house.specs.Sound.{Undamaged}
+use Rattle.tickets.specs.Queues.{placesOf, waitingOf}
+use Rattle.house.specs.Tickets.{queuesOf}
 use Rattle.house.specs.declared.House.{House}
 use Rattle.house.proofs.Lists.{or-none, any-from}
 use Rattle.house.proofs.Conditions.{within-from, none-stands, zero-is, zeros-from, proper-entry, unused-partition, badPages, badFrames, frameStands, badCore, badEntry, badBehind, badUnused, badPlace}
 
--- none of the six conditions
-pub none-wrong : (h : House) → outsideLimits h ≡ false → frameTwice h ≡ false → turnWrong h ≡ false → registersWrong h ≡ false → shadowWrong h ≡ false → unusedWrong h ≡ false → damaged h ≡ false
+-- none of the seven conditions
+pub none-wrong : (h : House) → outsideLimits h ≡ false → frameTwice h ≡ false → turnWrong h ≡ false → registersWrong h ≡ false → shadowWrong h ≡ false → unusedWrong h ≡ false → queuesWrong h ≡ false → damaged h ≡ false
 unfolding damaged
-none-wrong h a b c d e f = or-none (or-none (or-none (or-none (or-none a b) c) d) e) f
+none-wrong h a b c d e f g = or-none (or-none (or-none (or-none (or-none (or-none a b) c) d) e) f) g
 
 module _ (h : House) (u : Undamaged h) where
   size-right : wholeFrames (h .words) ≡ true
@@ -81,8 +83,20 @@ module _ (h : House) (u : Undamaged h) where
       any-from (badPlace h) 8 λ i m.
       either (λ (b : Bool). b ≡ false) (ltb i (h .count)) (λ t. behind-zero i (ltb-true i (h .count) t)) (λ t. place-zero i (ltb-false i (h .count) t) m)
 
+  queue-right : (j : ℕ) → j < 8 → queueWrong h j ≡ false
+  queue-right j l =
+      let z = u .queued j l in
+      or-none (or-none (le-ltb 32 _ (z .most))
+      (by-test (leb (h .count) j) (λ t. rw t (zero-is _ (z .none (leb-true _ _ t)))) (λ t. rw t)))
+      (any-from (λ k. leb (waitingOf (queuesOf h) j) k && not (eqb (getD (placesOf (queuesOf h) j) k 0) 0)) 32 λ k m.
+      by-test (leb (waitingOf (queuesOf h) j) k) (λ t. rw t (zero-is _ (z .spare k (leb-true _ _ t) m))) (λ t. rw t))
+
+  queues-right : queuesWrong h ≡ false
+  unfolding queuesWrong
+  queues-right = any-from (queueWrong h) 8 queue-right
+
   pub undamaged-from : damaged h ≡ false
-  undamaged-from = none-wrong h within-limits each-once turn-right registers-right shadows-right unused-right
+  undamaged-from = none-wrong h within-limits each-once turn-right registers-right shadows-right unused-right queues-right
 
 -- the house of no partitions is damaged, so that every call on it is refused
 pub none-damaged : damaged noHouse ≡ true

@@ -1,32 +1,36 @@
 -- The three demands: a theorem for each statement of specs/Demands.antt, in its order.
 use mathlib.Core.Path.{_≡_, refl, sym, ap, subst, _∙_}
 use mathlib.Core.Bool.{false}
-use Prim.Native.Nat.{ℕ}
+use Prim.Native.Nat.{ℕ, _+_}
 use native.Mathlib.Omega.{arith}
 use borrow.Author.Tests.{ne-eqb}
 use lib.Dec.{eqb}
-use lib.ListN.{length, getD}
+use lib.ListN.{length, getD, length-append}
 use Rattle.dlx.specs.Choice.{if_then_else_}
 use Rattle.dlx.specs.Machine.{steps}
+use Rattle.dlx.proofs.Feeds.{steps-same}
 use Rattle.translate.specs.Memory.{loneMemory}
-use Rattle.translate.proofs.Tests.{by-eq}
+use Rattle.dlx.proofs.Tests.{by-eq}
 use Rattle.house.specs.House.{noHouse}
 use Rattle.house.specs.Damage.{damaged}
 use Rattle.house.specs.Boot.{bootVerdict}
 use Rattle.house.specs.Turns.{World, world}
 use Rattle.house.specs.Calls.{bootCall, runVerdict, runCall, oneVerdict, startCall, stopCall, emptyCall, readVerdict, readCall}
-use Rattle.house.specs.Histories.{booted, turnsMade, loneAtBoot}
-use Rattle.house.specs.Demands.{RefusedMeansUntouched, Isolation, RunIsolation, NeverDamaged, Step, WithinRuns, Reach, Histories, EqualGuests, EqualCounters, ReadsThosePages, Fairness}
+use Rattle.house.specs.Histories.{booted, history, turnsMade, loneAtBoot, queueIn, logOf, ticketsOff, feedOf}
+use Rattle.house.specs.Tickets.{queuesOf}
+use Rattle.house.specs.Demands.{RefusedMeansUntouched, Isolation, RunIsolation, NeverDamaged, Step, WithinRuns, Reach, Histories, EqualGuests, EqualCounters, Tickets, TicketCounts, ReadsThosePages, Fairness}
 use Rattle.house.proofs.Verdicts.{run-done}
 use Rattle.house.proofs.Undamaged.{sound}
 use Rattle.house.proofs.Isolated.{step-isolated}
 use Rattle.house.proofs.IsolatedRun.{same-verdict, answers-alike}
-use Rattle.house.proofs.FreshHouse.{booted-whole, booted-ready}
+use Rattle.house.proofs.FreshHouse.{booted-few, booted-whole, booted-ready}
 use Rattle.house.proofs.Stays.{history-stays}
 use Rattle.house.proofs.Standing.{step-of}
 use Rattle.house.proofs.Grown.{standing, run-grown, run-busy}
 use Rattle.house.proofs.Landings.{lands}
-use Rattle.house.proofs.Counted.{at-end}
+use Rattle.house.proofs.Counted.{at-end, end-lone, end-counter}
+use Rattle.tickets.proofs.Queues.{queue-count}
+use Rattle.house.proofs.Turns.{queued-of}
 use Rattle.house.proofs.ReadOut.{reads-pages}
 use Rattle.house.proofs.Fairness.{others-most}
 
@@ -75,16 +79,30 @@ reach-demand b w g = lands b w (standing b w g)
 -- ---- demand 3
 
 pub histories-demand : Histories
-histories-demand b cs i l = let e = at-end b i l cs in (e .lone, e .counter)
+histories-demand b cs i l = (end-lone b i l cs, end-counter b i l cs)
 
 pub equal-guests : EqualGuests
-equal-guests b cs cs′ i l e =
-    at-end b i l cs .lone
-    ∙ ap (λ (k : ℕ). steps (loneMemory (getD (b .pages) i 0)) k (loneAtBoot b i)) e
-    ∙ sym (at-end b i l cs′ .lone)
+equal-guests b cs cs′ i l e s =
+    let O = loneMemory (getD (b .pages) i 0) in
+    end-lone b i l cs
+    ∙ steps-same O (feedOf cs (booted b) i) (feedOf cs′ (booted b) i) (turnsMade cs (booted b) i) (loneAtBoot b i) s
+    ∙ ap (λ (k : ℕ). steps O (feedOf cs′ (booted b) i) k (loneAtBoot b i)) e
+    ∙ sym (end-lone b i l cs′)
 
 pub equal-counters : EqualCounters
-equal-counters b cs cs′ i l few few′ e = equal-guests b cs cs′ i l (omega (arith, at-end b i l cs .counter, at-end b i l cs′ .counter))
+equal-counters b cs cs′ i l few few′ s e = equal-guests b cs cs′ i l (omega (arith, end-counter b i l cs, end-counter b i l cs′)) s
+
+pub tickets-demand : Tickets
+tickets-demand b cs j l = at-end b j l cs .tickets
+
+pub ticket-counts : TicketCounts
+ticket-counts b cs j l =
+    let log = logOf cs (booted b) in
+    let w = history cs (booted b) in
+    let st = standing b w (cs, refl) in
+    ap length (tickets-demand b cs j l)
+    ∙ length-append (ticketsOff j log) (queueIn w j)
+    ∙ ap (λ (n : ℕ). length (ticketsOff j log) + n) (queue-count (queuesOf (w .house)) (queued-of (w .house) (st .shaped) (st .most)) j (omega (arith, booted-few b)))
 
 pub reads-those-pages : ReadsThosePages
 reads-those-pages b w g = reads-pages w

@@ -9,8 +9,7 @@ use Rattle.house.specs.House.{shadowOf}
 use Rattle.house.specs.Calls.{emptiedHouse}
 use Rattle.house.specs.Sound.{Shaped}
 use Rattle.house.specs.declared.House.{House}
-use Rattle.house.proofs.Parts.{inner-outer, outer-length}
-use Rattle.house.proofs.Turns.{entries-apart}
+use Rattle.tickets.proofs.Parts.{inner-outer, outer-length, entries-apart}
 
 pub fresh-count : length freshShadow ≡ 256
 fresh-count = length-replicate {A = ℕ} entries 0
@@ -27,6 +26,8 @@ module _ (h : House) (i : ℕ) (s : Shaped h) (small : i < 8) where
     regs = s .regs;
     frames = s .frames;
     shadows = outer-length (h .shadows) (i * 256) 256 room freshShadow fresh-count ∙ s .shadows;
+    tickets = s .tickets;
+    waiting = s .waiting;
   }
 
   pub emptied-own : shadowOf (emptiedHouse h i) i ≡ freshShadow

@@ -10,7 +10,7 @@ use lib.Dec.{eqb, ltb}
 use lib.ListN.{length, getD, set}
 use Rattle.dlx.specs.Choice.{if_then_else_}
 use Rattle.dlx.proofs.Kept.{either}
-use Rattle.translate.proofs.Tests.{either-both, by-eq, and-left, getD-set-default}
+use Rattle.dlx.proofs.Tests.{either-both, by-eq, and-left, getD-set-default}
 use Rattle.house.specs.Lists.{any}
 use Rattle.house.specs.House.{runs}
 use Rattle.house.specs.Damage.{damaged}

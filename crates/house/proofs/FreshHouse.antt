@@ -13,7 +13,7 @@ use Rattle.dlx.specs.declared.partition.Partition.{Partition}
 use Rattle.dlx.proofs.Kept.{either}
 use Rattle.translate.specs.Memory.{freshShadow}
 use Rattle.translate.proofs.Kept.{zeros-words}
-use Rattle.translate.proofs.Tests.{by-test, getD-replicate-same}
+use Rattle.dlx.proofs.Tests.{by-test, getD-replicate-same}
 use Rattle.house.specs.Lists.{listFrom}
 use Rattle.house.specs.House.{noPartition, partition, pagesOf, runs, registersOf, framesOf, shadowOf}
 use Rattle.house.specs.Damage.{damaged}
@@ -25,7 +25,7 @@ use Rattle.house.specs.declared.House.{House}
 use Rattle.house.proofs.Lists.{by-order}
 use Rattle.house.proofs.Searches.{length-listFrom, listFrom-at}
 use Rattle.house.proofs.Conditions.{empty-proper}
-use Rattle.house.proofs.Parts.{part-at, inner-replicate}
+use Rattle.tickets.proofs.Parts.{part-at, inner-replicate}
 use Rattle.house.proofs.Offsets.{offset-below, offset-in, laid-page, laid-behind, laid-after}
 use Rattle.house.proofs.Verdicts.{BootDone, boot-done}
 use Rattle.house.proofs.Damage.{undamaged-from}
@@ -91,6 +91,8 @@ module _ (b : Boot) where
     regs = length-replicate {A = ℕ} 256 0;
     frames = length-listFrom (laid ps fr) 0 2048;
     shadows = length-replicate {A = ℕ} 2048 0;
+    tickets = length-replicate {A = ℕ} 256 0;
+    waiting = length-replicate {A = ℕ} 8 0;
   }
 
   pub booted-runs : (i : ℕ) → i < 8 → runs h i ≡ ltb i (length ps)
@@ -182,6 +184,11 @@ module _ (b : Boot) where
     proper = λ i px l m. rw (booted-shadow i (omega (arith, booted-few)), getD-replicate-same 256 0 px) (empty-proper (framesOf h i) (pagesOf h i));
     behind = λ i k l m n. booted-behind i l k n (rw (booted-pages i l) at m);
     unused = booted-unused;
+    queued = λ j l. record {
+      most = omega (arith, getD-replicate-same 8 0 j);
+      none = λ _. getD-replicate-same 8 0 j;
+      spare = λ k _ m. part-at (replicate 256 0) (j * 32) 32 k m ∙ getD-replicate-same 256 0 (j * 32 + k);
+    };
   }
 
   pub booted-whole : damaged h ≡ false
@@ -226,6 +233,8 @@ module _ (b : Boot) where
     regs = zeros-words 256;
     frames = frames-words;
     shadows = zeros-words 2048;
+    tickets = zeros-words 256;
+    waiting = zeros-words 8;
     memory = t;
   }
 

@@ -11,7 +11,7 @@ use Rattle.dlx.proofs.Kept.{either}
 use Rattle.translate.specs.Entries.{valid}
 use Rattle.translate.specs.Memory.{given, freshShadow}
 use Rattle.translate.proofs.Entries.{fresh-invalid}
-use Rattle.translate.proofs.Tests.{by-eq}
+use Rattle.dlx.proofs.Tests.{by-eq, getD-replicate-same}
 use Rattle.house.specs.Lists.{any}
 use Rattle.house.specs.House.{partition, framesOf, shadowOf}
 use Rattle.house.specs.Boot.{firstOf, bootedHouse}
@@ -39,6 +39,7 @@ standing-boot b = record {
   layout = same-layout (booted b .house);
   here = booted-undamaged b .some;
   size = refl;
+  most = λ j. omega (arith, getD-replicate-same 8 0 j);
   right = λ i l. fresh-right (booted b) i (booted-shadow b i (omega (arith, booted-undamaged b .few)));
 }
 
@@ -49,10 +50,11 @@ module _ (b : Boot) (w : World) (st : Standing b w) where
   -- who runs, and whose turn it is
   standing-turn : (running : List Bool) (t : Turn) → length running ≡ 8 → t .current < w .house .count → Standing b (world (withTurn (w .house) running t) (w .memory))
   standing-turn running t l c = record {
-    shaped = record { running = l; parts = st .shaped .parts; regs = st .shaped .regs; frames = st .shaped .frames; shadows = st .shaped .shadows };
+    shaped = record { running = l; parts = st .shaped .parts; regs = st .shaped .regs; frames = st .shaped .frames; shadows = st .shaped .shadows; tickets = st .shaped .tickets; waiting = st .shaped .waiting };
     layout = layout-on (booted b .house) (w .house) _ (st .layout) (changed-layout (w .house) running t _);
     here = c;
     size = st .size;
+    most = st .most;
     right = st .right;
   }
 
@@ -84,6 +86,7 @@ module _ (b : Boot) (w : World) (st : Standing b w) where
           layout = layout-on (booted b .house) (w .house) _ (st .layout) (changed-layout (w .house) _ (turn (w .house .current) (w .house .left)) _);
           here = st .here;
           size = st .size;
+          most = st .most;
           right = λ j m. by-eq j i
               (λ e. subst (RightShadow x) (sym e) (fresh-right x i (emptied-own (w .house) i (st .shaped) small)))
               (λ d.

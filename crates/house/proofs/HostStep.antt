@@ -10,15 +10,16 @@ use Rattle.dlx.proofs.Kept.{getD-set-elim, Kept}
 use Rattle.translate.specs.Memory.{Host}
 use Rattle.translate.proofs.Kept.{KeptHost}
 use Rattle.translate.proofs.Each.{Each}
-use Rattle.translate.proofs.Tests.{by-eq}
+use Rattle.dlx.proofs.Tests.{by-eq}
 use Rattle.house.specs.House.{noPartition, partition, pagesOf, registersOf, framesOf, shadowOf}
-use Rattle.house.specs.Turns.{World, world, turnAfter, guestStep, counted, settledHouse, stepWith, hostStep, hostSteps}
+use Rattle.house.specs.Turns.{World, world, turnAfter, guestStep, queuedOn, counted, settledHouse, stepWith, hostStep, hostSteps}
+use Rattle.house.specs.Tickets.{queuesOf}
 use Rattle.house.specs.Sound.{Proper, Undamaged, TypedPartition, Typed, Ready, Stays}
 use Rattle.house.specs.declared.Turn.{Turn}
-use Rattle.house.proofs.Parts.{outer-each}
-use Rattle.house.proofs.Turns.{steps-keep, in-turn, in-turn-on, InTurn, settled-pages, settled-shaped, settled-partition, settled-registers, settled-shadow, other-partition, other-registers, other-shadow}
+use Rattle.tickets.proofs.Parts.{outer-each}
+use Rattle.house.proofs.Turns.{queued-of, queued-next, queued-shaped, steps-keep, in-turn, in-turn-on, InTurn, settled-pages, settled-shaped, settled-partition, settled-registers, settled-shadow, other-partition, other-registers, other-shadow}
 use Rattle.house.proofs.Damage.{undamaged-from}
-use Rattle.house.proofs.Guests.{here, step-all}
+use Rattle.house.proofs.Guests.{ready-sound, here, step-all, next-words, next-proper}
 use Rattle.house.proofs.SameLayout.{steps-layout}
 
 -- ---- the house in which the current partition's step came to o, and the turn to t
@@ -82,6 +83,7 @@ module _ (w : World) (r : Ready w) (o : Outcome × Host) (t : Turn) where
                 frames = z .frames;
                 shadows = own-or-other (λ _ _ s. (k : ℕ) → k < 256 → getD s k 0 ≡ 0) j m (λ q. absurd (d q)) (λ _. z .shadows);
               };
+          queued = u .queued;
         }
 
     counted-typed : TypedPartition (counted (partition (w .house) i) o)
@@ -121,6 +123,8 @@ module _ (w : World) (r : Ready w) (o : Outcome × Host) (t : Turn) where
           regs = outer-each (w .house .regs) (i * 32) 32 (omega (arith, s .regs, small)) (o .0 .core .registers) a (λ v. v < 2 ^ 32) (r .typed .regs) (core .registers .words);
           frames = r .typed .frames;
           shadows = outer-each (w .house .shadows) (i * 256) 256 (omega (arith, s .shadows, small)) (o .1 .shadow) b (λ v. v < 2 ^ 32) (r .typed .shadows) (memory .shadow);
+          tickets = r .typed .tickets;
+          waiting = r .typed .waiting;
           memory = memory .words;
         }
 
@@ -133,6 +137,52 @@ module _ (w : World) (r : Ready w) (o : Outcome × Host) (t : Turn) where
       busy = λ z. omega (arith, x .some);
     }
 
+-- ---- the house with the queues after the step
+
+queued-ready : (w : World) → Ready w → Ready (queuedOn w)
+queued-ready w r =
+    let y = r .typed in
+    let u = r .whole in
+    let q = queued-next w (queued-of (w .house) (y .shaped) (ready-sound w r .most)) (u .few) (omega (arith, here w r, u .few)) in
+    record {
+      typed = record {
+        shaped = queued-shaped (w .house) (y .shaped) _ q;
+        count = y .count;
+        q = y .q;
+        words = y .words;
+        current = y .current;
+        left = y .left;
+        parts = y .parts;
+        regs = y .regs;
+        frames = y .frames;
+        shadows = y .shadows;
+        tickets = next-words w r;
+        waiting = λ k. omega (arith, q .most k);
+        memory = y .memory;
+      };
+      whole = record {
+        some = u .some;
+        few = u .few;
+        pages = u .pages;
+        turns = u .turns;
+        whole = u .whole;
+        size = u .size;
+        inside = u .inside;
+        once = u .once;
+        idle = u .idle;
+        busy = u .busy;
+        first = u .first;
+        mode = u .mode;
+        emode = u .emode;
+        proper = u .proper;
+        behind = u .behind;
+        unused = λ i l m. let z = u .unused i l m in record { still = z .still; none = z .none; regs = z .regs; frames = z .frames; shadows = z .shadows };
+        queued = next-proper w r;
+      };
+      size = r .size;
+      busy = r .busy;
+    }
+
 -- ---- the host step
 
 pub step-ready : (w : World) → Ready w → Ready (hostStep w)
@@ -141,7 +191,7 @@ step-ready w r =
     let h = w .house in
     let o = guestStep w (h .current) in
     let a = step-all w r in
-    settled-ready w r o (turnAfter h 1 (o .0 .calls)) (a .0) (a .1 .0) (a .1 .1)
+    settled-ready (queuedOn w) (queued-ready w r) o (turnAfter h 1 (o .0 .calls)) (a .0) (a .1 .0) (a .1 .1)
     (in-turn-on (h .running) (h .count) (h .q) (h .current) (h .left) (o .0 .calls) (in-turn h (r .whole) (r .busy)))
 
 pub steps-ready : (n : ℕ) (w : World) → Ready w → Ready (hostSteps n w)

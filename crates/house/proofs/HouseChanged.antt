@@ -6,8 +6,8 @@ use Prim.Native.Nat.{ℕ, _*_, _^_, _<_, _≤_}
 use native.Mathlib.Omega.{arith}
 use lib.ListN.{length, getD}
 use Rattle.translate.specs.Walk.{entries}
-use Rattle.translate.proofs.Tests.{by-eq}
-use Rattle.house.specs.Lists.{inner}
+use Rattle.dlx.proofs.Tests.{by-eq}
+use Rattle.tickets.specs.Parts.{inner}
 use Rattle.house.specs.House.{pagesOf, framesOf}
 use Rattle.house.specs.Turns.{world}
 use Rattle.house.specs.Sound.{Proper, Undamaged, Typed, Stays}
@@ -61,6 +61,7 @@ module _ (h : House) (m : List ℕ) (u : Undamaged h) (y : Typed (world h m)) wh
       unused = λ i l b.
           let z = u .unused i l b in
           record { still = f .still i l b; none = z .none; regs = z .regs; frames = z .frames; shadows = λ k. s .none i k l b };
+      queued = u .queued;
     }
 
     turn-word : (t .current < 2 ^ 32) × (t .left < 2 ^ 32)
@@ -72,7 +73,7 @@ module _ (h : House) (m : List ℕ) (u : Undamaged h) (y : Typed (world h m)) wh
     pub changed-stays : Stays (world h m) (world (changed h running t shadows) m)
     changed-stays = record {
       typed = record {
-        shaped = record { running = f .long; parts = y .shaped .parts; regs = y .shaped .regs; frames = y .shaped .frames; shadows = s .long };
+        shaped = record { running = f .long; parts = y .shaped .parts; regs = y .shaped .regs; frames = y .shaped .frames; shadows = s .long; tickets = y .shaped .tickets; waiting = y .shaped .waiting };
         count = y .count;
         q = y .q;
         words = y .words;
@@ -82,6 +83,8 @@ module _ (h : House) (m : List ℕ) (u : Undamaged h) (y : Typed (world h m)) wh
         regs = y .regs;
         frames = y .frames;
         shadows = s .words;
+        tickets = y .tickets;
+        waiting = y .waiting;
         memory = y .memory;
       };
       whole = undamaged-from _ changed-undamaged;

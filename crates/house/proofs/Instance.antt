@@ -14,21 +14,24 @@ use Rattle.dlx.specs.Words.{extendedBy, readIn, holds}
 use Rattle.dlx.specs.Instructions.{registerType, instructionOf}
 use Rattle.dlx.specs.Processor.{specialOf, withSpecial}
 use Rattle.dlx.specs.Interrupts.{levelOf, interrupted}
-use Rattle.dlx.specs.Execute.{written, valueOf, overflowsOf, operated, reached, loads, stores, movedTo, effectOf}
-use Rattle.dlx.specs.Machine.{executed, fetched, loaded, stored, accessed, settled, retabled, step, steps}
+use Rattle.dlx.specs.Execute.{written, valueOf, overflowsOf, operated, reached, loads, stores, movedTo, trapOf, effectOf}
+use Rattle.dlx.specs.Machine.{executed, fetched, loaded, stored, taken, accessed, settled, retabled, step, steps, asked, requestOf as effectRequest, reply}
+use Rattle.dlx.specs.declared.execute.Reply.{Reply}
 use Rattle.translate.specs.Entries.{entryOf, judged}
 use Rattle.translate.specs.Walk.{walked, direct}
-use Rattle.translate.specs.Memory.{loneMemory, loneFound, hosted, given, filled, looked, served, hostRead, emptied, hostWritten, hostReads, hostWrites}
-use Rattle.translate.proofs.Tests.{and-left}
-use Rattle.house.specs.Lists.{inner, outer, listFrom, any, firstFrom}
+use Rattle.translate.specs.Memory.{loneMemory, loneFound, loneRead, hosted, given, filled, looked, served, hostRead, emptied, hostWritten, hostReads, hostWrites}
+use Rattle.dlx.proofs.Tests.{and-left}
+use Rattle.tickets.specs.Parts.{inner, outer}
+use Rattle.house.specs.Lists.{listFrom, any, firstFrom}
 use Rattle.house.specs.House.{noHouse, pagesOf, runs, framesOf, shadowOf}
+use Rattle.tickets.specs.Queues.{sending, taking, desk, queueOf, oldest, ruled}
 use Rattle.house.specs.Damage.{damaged}
 use Rattle.house.specs.Boot.{Verdict, verdict, sum, firstOf, bootVerdict, laid, offset, bootedHouse}
-use Rattle.house.specs.Turns.{World, world, nextFrom, turnOf, guestStep, settledHouse, stepWith, hostStep, hostSteps}
+use Rattle.house.specs.Turns.{World, world, nextFrom, turnOf, requestNow, replyNow, queuesNext, guestStep, settledHouse, stepWith, hostStep, hostSteps}
 use Rattle.house.specs.Calls.{bootCall, runVerdict, runCall, oneVerdict, started, stopped, emptiedHouse, startCall, stopCall, emptyCall, readVerdict, readCall}
 use Rattle.house.specs.Sound.{Typed, Ready}
-use Rattle.house.specs.Histories.{Boot, booted, Call, run, start, stop, empty, readOut, after, history, Grown, turnsIn, stepsOf, stepsMade, turnsMade, staysRunning, loneOf, loneAtBoot}
-use Rattle.house.specs.Demands.{AgreeOn, OwnFramesAlone, StepOf, nowhere, word, byShadow, listed, byTable}
+use Rattle.house.specs.Histories.{Boot, booted, Call, run, start, stop, empty, readOut, after, history, Grown, turnsIn, stepsOf, stepsMade, turnsMade, staysRunning, loneOf, loneAtBoot, loneAsks, loneAnswer, eventOf, logIn, logOf, each, answersTo, feedOf}
+use Rattle.house.specs.Demands.{AgreeOn, OwnFramesAlone, StepOf, SameAnswers, nowhere, word, byShadow, listed, byTable}
 use Rattle.house.proofs.Lists.{and-right, one-way}
 use Rattle.house.proofs.FreshHouse.{booted-whole, booted-ready}
 use Rattle.house.proofs.Stays.{after-stays}
@@ -162,7 +165,7 @@ ended = hostSteps 4 cleared
 
 -- all that a step computes with
 computing : ℕ
-unfolding two-guests inner outer listFrom any laid offset bootedHouse nextFrom turnOf guestStep settledHouse stepWith hostStep hostSteps started stopped emptiedHouse judged walked direct hosted given filled looked served hostRead emptied hostWritten hostReads hostWrites step fetched executed loaded stored accessed settled retabled instructionOf registerType effectOf written valueOf overflowsOf operated reached loads stores movedTo specialOf withSpecial interrupted levelOf trailingZeros extendedBy readIn holds turnsIn
+unfolding two-guests inner outer listFrom any laid offset bootedHouse nextFrom turnOf requestNow replyNow queuesNext desk sending taking asked effectRequest guestStep settledHouse stepWith hostStep hostSteps started stopped emptiedHouse judged walked direct hosted given filled looked served hostRead emptied hostWritten hostReads hostWrites step fetched executed loaded stored taken accessed settled retabled instructionOf registerType effectOf written valueOf overflowsOf operated reached loads stores movedTo trapOf specialOf withSpecial interrupted levelOf trailingZeros extendedBy readIn holds turnsIn
 computing = 0
 
 -- entry px of partition 0's shadow
@@ -402,19 +405,35 @@ below-two : (i : ℕ) → i < 2 → i < length (two-guests .pages)
 unfolding two-guests
 below-two i l = l
 
-pub history-of : loneOf (history (filling ++ emptying) begun) 0 ≡ steps (loneMemory (getD (two-guests .pages) 0 0)) 10 (loneAtBoot two-guests 0)
+pub history-of : loneOf (history (filling ++ emptying) begun) 0 ≡ steps (loneMemory (getD (two-guests .pages) 0 0)) (feedOf (filling ++ emptying) begun 0) 10 (loneAtBoot two-guests 0)
 history-of =
     histories-demand two-guests (filling ++ emptying) 0 (below-two 0 (omega arith)) .0
-    ∙ ap (λ (n : ℕ). steps (loneMemory (getD (two-guests .pages) 0 0)) n (loneAtBoot two-guests 0)) ten-turns
+    ∙ ap (λ (n : ℕ). steps (loneMemory (getD (two-guests .pages) 0 0)) (feedOf (filling ++ emptying) begun 0) n (loneAtBoot two-guests 0)) ten-turns
+
+-- no ticket is asked for in either
+logging : ℕ
+unfolding computing stepsOf logIn eventOf loneAnswer loneAsks loneOf loneRead loneFound ruled oldest queueOf each
+logging = 0
+
+answers-here : answersTo 0 (logOf (filling ++ emptying) begun) ≡ replicate 10 (reply 0 0)
+unfolding logOf
+answers-here = simp (to-ran .0, to-alone, to-full .0, to-read, to-bare .0, to-joined, to-cleared, to-none, to-ran .1, to-full .1, to-bare .1, to-ended .1) (unfold logging in refl)
+
+answers-aside : answersTo 0 (logOf aside begun) ≡ replicate 10 (reply 0 0)
+unfolding logOf
+answers-aside = simp (to-lonely, to-far .1) (unfold logging in refl)
+
+same-answers : SameAnswers two-guests (filling ++ emptying) aside 0
+same-answers k l = ap (λ (x : List Reply). getD x k (reply 0 0)) (answers-here ∙ sym answers-aside)
 
 -- equal guests, by equal turns or by equal counters, in houses that differ
 pub equal : loneOf (history (filling ++ emptying) begun) 0 ≡ loneOf (history aside begun) 0
-equal = equal-guests two-guests (filling ++ emptying) aside 0 (below-two 0 (omega arith)) (ten-turns ∙ sym ten-aside)
+equal = equal-guests two-guests (filling ++ emptying) aside 0 (below-two 0 (omega arith)) (ten-turns ∙ sym ten-aside) same-answers
 
 pub equal-by-counter : loneOf (history (filling ++ emptying) begun) 0 ≡ loneOf (history aside begun) 0
 equal-by-counter =
     let l = below-two 0 (omega arith) in
-    equal-counters two-guests (filling ++ emptying) aside 0 l (omega (arith, ten-turns)) (omega (arith, ten-aside))
+    equal-counters two-guests (filling ++ emptying) aside 0 l (omega (arith, ten-turns)) (omega (arith, ten-aside)) same-answers
     (histories-demand two-guests (filling ++ emptying) 0 l .1 ∙ ap (λ (n : ℕ). n % 2 ^ 64) (ten-turns ∙ sym ten-aside) ∙ sym (histories-demand two-guests aside 0 l .1))
 
 pub unequal : ended ≡ far → ⊥

@@ -8,7 +8,7 @@ use lib.Dec.{eqb}
 use lib.ListN.{length, getD}
 use Rattle.dlx.specs.Choice.{if_then_else_}
 use Rattle.translate.specs.Premises.{Own}
-use Rattle.translate.proofs.Tests.{either-both, by-eq}
+use Rattle.dlx.proofs.Tests.{either-both, by-eq}
 use Rattle.house.specs.House.{pagesOf, framesOf}
 use Rattle.house.specs.Boot.{Verdict}
 use Rattle.house.specs.Turns.{World, world, stepWith, hostStep, hostSteps}

@@ -9,7 +9,7 @@ use Rattle.translate.specs.Entries.{number, valid, protection, refused, Found, 
 use Rattle.translate.specs.Memory.{wordIn, hosted}
 use Rattle.translate.proofs.Entries.{number-entry, valid-entry, protection-entry, Within, found-within}
 use Rattle.translate.proofs.Simulation.{reach}
-use Rattle.translate.proofs.Tests.{by-test}
+use Rattle.dlx.proofs.Tests.{by-test}
 use Rattle.house.specs.House.{pagesOf, framesOf}
 use Rattle.house.specs.Turns.{World}
 use Rattle.house.specs.Histories.{Boot, loneOf}

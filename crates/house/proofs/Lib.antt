@@ -18,7 +18,6 @@ pub mod Landings
 pub mod LeftByCalls
 pub mod Lists
 pub mod Offsets
-pub mod Parts
 pub mod ReadOut
 pub mod SameLayout
 pub mod Searches
@@ -26,6 +25,7 @@ pub mod Standing
 pub mod StartStopEmpty
 pub mod Stays
 pub mod Stretch
+pub mod TicketInstance
 pub mod Turns
 pub mod Undamaged
 pub mod Verdicts

@@ -6,7 +6,7 @@ use native.Mathlib.Numerals.{add-one}
 use native.Mathlib.Omega.{arith}
 use borrow.Author.Tests.{eqb-true, eqb-false, ltb-true, ltb-false}
 use lib.Dec.{eqb, ltb}
-use Rattle.translate.proofs.Tests.{by-test}
+use Rattle.dlx.proofs.Tests.{by-test}
 use Rattle.house.specs.Lists.{all, any}
 
 -- ---- Bools

@@ -6,7 +6,7 @@ use native.Mathlib.Numerals.{add-one}
 use native.Mathlib.Omega.{arith}
 use borrow.Author.Tests.{lt-ltb, le-ltb}
 use lib.ListN.{length, getD, List·getD-eq-default}
-use Rattle.translate.proofs.Tests.{by-eq}
+use Rattle.dlx.proofs.Tests.{by-eq}
 use Rattle.house.specs.Boot.{sum, offset, laid}
 
 pub offset-more : (ps : List ℕ) (i : ℕ) → offset ps (i + 1) ≡ offset ps i + getD ps i 0

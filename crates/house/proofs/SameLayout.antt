@@ -3,7 +3,7 @@ use mathlib.Core.Path.{refl, _∙_}
 use mathlib.Core.Bool.{Bool}
 use mathlib.Core.List.{List}
 use Prim.Native.Nat.{ℕ}
-use Rattle.house.specs.Turns.{World, turnAfter, guestStep, settledHouse, stepWith, hostStep, hostSteps, houseAt}
+use Rattle.house.specs.Turns.{World, turnAfter, guestStep, settledHouse, stepWith, queuedOn, hostStep, hostSteps, houseAt}
 use Rattle.house.specs.Sound.{LaidOut}
 use Rattle.house.specs.Calls.{withTurn}
 use Rattle.house.specs.declared.House.{House}
@@ -29,7 +29,7 @@ unfolding hostStep stepWith settledHouse
 step-layout w =
     let h = w .house in
     let o = guestStep w (h .current) in
-    record { count = refl; q = refl; words = refl; frames = refl; pages = settled-pages h (h .current) o (turnAfter h 1 (o .0 .calls)) }
+    record { count = refl; q = refl; words = refl; frames = refl; pages = settled-pages (queuedOn w .house) (h .current) o (turnAfter h 1 (o .0 .calls)) }
 
 pub steps-layout : (n : ℕ) (w : World) → LaidOut (w .house) (hostSteps n w .house)
 steps-layout n w = steps-keep (λ x. LaidOut (w .house) (x .house)) (λ x l. layout-on (w .house) _ _ l (step-layout x)) n w (same-layout (w .house))

@@ -9,7 +9,7 @@ use lib.Dec.{ltb}
 use lib.ListN.{length, getD, set, replicate, length-set}
 use lib.Seq.{ext-getD, getD-set-same, getD-set-other}
 use Rattle.dlx.proofs.Kept.{either}
-use Rattle.translate.proofs.Tests.{by-test, by-eq}
+use Rattle.dlx.proofs.Tests.{by-test, by-eq}
 use Rattle.house.specs.Lists.{listFrom, any, firstFrom}
 use Rattle.house.proofs.Lists.{any-at, any-none}
 

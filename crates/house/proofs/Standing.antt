@@ -1,35 +1,40 @@
 -- What holds of every house and memory grown from a boot, kept by host steps: every shadow is right. So a host step is one lone step.
 use mathlib.Core.Path.{_≡_, refl, sym, ap, subst, _∙_}
 use mathlib.Core.Bool.{true}
-use mathlib.Core.List.{List}
-use Prim.Native.Nat.{ℕ, _+_, _*_, _/_, _%_, _^_, _<_}
+use mathlib.Core.List.{List, _++_}
+use Prim.Native.Nat.{ℕ, _+_, _*_, _/_, _%_, _^_, _<_, _≤_}
 use native.Mathlib.Omega.{arith}
 use borrow.Author.Tests.{eq-eqb, ne-eqb}
 use lib.Dec.{eqb}
-use lib.ListN.{length, getD}
-use lib.Seq.{ext-getD}
+use lib.ListN.{length, getD, drop}
+use lib.Seq.{ext-getD, drop-append-seam}
 use Rattle.dlx.specs.Choice.{if_then_else_}
-use Rattle.dlx.specs.Machine.{Core, core, Outcome, step}
+use Rattle.dlx.specs.Machine.{Core, core, Outcome, Request, step}
+use Rattle.dlx.specs.declared.execute.Reply.{Reply}
 use Rattle.dlx.specs.declared.partition.Partition.{Partition}
 use Rattle.dlx.specs.declared.partition.Table.{Table}
-use Rattle.dlx.proofs.Like.{Both, step-like}
+use Rattle.dlx.proofs.Like.{Both, asked-like, step-like}
 use Rattle.translate.specs.Entries.{valid}
 use Rattle.translate.specs.Memory.{Lone, lone, loneMemory, Host, place, hostWord, hosted, given}
 use Rattle.translate.specs.Premises.{Placed}
 use Rattle.translate.proofs.Entries.{walked-same}
 use Rattle.translate.proofs.Simulation.{Right, simulation}
-use Rattle.translate.proofs.Tests.{by-eq}
+use Rattle.dlx.proofs.Tests.{by-eq}
 use Rattle.house.specs.Lists.{listFrom}
 use Rattle.house.specs.House.{partition, pagesOf, registersOf, framesOf, shadowOf}
-use Rattle.house.specs.Turns.{World, turnAfter, guest, guestStep, counted, settledHouse, stepWith, hostStep}
+use Rattle.house.specs.Turns.{World, turnAfter, guest, requestNow, replyNow, queuesNext, guestStep, queuedOn, counted, settledHouse, stepWith, hostStep}
 use Rattle.house.specs.Sound.{Shaped, LaidOut}
 use Rattle.house.specs.Boot.{bootedHouse}
-use Rattle.house.specs.Histories.{Boot, booted, loneOf}
+use Rattle.house.specs.Histories.{Boot, booted, loneOf, queueIn, loneAsks, loneAnswer}
+use Rattle.tickets.specs.Queues.{waitingOf, ruled, sentTo, takenBy, lined}
+use Rattle.house.specs.Tickets.{queuesOf}
 use Rattle.house.specs.Demands.{StepOf}
 use Rattle.house.specs.declared.Turn.{Turn}
-use Rattle.house.proofs.Parts.{inner-length}
+use Rattle.tickets.proofs.Parts.{inner-length}
 use Rattle.house.proofs.Searches.{length-listFrom, listFrom-at, listFrom-same}
-use Rattle.house.proofs.Turns.{turn-here, step-registers, settled-shaped, settled-partition, settled-registers, settled-shadow, other-partition, other-registers, other-shadow}
+use Rattle.tickets.specs.Queues.{Queued}
+use Rattle.tickets.proofs.Queues.{desk-ruled, desk-kept}
+use Rattle.house.proofs.Turns.{queued-of, queued-next, queued-shaped, turn-here, step-registers, settled-shaped, settled-partition, settled-registers, settled-shadow, other-partition, other-registers, other-shadow}
 use Rattle.house.proofs.SameLayout.{layout-on, step-layout}
 use Rattle.house.proofs.Undamaged.{sound-partition}
 use Rattle.house.proofs.FreshHouse.{booted-shaped, booted-undamaged, booted-whole}
@@ -44,6 +49,7 @@ pub record Standing (b : Boot) (w : World) : Type 0 where
   pub layout : LaidOut (booted b .house) (w .house)
   pub here : w .house .current < w .house .count
   pub size : length (w .memory) ≡ length (b .memory)
+  pub most : (j : ℕ) → waitingOf (queuesOf (w .house)) j ≤ 32
   pub right : (i : ℕ) → i < w .house .count → RightShadow w i
 
 -- the lone memory of a right one is its table and the words of its pages
@@ -90,12 +96,44 @@ module _ (b : Boot) (w : World) (st : Standing b w) where
     others = λ _ _. refl;
   }
 
-  -- ---- one host step
+  -- ---- one host step: what is asked, the answer, and the queues after it
+
+  like-now : Both (Right (framesOf (w .house) (w .house .current)) (pagesOf (w .house) (w .house .current)) (w .memory)) (loneOf w (w .house .current)) (guest w (w .house .current))
+  unfolding loneOf
+  like-now = record { same = refl; rest = right-of (w .house .current) (st .here) }
+
+  few : w .house .count ≤ 8
+  few = omega (arith, st .layout .count, booted-undamaged b .few)
+
+  queued : Queued (queuesOf (w .house))
+  queued = queued-of (w .house) (st .shaped) (st .most)
+
+  request-same : requestNow w (w .house .current) ≡ loneAsks w (w .house .current)
+  unfolding requestNow loneAsks
+  request-same = sym (asked-like _ _ _ (simulation _ _ _ (placed (w .house .current) (st .here))) _ _ like-now)
+
+  reply-same : replyNow w (w .house .current) ≡ loneAnswer w (w .house .current)
+  unfolding replyNow loneAnswer
+  reply-same =
+      desk-ruled (w .house .count) (w .house .current) (queuesOf (w .house)) queued few (standing-small (st .here)) (requestNow w (w .house .current))
+      ∙ ap (ruled (w .house .count) (w .house .current) (queueIn w)) request-same
+
+  abbrev on : World
+  on = queuedOn w
+
+  on-queued : Queued (queuesNext w (w .house .current))
+  on-queued = queued-next w queued few (standing-small (st .here))
+
+  on-shaped : Shaped (on .house)
+  on-shaped = queued-shaped (w .house) (st .shaped) _ on-queued
 
   both : Both (Right (framesOf (w .house) (w .house .current)) (pagesOf (w .house) (w .house .current)) (w .memory))
-      (step (loneMemory (pagesOf (w .house) (w .house .current))) (loneOf w (w .house .current))) (guestStep w (w .house .current))
-  unfolding guestStep loneOf
-  both = step-like _ _ _ (simulation _ _ _ (placed (w .house .current) (st .here))) _ _ (record { same = refl; rest = right-of (w .house .current) (st .here) })
+      (step (loneMemory (pagesOf (w .house) (w .house .current))) (loneAnswer w (w .house .current)) (loneOf w (w .house .current))) (guestStep w (w .house .current))
+  unfolding guestStep
+  both =
+      subst (λ (y : Reply). Both (Right (framesOf (w .house) (w .house .current)) (pagesOf (w .house) (w .house .current)) (w .memory)) (step (loneMemory (pagesOf (w .house) (w .house .current))) y (loneOf w (w .house .current))) (guestStep w (w .house .current)))
+      reply-same
+      (step-like _ _ _ (simulation _ _ _ (placed (w .house .current) (st .here))) (replyNow w (w .house .current)) _ _ like-now)
 
   regs : length (guestStep w (w .house .current) .0 .core .registers) ≡ 32
   regs = step-registers w (st .shaped) (standing-small (st .here))
@@ -113,17 +151,17 @@ module _ (b : Boot) (w : World) (st : Standing b w) where
 
   own-partition : partition (hostStep w .house) (w .house .current) ≡ counted (partition (w .house) (w .house .current)) made
   unfolding hostStep stepWith
-  own-partition = settled-partition w (w .house .current) (st .shaped) (standing-small (st .here)) made regs shadow next
+  own-partition = settled-partition on (w .house .current) on-shaped (standing-small (st .here)) made regs shadow next
 
-  own-lone : loneOf (hostStep w) (w .house .current) ≡ (let o = step (loneMemory (pagesOf (w .house) (w .house .current))) (loneOf w (w .house .current)) in (o .0 .core, o .1))
+  own-lone : loneOf (hostStep w) (w .house .current) ≡ (let o = step (loneMemory (pagesOf (w .house) (w .house .current))) (loneAnswer w (w .house .current)) (loneOf w (w .house .current)) in (o .0 .core, o .1))
   unfolding hostStep stepWith settledHouse loneOf
   own-lone =
       let i = w .house .current in
       let fr = framesOf (w .house) i in
       ap (λ (p : Partition). alone p (registersOf (hostStep w .house) i) fr (made .1 .words)) own-partition
-      ∙ ap (λ (r : List ℕ). alone (counted (partition (w .house) i) made) r fr (made .1 .words)) (settled-registers w i (st .shaped) (standing-small (st .here)) made regs shadow next)
+      ∙ ap (λ (r : List ℕ). alone (counted (partition (w .house) i) made) r fr (made .1 .words)) (settled-registers on i on-shaped (standing-small (st .here)) made regs shadow next)
       ∙ ap (λ (s : Lone). (made .0 .core, s)) (right-is (both .rest))
-      ∙ ap (λ (o : Outcome). (o .core, step (loneMemory (pagesOf (w .house) i)) (loneOf w i) .1)) (sym (both .same))
+      ∙ ap (λ (o : Outcome). (o .core, step (loneMemory (pagesOf (w .house) i)) (loneAnswer w i) (loneOf w i) .1)) (sym (both .same))
 
   -- ---- another partition
 
@@ -139,8 +177,8 @@ module _ (b : Boot) (w : World) (st : Standing b w) where
     other-lone =
         let i = w .house .current in
         let fr = framesOf (w .house) j in
-        ap (λ (p : Partition). alone p (registersOf (hostStep w .house) j) fr (made .1 .words)) (other-partition w i (st .shaped) (standing-small (st .here)) made regs shadow next j (standing-small l) d)
-        ∙ ap (λ (r : List ℕ). alone (partition (w .house) j) r fr (made .1 .words)) (other-registers w i (st .shaped) (standing-small (st .here)) made regs shadow next j (standing-small l) d)
+        ap (λ (p : Partition). alone p (registersOf (hostStep w .house) j) fr (made .1 .words)) (other-partition on i on-shaped (standing-small (st .here)) made regs shadow next j (standing-small l) d)
+        ∙ ap (λ (r : List ℕ). alone (partition (w .house) j) r fr (made .1 .words)) (other-registers on i on-shaped (standing-small (st .here)) made regs shadow next j (standing-small l) d)
         ∙ ap (λ (ws : List ℕ). (core (partition (w .house) j .processor) (registersOf (w .house) j), lone (partition (w .house) j .table) ws))
         (listFrom-same (hostWord fr (made .1 .words)) (hostWord fr (w .memory)) 0 (pagesOf (w .house) j * 1024) (λ x m. other-word x (omega arith)))
 
@@ -148,8 +186,8 @@ module _ (b : Boot) (w : World) (st : Standing b w) where
     unfolding hostStep stepWith settledHouse given
     other-right px v =
         let i = w .house .current in
-        let p = other-partition w i (st .shaped) (standing-small (st .here)) made regs shadow next j (standing-small l) d in
-        let e = other-shadow w i (st .shaped) (standing-small (st .here)) made regs shadow next j (standing-small l) d in
+        let p = other-partition on i on-shaped (standing-small (st .here)) made regs shadow next j (standing-small l) d in
+        let e = other-shadow on i on-shaped (standing-small (st .here)) made regs shadow next j (standing-small l) d in
         let fr = framesOf (w .house) j in
         let t = partition (w .house) j .table in
         ap (λ (sh : List ℕ). getD sh px 0) e
@@ -161,7 +199,7 @@ module _ (b : Boot) (w : World) (st : Standing b w) where
   unfolding hostStep stepWith settledHouse
   own-right px v =
       let i = w .house .current in
-      let e = settled-shadow w i (st .shaped) (standing-small (st .here)) made regs shadow next in
+      let e = settled-shadow on i on-shaped (standing-small (st .here)) made regs shadow next in
       ap (λ (sh : List ℕ). getD sh px 0) e
       ∙ both .rest .shadow px (subst (λ (sh : List ℕ). valid (getD sh px 0) ≡ true) e v)
       ∙ ap (λ (p : Partition). given (framesOf (w .house) i) (p .pages) (p .table) (made .1 .words) px) (sym own-partition)
@@ -171,10 +209,11 @@ module _ (b : Boot) (w : World) (st : Standing b w) where
   pub standing-step : Standing b (hostStep w)
   unfolding hostStep stepWith settledHouse
   standing-step = record {
-    shaped = settled-shaped w (w .house .current) (st .shaped) (standing-small (st .here)) made regs shadow next;
+    shaped = settled-shaped on (w .house .current) on-shaped (standing-small (st .here)) made regs shadow next;
     layout = layout-on (booted b .house) (w .house) _ (st .layout) (step-layout w);
     here = turn-here (w .house .running) (w .house .count) (w .house .q) (w .house .current) (w .house .left) (made .0 .calls) (st .here);
     size = both .rest .size ∙ st .size;
+    most = on-queued .most;
     right = λ j l. by-eq j (w .house .current)
         (λ e. subst (RightShadow (hostStep w)) (sym e) own-right)
         (λ d. other-right j l d);
@@ -186,7 +225,25 @@ module _ (b : Boot) (w : World) (st : Standing b w) where
   step-counter j l =
       by-eq j (w .house .current)
       (λ e. rw (eq-eqb j (w .house .current) e) (rw e (ap (λ (p : Partition). p .counter) own-partition)))
-      (λ d. rw (ne-eqb j (w .house .current) d) (ap (λ (p : Partition). p .counter) (other-partition w (w .house .current) (st .shaped) (standing-small (st .here)) made regs shadow next j (standing-small l) d)))
+      (λ d. rw (ne-eqb j (w .house .current) d) (ap (λ (p : Partition). p .counter) (other-partition on (w .house .current) on-shaped (standing-small (st .here)) made regs shadow next j (standing-small l) d)))
+
+  -- every queue after the step, and what waited and is sent against what is taken and waits
+  pub queues-kept : (j : ℕ) → j < w .house .count → let i = w .house .current in
+      queueIn w j ++ sentTo (loneAsks w i) (loneAnswer w i) j ≡ takenBy i (loneAsks w i) (loneAnswer w i) j ++ queueIn (hostStep w) j
+  unfolding hostStep stepWith settledHouse queuesNext
+  queues-kept j l =
+      let i = w .house .current in
+      subst (λ (y : Reply). queueIn w j ++ sentTo (loneAsks w i) y j ≡ takenBy i (loneAsks w i) y j ++ queueIn (hostStep w) j) reply-same
+      (subst (λ (r : Request). queueIn w j ++ sentTo r (replyNow w i) j ≡ takenBy i r (replyNow w i) j ++ queueIn (hostStep w) j) request-same
+      (unfold replyNow in desk-kept (w .house .count) i (queuesOf (w .house)) queued few (standing-small (st .here)) (requestNow w i) j (standing-small l)))
+
+  queues-lined : (j : ℕ) → j < w .house .count → let i = w .house .current in
+      queueIn (hostStep w) j ≡ lined i (loneAsks w i) (loneAnswer w i) (queueIn w j) j
+  unfolding lined
+  queues-lined j l =
+      let i = w .house .current in
+      let T = takenBy i (loneAsks w i) (loneAnswer w i) j in
+      sym (ap (drop (length T)) (queues-kept j l) ∙ drop-append-seam T (queueIn (hostStep w) j))
 
   pub step-of : StepOf w (hostStep w) (w .house .current)
   unfolding hostStep stepWith settledHouse
@@ -196,4 +253,5 @@ module _ (b : Boot) (w : World) (st : Standing b w) where
     counters = step-counter;
     turns = ap (λ (o : Outcome). turnAfter (w .house) 1 (o .calls)) (sym (both .same));
     running = refl;
+    queues = queues-lined;
   }

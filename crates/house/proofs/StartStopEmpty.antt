@@ -11,7 +11,7 @@ use lib.Seq.{getD-set-same, getD-set-other}
 use Rattle.dlx.proofs.Kept.{getD-set-elim}
 use Rattle.translate.specs.Walk.{entries}
 use Rattle.translate.specs.Memory.{freshShadow}
-use Rattle.translate.proofs.Tests.{by-test, by-eq, getD-replicate-same}
+use Rattle.dlx.proofs.Tests.{by-test, by-eq, getD-replicate-same}
 use Rattle.translate.proofs.Kept.{zeros-words}
 use Rattle.house.specs.Lists.{any}
 use Rattle.house.specs.House.{runs, pagesOf, framesOf}
@@ -21,7 +21,7 @@ use Rattle.house.specs.Sound.{Undamaged, Typed, Stays}
 use Rattle.house.specs.declared.House.{House}
 use Rattle.house.proofs.Conditions.{empty-proper}
 use Rattle.house.proofs.Emptied.{fresh-count, emptied-shaped, emptied-own, emptied-other}
-use Rattle.house.proofs.Parts.{outer-each}
+use Rattle.tickets.proofs.Parts.{outer-each}
 use Rattle.house.proofs.Lists.{any-at, any-none}
 use Rattle.house.proofs.Turns.{next-below, next-runs}
 use Rattle.house.proofs.Undamaged.{undamaged-gives}

@@ -8,30 +8,32 @@ use borrow.Author.Tests.{eq-eqb, ne-eqb}
 use lib.Dec.{eqb}
 use lib.ListN.{length}
 use lib.Seq.{set-set, getD-set-same}
-use Rattle.dlx.specs.Machine.{Ops, Core, core, Outcome, step, Stretch, stretchFrom}
+use Rattle.dlx.specs.Machine.{Ops, Core, core, Outcome, Desk, stepAt, Stretch, stretchFrom}
 use Rattle.dlx.proofs.Kept.{either}
 use Rattle.translate.specs.Memory.{Host, hostMemory}
-use Rattle.translate.proofs.Tests.{by-eq}
+use Rattle.dlx.proofs.Tests.{by-eq}
 use Rattle.house.specs.House.{noPartition, partition, pagesOf, framesOf}
-use Rattle.house.specs.Turns.{World, world, turn, turnAfter, guest, guestMemory, guestStep, counted, settledHouse, stepWith, hostStep, hostSteps, stretchedHouse, turnOf}
+use Rattle.house.specs.Turns.{World, world, turn, turnAfter, guest, guestMemory, requestNow, replyNow, queuesNext, guestStep, queuedOn, counted, settledHouse, stepWith, hostStep, hostSteps, stretchedHouse, turnOf}
+use Rattle.tickets.specs.Queues.{Queues, desk}
+use Rattle.house.specs.Tickets.{queuesOf}
 use Rattle.house.specs.Sound.{Shaped, Sound}
 use Rattle.house.specs.declared.House.{House}
 use Rattle.house.specs.declared.Turn.{Turn}
-use Rattle.house.proofs.Parts.{outer-outer}
-use Rattle.house.proofs.Turns.{settled-pages, settled-partition, settled-registers, settled-shadow, step-keeps, step-registers, sound-step}
+use Rattle.tickets.proofs.Parts.{outer-outer}
+use Rattle.house.proofs.Turns.{settled-pages, settled-partition, settled-registers, settled-shadow, step-keeps, step-registers, shaped-here, sound-step}
 
 -- ---- the count is carried along
 
-bumped : {S : Type 0} → Stretch S → Stretch S
-bumped r = record { made = suc (r .made); called = r .called; core = r .core; memory = r .memory }
+bumped : {S T : Type 0} → Stretch S T → Stretch S T
+bumped r = record { made = suc (r .made); called = r .called; core = r .core; memory = r .memory; desk = r .desk }
 
-module _ {S : Type 0} (O : Ops S) where
-  made-on : (k a : ℕ) (m : Core × S) → stretchFrom O k (suc a) m ≡ bumped (stretchFrom O k a m)
+module _ {S T : Type 0} (O : Ops S) (D : Desk T) where
+  made-on : (k a : ℕ) (m : Core × S) (t : T) → stretchFrom O D k (suc a) m t ≡ bumped (stretchFrom O D k a m t)
   unfolding stretchFrom bumped
-  made-on zero a m = refl
-  made-on (suc k) a m = go (step O m .0 .calls) refl (made-on k (suc a) (step O m .0 .core, step O m .1))
+  made-on zero a m t = refl
+  made-on (suc k) a m t = go (stepAt O D m t .0 .0 .calls) refl (made-on k (suc a) (stepAt O D m t .0 .0 .core, stepAt O D m t .0 .1) (stepAt O D m t .1))
     where
-      go : (b : Bool) → step O m .0 .calls ≡ b → stretchFrom O k (suc (suc a)) (step O m .0 .core, step O m .1) ≡ bumped (stretchFrom O k (suc a) (step O m .0 .core, step O m .1)) → stretchFrom O (suc k) (suc a) m ≡ bumped (stretchFrom O (suc k) a m)
+      go : (b : Bool) → stepAt O D m t .0 .0 .calls ≡ b → stretchFrom O D k (suc (suc a)) (stepAt O D m t .0 .0 .core, stepAt O D m t .0 .1) (stepAt O D m t .1) ≡ bumped (stretchFrom O D k (suc a) (stepAt O D m t .0 .0 .core, stepAt O D m t .0 .1) (stepAt O D m t .1)) → stretchFrom O D (suc k) (suc a) m t ≡ bumped (stretchFrom O D (suc k) a m t)
       go true e h = simp e
       go false e h = simp e h
 
@@ -47,7 +49,7 @@ carried c j = omega arith
 
 module _ (w : World) (i : ℕ) (s : Shaped (w .house)) (few : i < 8) (o : Outcome × Host) (regs : length (o .0 .core .registers) ≡ 32) (shadow : length (o .1 .shadow) ≡ 256) (t₀ : Turn) where
   -- the stretched house of the stepped one
-  joined : (r : Stretch Host) (t : Turn) → stretchedHouse (settledHouse (w .house) i o t₀) i r t ≡ stretchedHouse (w .house) i (bumped r) t
+  joined : (r : Stretch Host Queues) (t : Turn) → stretchedHouse (settledHouse (w .house) i o t₀) i r t ≡ stretchedHouse (w .house) i (bumped r) t
   unfolding stretchedHouse settledHouse bumped
   joined r t =
       simp (
@@ -80,25 +82,27 @@ turn-on h o j called l =
 
 -- ---- a stretch
 
-abbrev Made : World → Stretch Host → Type 0
+abbrev Made : World → Stretch Host Queues → Type 0
 Made w r =
     hostSteps (r .made) w ≡ world (stretchedHouse (w .house) (w .house .current) r (turnAfter (w .house) (r .made) (r .called))) (r .memory .words)
 
-abbrev once : Bool → Outcome × Host → Stretch Host
-once b o = record { made = 1; called = b; core = o .0 .core; memory = o .1 }
+abbrev once : Bool → Outcome × Host → Queues → Stretch Host Queues
+once b o t = record { made = 1; called = b; core = o .0 .core; memory = o .1; desk = t }
 
-abbrev pub stretched : World → ℕ → Stretch Host
-stretched w k = stretchFrom (guestMemory (w .house) (w .house .current)) k 0 (guest w (w .house .current))
+abbrev pub stretched : World → ℕ → Stretch Host Queues
+stretched w k =
+    let i = w .house .current in
+    stretchFrom (guestMemory (w .house) i) (desk (w .house .count) i) k 0 (guest w i) (queuesOf (w .house))
 
 -- the world after one step that does not end the turn
 abbrev hop : World → World
 hop w =
     let i = w .house .current in
     let o = guestStep w i in
-    world (settledHouse (w .house) i o (turn i (w .house .left - 1))) (o .1 .words)
+    world (settledHouse (queuedOn w .house) i o (turn i (w .house .left - 1))) (o .1 .words)
 
 module _ (w : World) (s : Sound w) where
-  made-once : (b : Bool) → guestStep w (w .house .current) .0 .calls ≡ b → Made w (once b (guestStep w (w .house .current)))
+  made-once : (b : Bool) → guestStep w (w .house .current) .0 .calls ≡ b → Made w (once b (guestStep w (w .house .current)) (queuesNext w (w .house .current)))
   unfolding hostSteps hostStep stepWith turnOf settledHouse stretchedHouse
   made-once b e = simp e
 
@@ -106,21 +110,30 @@ module _ (w : World) (s : Sound w) where
   unfolding hostStep stepWith turnOf
   hop-is e l = simp (e, ne-eqb (w .house .left) 1 (λ q. omega arith))
 
-  stretched-called : (k : ℕ) → guestStep w (w .house .current) .0 .calls ≡ true → stretched w (suc k) ≡ once true (guestStep w (w .house .current))
-  unfolding stretchFrom guestStep
+  stretched-called : (k : ℕ) → guestStep w (w .house .current) .0 .calls ≡ true → stretched w (suc k) ≡ once true (guestStep w (w .house .current)) (queuesNext w (w .house .current))
+  unfolding stretchFrom guestStep replyNow requestNow queuesNext
   stretched-called k e = simp e
 
-  stretched-one : guestStep w (w .house .current) .0 .calls ≡ false → stretched w 1 ≡ once false (guestStep w (w .house .current))
-  unfolding stretchFrom guestStep
+  stretched-one : guestStep w (w .house .current) .0 .calls ≡ false → stretched w 1 ≡ once false (guestStep w (w .house .current)) (queuesNext w (w .house .current))
+  unfolding stretchFrom guestStep replyNow requestNow queuesNext
   stretched-one e = simp e
 
-  first-is : (k : ℕ) → guestStep w (w .house .current) .0 .calls ≡ false → stretched w (suc (suc k)) ≡ stretchFrom (guestMemory (w .house) (w .house .current)) (suc k) 1 (guestStep w (w .house .current) .0 .core, guestStep w (w .house .current) .1)
-  unfolding stretchFrom guestStep
+  -- so many steps more from behind the first
+  abbrev onwards : ℕ → ℕ → Stretch Host Queues
+  onwards k a =
+      let i = w .house .current in
+      stretchFrom (guestMemory (w .house) i) (desk (w .house .count) i) (suc k) a (guestStep w i .0 .core, guestStep w i .1) (queuesNext w i)
+
+  first-is : (k : ℕ) → guestStep w (w .house .current) .0 .calls ≡ false → stretched w (suc (suc k)) ≡ onwards k 1
+  unfolding stretchFrom guestStep replyNow requestNow queuesNext
   first-is k e = simp e
 
-  again-is : (k : ℕ) → guest (hop w) (w .house .current) ≡ (guestStep w (w .house .current) .0 .core, guestStep w (w .house .current) .1) → pagesOf (hop w .house) (w .house .current) ≡ pagesOf (w .house) (w .house .current) → stretched (hop w) (suc k) ≡ stretchFrom (guestMemory (w .house) (w .house .current)) (suc k) 0 (guestStep w (w .house .current) .0 .core, guestStep w (w .house .current) .1)
+  again-is : (k : ℕ) → guest (hop w) (w .house .current) ≡ (guestStep w (w .house .current) .0 .core, guestStep w (w .house .current) .1) → pagesOf (hop w .house) (w .house .current) ≡ pagesOf (w .house) (w .house .current) → stretched (hop w) (suc k) ≡ onwards k 0
   unfolding settledHouse
-  again-is k g p = ap (λ (n : ℕ). stretchFrom (hostMemory (framesOf (w .house) (w .house .current)) n) (suc k) 0 (guest (hop w) (w .house .current))) p ∙ ap (λ (m : Core × Host). stretchFrom (guestMemory (w .house) (w .house .current)) (suc k) 0 m) g
+  again-is k g p =
+      let i = w .house .current in
+      ap (λ (n : ℕ). stretchFrom (hostMemory (framesOf (w .house) i) n) (desk (w .house .count) i) (suc k) 0 (guest (hop w) i) (queuesNext w i)) p
+      ∙ ap (λ (m : Core × Host). stretchFrom (guestMemory (w .house) i) (desk (w .house .count) i) (suc k) 0 m (queuesNext w i)) g
 
   stretched-on : (k : ℕ) → guestStep w (w .house .current) .0 .calls ≡ false → stretched w (suc (suc k)) ≡ bumped (stretched (hop w) (suc k))
   stretched-on k e =
@@ -130,14 +143,14 @@ module _ (w : World) (s : Sound w) where
       let c = step-keeps w s .shadowed .count in
       let t = turn i (w .house .left - 1) in
       first-is k e
-      ∙ made-on (guestMemory (w .house) i) (suc k) 0 (o .0 .core, o .1)
-      ∙ ap bumped (sym (again-is k (hopped w i (s .shaped) f o (step-registers w (s .shaped) f) c t) (settled-pages (w .house) i o t i)))
+      ∙ made-on (guestMemory (w .house) i) (desk (w .house .count) i) (suc k) 0 (o .0 .core, o .1) (queuesNext w i)
+      ∙ ap bumped (sym (again-is k (hopped (queuedOn w) i (shaped-here w s) f o (step-registers w (s .shaped) f) c t) (settled-pages (queuedOn w .house) i o t i)))
 
   hop-sound : guestStep w (w .house .current) .0 .calls ≡ false → 1 < w .house .left → Sound (hop w)
   hop-sound e l = subst Sound (hop-is e l) (sound-step w s)
 
-  made-on-hop : (r : Stretch Host) → guestStep w (w .house .current) .0 .calls ≡ false → 1 < w .house .left → Made (hop w) r → Made w (bumped r)
-  unfolding bumped settledHouse
+  made-on-hop : (r : Stretch Host Queues) → guestStep w (w .house .current) .0 .calls ≡ false → 1 < w .house .left → Made (hop w) r → Made w (bumped r)
+  unfolding bumped settledHouse stretchedHouse
   made-on-hop r e l h =
       let i = w .house .current in
       let o = guestStep w i in
@@ -147,8 +160,8 @@ module _ (w : World) (s : Sound w) where
       ∙ ap (hostSteps (r .made)) (hop-is e l)
       ∙ h
       ∙ ap (λ (x : House). world x (r .memory .words))
-      (ap (λ (u : Turn). stretchedHouse (settledHouse (w .house) i o t) i r u) (turn-on (w .house) o (r .made) (r .called) (s .left))
-      ∙ joined w i (s .shaped) f o (step-registers w (s .shaped) f) (step-keeps w s .shadowed .count) t r (turnAfter (w .house) (suc (r .made)) (r .called)))
+      (ap (λ (u : Turn). stretchedHouse (settledHouse (queuedOn w .house) i o t) i r u) (turn-on (queuedOn w .house) o (r .made) (r .called) (s .left))
+      ∙ joined (queuedOn w) i (shaped-here w s) f o (step-registers w (s .shaped) f) (step-keeps w s .shadowed .count) t r (turnAfter (w .house) (suc (r .made)) (r .called)))
 
 hop-left : (w : World) (k : ℕ) → suc k < w .house .left → k < hop w .house .left
 unfolding settledHouse
@@ -169,24 +182,26 @@ stretch-is (suc k) w s l = go (guestStep w (w .house .current) .0 .calls) refl (
 
 -- ---- how many steps a stretch makes
 
-module _ {S : Type 0} (O : Ops S) where
-  made-most : (k a : ℕ) (m : Core × S) → (a ≤ stretchFrom O k a m .made) × (stretchFrom O k a m .made ≤ a + k)
+module _ {S T : Type 0} (O : Ops S) (D : Desk T) where
+  made-most : (k a : ℕ) (m : Core × S) (t : T) → (a ≤ stretchFrom O D k a m t .made) × (stretchFrom O D k a m t .made ≤ a + k)
   unfolding stretchFrom
-  made-most zero a m = (omega arith, omega arith)
-  made-most (suc k) a m =
-      let h = made-most k (suc a) (step O m .0 .core, step O m .1) in
-      either (λ (r : Stretch S). (a ≤ r .made) × (r .made ≤ a + suc k)) (step O m .0 .calls)
+  made-most zero a m t = (omega arith, omega arith)
+  made-most (suc k) a m t =
+      let o = stepAt O D m t in
+      let h = made-most k (suc a) (o .0 .0 .core, o .0 .1) (o .1) in
+      either (λ (r : Stretch S T). (a ≤ r .made) × (r .made ≤ a + suc k)) (o .0 .0 .calls)
       (λ _. (omega arith, omega arith))
       (λ _. (omega arith, omega arith))
 
-  made-some : (k : ℕ) (m : Core × S) → 0 < stretchFrom O (suc k) 0 m .made
+  made-some : (k : ℕ) (m : Core × S) (t : T) → 0 < stretchFrom O D (suc k) 0 m t .made
   unfolding stretchFrom
-  made-some k m =
-      let h = made-most k 1 (step O m .0 .core, step O m .1) in
-      either (λ (r : Stretch S). 0 < r .made) (step O m .0 .calls) (λ _. omega arith) (λ _. omega arith)
+  made-some k m t =
+      let o = stepAt O D m t in
+      let h = made-most k 1 (o .0 .0 .core, o .0 .1) (o .1) in
+      either (λ (r : Stretch S T). 0 < r .made) (o .0 .0 .calls) (λ _. omega arith) (λ _. omega arith)
 
 -- a stretch of n steps at most, where 0 < n and n is at most the steps left
-pub record Turned (w : World) (n : ℕ) (r : Stretch Host) : Type 0 where
+pub record Turned (w : World) (n : ℕ) (r : Stretch Host Queues) : Type 0 where
   pub some : 0 < r .made
   pub most : r .made ≤ n
   pub steps : hostSteps (r .made) w ≡ world (stretchedHouse (w .house) (w .house .current) r (turnAfter (w .house) (r .made) (r .called))) (r .memory .words)
@@ -194,8 +209,8 @@ pub record Turned (w : World) (n : ℕ) (r : Stretch Host) : Type 0 where
 pub turned : (n : ℕ) (w : World) → Sound w → 0 < n → n ≤ w .house .left → Turned w n (stretched w n)
 turned zero w s p l = absurd (omega arith)
 turned (suc k) w s p l = record {
-  some = made-some (guestMemory (w .house) (w .house .current)) k (guest w (w .house .current));
-  most = omega (arith, made-most (guestMemory (w .house) (w .house .current)) (suc k) 0 (guest w (w .house .current)) .1);
+  some = made-some (guestMemory (w .house) (w .house .current)) (desk (w .house .count) (w .house .current)) k (guest w (w .house .current)) (queuesOf (w .house));
+  most = omega (arith, made-most (guestMemory (w .house) (w .house .current)) (desk (w .house .count) (w .house .current)) (suc k) 0 (guest w (w .house .current)) (queuesOf (w .house)) .1);
   steps = stretch-is k w s (omega arith);
 }
 

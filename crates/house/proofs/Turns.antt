@@ -15,15 +15,19 @@ use Rattle.dlx.proofs.Kept.{either, getD-set-elim}
 use Rattle.dlx.proofs.Places.{step-count}
 use Rattle.translate.specs.Memory.{Host}
 use Rattle.translate.proofs.Steps.{Whole, step-whole}
-use Rattle.translate.proofs.Tests.{by-test, by-eq}
-use Rattle.house.specs.Lists.{inner, outer}
+use Rattle.dlx.proofs.Tests.{by-test, by-eq}
+use Rattle.tickets.specs.Parts.{inner, outer}
 use Rattle.house.specs.House.{noPartition, partition, pagesOf, registersOf, framesOf, shadowOf}
-use Rattle.house.specs.Turns.{World, world, following, nextFrom, nextOf, turn, turnAfter, guestMemory, guestStep, counted, settledHouse, stepWith, hostStep, hostSteps, turnOf}
+use Rattle.house.specs.Turns.{World, world, following, nextFrom, nextOf, turn, turnAfter, guestMemory, requestNow, queuesNext, guestStep, queuedOn, counted, settledHouse, stepWith, hostStep, hostSteps, turnOf}
 use Rattle.house.specs.Sound.{Shaped, SoundPartition, Sound, Undamaged}
+use Rattle.tickets.specs.Queues.{Queues, waitingOf}
+use Rattle.house.specs.Tickets.{queuesOf, withQueues}
 use Rattle.house.specs.declared.House.{House}
 use Rattle.house.specs.declared.Turn.{Turn}
 use Rattle.house.proofs.Lists.{or-left, one-way}
-use Rattle.house.proofs.Parts.{inner-length, outer-length, inner-outer, inner-other, inner-above}
+use Rattle.tickets.specs.Queues.{Queued}
+use Rattle.tickets.proofs.Queues.{desk-queued}
+use Rattle.tickets.proofs.Parts.{inner-length, outer-length, inner-outer, registers-apart, entries-apart}
 
 -- ---- whose turn it is
 
@@ -136,21 +140,6 @@ in-turn-on r n q c l calls s = record {
   most = either (λ (t : Turn). t .left ≤ q) (eqb l 1 || calls) (λ _. omega arith) (λ _. omega (arith, s .most));
 }
 
--- ---- another partition's part
-
--- of 32 registers, or 256 entries
-registers-apart : (m k : List ℕ) (i j : ℕ) → i * 32 + 32 ≤ length m → j * 32 + 32 ≤ length m → length k ≡ 32 → (j ≡ i → ⊥) → inner (j * 32) 32 (outer (i * 32) 32 m k) ≡ inner (j * 32) 32 m
-registers-apart m k i j f g e d =
-    by-test (ltb j i)
-    (λ t. let l = ltb-true j i t in inner-other m k (i * 32) (j * 32) 32 f g e (omega arith))
-    (λ t. let l = ltb-false j i t in inner-above m k (i * 32) (j * 32) 32 f g e (omega arith))
-
-pub entries-apart : (m k : List ℕ) (i j : ℕ) → i * 256 + 256 ≤ length m → j * 256 + 256 ≤ length m → length k ≡ 256 → (j ≡ i → ⊥) → inner (j * 256) 256 (outer (i * 256) 256 m k) ≡ inner (j * 256) 256 m
-entries-apart m k i j f g e d =
-    by-test (ltb j i)
-    (λ t. let l = ltb-true j i t in inner-other m k (i * 256) (j * 256) 256 f g e (omega arith))
-    (λ t. let l = ltb-false j i t in inner-above m k (i * 256) (j * 256) 256 f g e (omega arith))
-
 -- ---- the house after partition i came to o
 
 pub settled-pages : (h : House) (i : ℕ) (o : Outcome × Host) (t : Turn) (j : ℕ) → pagesOf (settledHouse h i o t) j ≡ pagesOf h j
@@ -166,6 +155,8 @@ module _ (w : World) (i : ℕ) (s : Shaped (w .house)) (few : i < 8) (o : Outcom
     regs = outer-length (w .house .regs) (i * 32) 32 (omega (arith, s .regs)) _ regs ∙ s .regs;
     frames = s .frames;
     shadows = outer-length (w .house .shadows) (i * 256) 256 (omega (arith, s .shadows)) _ shadow ∙ s .shadows;
+    tickets = s .tickets;
+    waiting = s .waiting;
   }
 
   pub settled-partition : partition (settledHouse (w .house) i o t) i ≡ counted (partition (w .house) i) o
@@ -193,43 +184,70 @@ module _ (w : World) (i : ℕ) (s : Shaped (w .house)) (few : i < 8) (o : Outcom
     unfolding settledHouse
     other-shadow = entries-apart (w .house .shadows) _ i j (omega (arith, s .shadows)) (omega (arith, s .shadows)) shadow other
 
+-- ---- the queues after a step
+
+pub queued-of : (h : House) → Shaped h → ((j : ℕ) → waitingOf (queuesOf h) j ≤ 32) → Queued (queuesOf h)
+queued-of h s m = record { tickets = s .tickets; waiting = s .waiting; most = m }
+
+pub queued-next : (w : World) → Queued (queuesOf (w .house)) → w .house .count ≤ 8 → w .house .current < 8 → Queued (queuesNext w (w .house .current))
+unfolding queuesNext
+queued-next w q few small = desk-queued (w .house .count) (w .house .current) (queuesOf (w .house)) q few small (requestNow w (w .house .current))
+
+pub queued-shaped : (h : House) → Shaped h → (t : Queues) → Queued t → Shaped (withQueues h t)
+queued-shaped h s t q = record {
+  running = s .running;
+  parts = s .parts;
+  regs = s .regs;
+  frames = s .frames;
+  shadows = s .shadows;
+  tickets = q .tickets;
+  waiting = q .waiting;
+}
+
 -- ---- soundness
 
 -- a step keeps the number of registers
 pub step-registers : (w : World) → Shaped (w .house) → w .house .current < 8 → length (guestStep w (w .house .current) .0 .core .registers) ≡ 32
 unfolding guestStep
 step-registers w s l =
-    step-count (guestMemory (w .house) (w .house .current)) _ _
+    step-count (guestMemory (w .house) (w .house .current)) _ _ _
     ∙ inner-length (w .house .regs) (w .house .current * 32) 32 (omega (arith, s .regs))
 
 module _ (w : World) (s : Sound w) where
   pub step-keeps : Whole (framesOf (w .house) (w .house .current)) (pagesOf (w .house) (w .house .current)) (length (w .memory)) (guestStep w (w .house .current) .1)
   unfolding guestStep
-  step-keeps = step-whole _ _ _ _ _ (record { long = refl; shadowed = s .each (w .house .current) (s .here) .shadowed })
+  step-keeps = step-whole _ _ _ _ _ _ (record { long = refl; shadowed = s .each (w .house .current) (s .here) .shadowed })
 
   here-small : w .house .current < 8
   here-small = omega (arith, s .here, s .few)
 
+  queued-here : Queued (queuesNext w (w .house .current))
+  queued-here = queued-next w (queued-of (w .house) (s .shaped) (s .most)) (s .few) here-small
+
+  pub shaped-here : Shaped (queuedOn w .house)
+  shaped-here = queued-shaped (w .house) (s .shaped) _ queued-here
+
   module _ (j : ℕ) (l : j < w .house .count) where
-    settled-each : (t : Turn) → SoundPartition (world (settledHouse (w .house) (w .house .current) (guestStep w (w .house .current)) t) (guestStep w (w .house .current) .1 .words)) j
+    settled-each : (t : Turn) → SoundPartition (world (settledHouse (queuedOn w .house) (w .house .current) (guestStep w (w .house .current)) t) (guestStep w (w .house .current) .1 .words)) j
     unfolding settledHouse
     settled-each t =
         let i = w .house .current in
         let o = guestStep w i in
+        let v = queuedOn w in
         let g = step-registers w (s .shaped) here-small in
         let k = step-keeps .shadowed .count in
-        let p = settled-pages (w .house) i o t in
+        let p = settled-pages (v .house) i o t in
         by-eq j i
         (λ e.
-        subst (λ (x : ℕ). SoundPartition (world (settledHouse (w .house) i o t) (o .1 .words)) x) (sym e)
+        subst (λ (x : ℕ). SoundPartition (world (settledHouse (v .house) i o t) (o .1 .words)) x) (sym e)
         (record {
           placed = rw (p i) (rw (step-keeps .long) (s .each i (s .here) .placed));
-          shadowed = rw (p i, settled-shadow w i (s .shaped) here-small o g k t) (step-keeps .shadowed);
+          shadowed = rw (p i, settled-shadow v i shaped-here here-small o g k t) (step-keeps .shadowed);
         }))
         (λ d.
         record {
           placed = rw (p j) (rw (step-keeps .long) (s .each j l .placed));
-          shadowed = rw (p j, other-shadow w i (s .shaped) here-small o g k t j (omega (arith, s .few)) d) (s .each j l .shadowed);
+          shadowed = rw (p j, other-shadow v i shaped-here here-small o g k t j (omega (arith, s .few)) d) (s .each j l .shadowed);
         })
 
   pub sound-step : Sound (hostStep w)
@@ -240,12 +258,13 @@ module _ (w : World) (s : Sound w) where
       let o = guestStep w i in
       let t = turnAfter h 1 (o .0 .calls) in
       record {
-        shaped = settled-shaped w i (s .shaped) here-small o (step-registers w (s .shaped) here-small) (step-keeps .shadowed .count) t;
+        shaped = settled-shaped (queuedOn w) i shaped-here here-small o (step-registers w (s .shaped) here-small) (step-keeps .shadowed .count) t;
         few = s .few;
         each = λ j l. settled-each j l t;
         here = turn-here (h .running) (h .count) (h .q) i (h .left) (o .0 .calls) (s .here);
         left = turn-left (h .running) (h .count) (h .q) i (h .left) (o .0 .calls) (s .turns) (s .left);
         turns = s .turns;
+        most = queued-here .most;
       }
 
 -- what a host step keeps, so many keep

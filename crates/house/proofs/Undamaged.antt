@@ -1,6 +1,6 @@
 -- What a house that is not damaged gives, place by place; and, in the memory of its size, that host steps can be made of it while one is current.
 use mathlib.Core.Path.{_≡_, sym, ap, subst, _∙_}
-use mathlib.Core.Bool.{Bool, true, false, not, _||_}
+use mathlib.Core.Bool.{Bool, true, false, not, _&&_, _||_}
 use mathlib.Core.List.{List}
 use Prim.Native.Nat.{ℕ, _*_, _/_, _%_, _^_, _<_, _≤_}
 use native.Mathlib.Omega.{arith}
@@ -10,15 +10,18 @@ use lib.ListN.{length, getD, List·getD-eq-default}
 use Rattle.translate.specs.Entries.{valid}
 use Rattle.translate.specs.Walk.{entries}
 use Rattle.translate.proofs.Entries.{empty-invalid}
-use Rattle.translate.proofs.Tests.{by-test, and-left}
+use Rattle.dlx.proofs.Tests.{by-test, and-left}
 use Rattle.house.specs.Lists.{any, between}
 use Rattle.house.specs.House.{partition, pagesOf, runs, registersOf, framesOf, shadowOf}
-use Rattle.house.specs.Damage.{wholeFrames, outsideLimits, stands, frameTwice, turnWrong, registersWrong, shadowWrong, notZero, partitionUsed, unusedWrong, damaged}
+use Rattle.house.specs.Damage.{wholeFrames, outsideLimits, stands, frameTwice, turnWrong, registersWrong, shadowWrong, notZero, partitionUsed, unusedWrong, queueWrong, queuesWrong, damaged}
 use Rattle.house.specs.Turns.{world}
 use Rattle.house.specs.Sound.{Shaped, SoundPartition, Sound, Proper, Unused, Undamaged}
+use Rattle.tickets.specs.Queues.{ProperQueue}
+use Rattle.tickets.specs.Queues.{placesOf, waitingOf}
+use Rattle.house.specs.Tickets.{queuesOf}
 use Rattle.house.specs.declared.House.{House}
 use Rattle.house.proofs.Lists.{or-left, or-right, and-right, by-order, any-none}
-use Rattle.house.proofs.Parts.{inner-length}
+use Rattle.tickets.proofs.Parts.{inner-length}
 use Rattle.house.proofs.Conditions.{within, stands-none, is-zero, zeros, entry-proper, partition-unused, badPages, badFrames, frameStands, badCore, badEntry, badBehind, badUnused, badPlace}
 
 module _ (h : House) where
@@ -164,6 +167,31 @@ module _ (h : House) where
           shadows = zeros (h .shadows) (i * 256) 256 (or-right (runs h i || partitionUsed (partition h i) || notZero (h .regs) (i * 32) 32 || notZero (h .frames) (i * 256) 256) (notZero (h .shadows) (i * 256) 256) a);
         }
 
+  module _ (e : queuesWrong h ≡ false) (j : ℕ) (l : j < 8) where
+    abbrev above : Bool
+    above = ltb 32 (waitingOf (queuesOf h) j)
+
+    abbrev absent : Bool
+    absent = leb (h .count) j && not (eqb (waitingOf (queuesOf h) j) 0)
+
+    abbrev left-behind : ℕ → Bool
+    left-behind k = leb (waitingOf (queuesOf h) j) k && not (eqb (getD (placesOf (queuesOf h) j) k 0) 0)
+
+    queue-not : queueWrong h j ≡ false
+    unfolding queuesWrong
+    queue-not = any-none (queueWrong h) 8 e j l
+
+    queue-proper : ProperQueue (h .count) (queuesOf h) j
+    queue-proper =
+        let a = or-left (above || absent) (any left-behind 32) queue-not in
+        record {
+          most = ltb-false 32 _ (or-left above absent a);
+          none = λ m. let z : absent ≡ false = or-right above absent a in is-zero _ (simp (le-leb (h .count) j m) at z);
+          spare = λ k m n.
+              let z : left-behind k ≡ false = any-none left-behind 32 (or-right (above || absent) (any left-behind 32) queue-not) k n in
+              is-zero _ (simp (le-leb (waitingOf (queuesOf h) j) k m) at z);
+        }
+
   -- ---- all together
 
   pub undamaged-gives : damaged h ≡ false → Undamaged h
@@ -175,14 +203,16 @@ module _ (h : House) where
       let D = registersWrong h in
       let E = shadowWrong h in
       let F = unusedWrong h in
-      let e₁ = or-left (A || B || C || D || E) F e in
+      let G = queuesWrong h in
+      let e₀ = or-left (A || B || C || D || E || F) G e in
+      let e₁ = or-left (A || B || C || D || E) F e₀ in
       let e₂ = or-left (A || B || C || D) E e₁ in
       let e₃ = or-left (A || B || C) D e₂ in
       let e₄ = or-left (A || B) C e₃ in
       let limits = or-left A B e₄ in
       let turns = or-right (A || B) C e₃ in
       let cores = or-right (A || B || C) D e₂ in
-      let places = or-right (A || B || C || D || E) F e in
+      let places = or-right (A || B || C || D || E) F e₀ in
       record {
         some = limit-count limits .0;
         few = limit-count limits .1;
@@ -200,6 +230,7 @@ module _ (h : House) where
         proper = entries-proper (or-right (A || B || C || D) E e₁);
         behind = λ i k l m n. place-behind places i k l (omega (arith, limit-count limits .1)) m n;
         unused = place-unused places;
+        queued = queue-proper (or-right (A || B || C || D || E || F) G e);
       }
 
 -- ---- what other proofs cite
@@ -244,4 +275,7 @@ module _ (h : House) (e : damaged h ≡ false) where
       here = u .busy n .0;
       left = omega (arith, n);
       turns = u .turns .0;
+      most = λ j. by-test (ltb j 8)
+          (λ t. u .queued j (ltb-true j 8 t) .most)
+          (λ t. omega (arith, List·getD-eq-default (h .waiting) 0 {n = j} (let k = ltb-false j 8 t in omega (arith, s .waiting))));
     }

@@ -7,7 +7,7 @@ use native.Mathlib.Omega.{arith}
 use borrow.Author.Tests.{eqb-true, eqb-false, leb-false, ltb-false, not-false, ne-eqb}
 use lib.Dec.{eqb, ltb}
 use lib.ListN.{length, getD}
-use Rattle.translate.proofs.Tests.{and-left}
+use Rattle.dlx.proofs.Tests.{and-left}
 use Rattle.house.specs.Lists.{any, between}
 use Rattle.house.specs.House.{pagesOf}
 use Rattle.house.specs.Damage.{wholeFrames, damaged}

@@ -85,4 +85,6 @@ bootedHouse ps q fr words = record {
   regs = replicate 256 0;
   frames = listFrom (laid ps fr) 0 2048;
   shadows = replicate 2048 0;
+  tickets = replicate 256 0;
+  waiting = replicate 8 0;
 }

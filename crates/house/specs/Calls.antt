@@ -7,7 +7,8 @@ use lib.ListN.{length, getD, set, drop, replicate}
 use Rattle.dlx.specs.Choice.{if_then_else_}
 use Rattle.translate.specs.Walk.{entries}
 use Rattle.translate.specs.Memory.{hostWord}
-use Rattle.house.specs.Lists.{outer, listFrom, any}
+use Rattle.tickets.specs.Parts.{outer}
+use Rattle.house.specs.Lists.{listFrom, any}
 use Rattle.house.specs.House.{noHouse, pagesOf, runs, framesOf}
 use Rattle.house.specs.Damage.{damaged}
 use Rattle.house.specs.Boot.{Verdict, verdict, case, firstOf, bootVerdict, bootedHouse}
@@ -70,6 +71,8 @@ withTurn h running t = record {
   regs = h .regs;
   frames = h .frames;
   shadows = h .shadows;
+  tickets = h .tickets;
+  waiting = h .waiting;
 }
 
 -- starting when none is current makes that one current with q left
@@ -99,6 +102,8 @@ emptiedHouse h i = record {
   regs = h .regs;
   frames = h .frames;
   shadows = outer (i * 256) 256 (h .shadows) (replicate entries 0);
+  tickets = h .tickets;
+  waiting = h .waiting;
 }
 
 unfoldable pub startCall : World → ℕ → Answered

@@ -10,6 +10,8 @@ use Rattle.translate.specs.Entries.{number, valid}
 use Rattle.translate.specs.Walk.{entries}
 use Rattle.house.specs.Lists.{all, any, between}
 use Rattle.house.specs.House.{partition, pagesOf, runs, registersOf, framesOf, shadowOf}
+use Rattle.tickets.specs.Queues.{placesOf, waitingOf}
+use Rattle.house.specs.Tickets.{queuesOf}
 use Rattle.house.specs.declared.House.{House}
 
 -- boot's limits
@@ -86,6 +88,16 @@ unusedWrong h =
     || notZero (h .frames) (i * 256) 256
     || notZero (h .shadows) (i * 256) 256) 8
 
+-- a count above 32, or of a partition that is not there; or anything but 0 in a place of a queue that no ticket uses
+abbrev pub queueWrong : House → ℕ → Bool
+queueWrong h j =
+    ltb 32 (waitingOf (queuesOf h) j)
+    || (leb (h .count) j && not (eqb (waitingOf (queuesOf h) j) 0))
+    || any (λ k. leb (waitingOf (queuesOf h) j) k && not (eqb (getD (placesOf (queuesOf h) j) k 0) 0)) 32
+
+unfoldable pub queuesWrong : House → Bool
+queuesWrong h = any (queueWrong h) 8
+
 unfoldable pub damaged : House → Bool
 damaged h =
-    outsideLimits h || frameTwice h || turnWrong h || registersWrong h || shadowWrong h || unusedWrong h
+    outsideLimits h || frameTwice h || turnWrong h || registersWrong h || shadowWrong h || unusedWrong h || queuesWrong h

@@ -16,7 +16,9 @@ use Rattle.house.specs.Damage.{damaged}
 use Rattle.house.specs.Turns.{World, world, turn, turnOf, guest, hostStep, hostSteps}
 use Rattle.house.specs.Sound.{Shaped}
 use Rattle.house.specs.Calls.{Answered, bootCall, runCall, startCall, stopCall, emptyCall, readCall}
-use Rattle.house.specs.Histories.{Boot, booted, Call, history, Grown, turnsMade, stepsMade, staysRunning, loneOf, loneAtBoot}
+use Rattle.house.specs.Histories.{Boot, booted, Call, history, Grown, turnsMade, stepsMade, staysRunning, loneOf, loneAtBoot, queueIn, loneAsks, loneAnswer, logOf, ticketsTo, ticketsOff, feedOf}
+use Rattle.tickets.specs.Queues.{waitingOf, lined}
+use Rattle.house.specs.Tickets.{queuesOf}
 use Rattle.house.specs.declared.House.{House}
 
 -- ---- demand 1
@@ -76,15 +78,17 @@ abbrev pub NeverDamaged : Type 0
 NeverDamaged = (b : Boot) → ((i : ℕ) → getD (b .memory) i 0 < 2 ^ 32) → (w : World) → Grown b w → damaged (w .house) ≡ false
 
 -- Step: a host step is exactly one lone step of the partition whose turn it is; no other partition's registers or pages change; the counter goes up
--- by 1; the turn passes at 0 left or after a trap taken in system mode.
+-- by 1; the turn passes at 0 left or after a trap taken in system mode. The answer is what the rules say of what the lone machine asks and of the queues
+-- as lists; each queue has then what is sent done to it behind, and what is taken by its partition gone.
 pub record StepOf (w w′ : World) (i : ℕ) : Type 0 where
-  pub own : loneOf w′ i ≡ (let o = step (loneMemory (pagesOf (w .house) i)) (loneOf w i) in (o .0 .core, o .1))
+  pub own : loneOf w′ i ≡ (let o = step (loneMemory (pagesOf (w .house) i)) (loneAnswer w i) (loneOf w i) in (o .0 .core, o .1))
   pub others : (j : ℕ) → j < w .house .count → (j ≡ i → ⊥) → loneOf w′ j ≡ loneOf w j
   pub counters : (j : ℕ) → j < w .house .count → partition (w′ .house) j .counter ≡
       (if eqb j i then (partition (w .house) j .counter + 1) % 2 ^ 64 else partition (w .house) j .counter)
   pub turns : turn (w′ .house .current) (w′ .house .left) ≡
-      turnOf (w .house .running) (w .house .count) (w .house .q) i (w .house .left) 1 (step (loneMemory (pagesOf (w .house) i)) (loneOf w i) .0 .calls)
+      turnOf (w .house .running) (w .house .count) (w .house .q) i (w .house .left) 1 (step (loneMemory (pagesOf (w .house) i)) (loneAnswer w i) (loneOf w i) .0 .calls)
   pub running : w′ .house .running ≡ w .house .running
+  pub queues : (j : ℕ) → j < w .house .count → queueIn w′ j ≡ lined i (loneAsks w i) (loneAnswer w i) (queueIn w j) j
 
 abbrev pub Step : Type 0
 Step = (b : Boot) (w : World) → Grown b w → (w .house .left ≡ 0 → ⊥) → StepOf w (hostStep w) (w .house .current)
@@ -120,25 +124,41 @@ Reach = (b : Boot) (w : World) → Grown b w → (i : ℕ) → i < w .house .cou
 
 -- ---- demand 3
 
--- Histories: each partition is where a lone machine stands that started from its pages at boot, after as many steps as its turns gave it; its
--- counter has that number modulo 2^64.
+-- Histories: each partition is where a lone machine stands that started from its pages at boot, after as many steps as its turns gave it, fed the same
+-- ticket answers at the same step numbers of its own; its counter has that number modulo 2^64.
 abbrev pub Histories : Type 0
 Histories = (b : Boot) (cs : List Call) (i : ℕ) → i < length (b .pages) →
     let w = history cs (booted b) in
     let n = turnsMade cs (booted b) i in
-    (loneOf w i ≡ steps (loneMemory (getD (b .pages) i 0)) n (loneAtBoot b i))
+    (loneOf w i ≡ steps (loneMemory (getD (b .pages) i 0)) (feedOf cs (booted b) i) n (loneAtBoot b i))
     × (partition (w .house) i .counter ≡ n % 2 ^ 64)
 
--- Two histories from one boot that gave a partition as many steps leave it equal.
+-- the answers to partition i are the same in both
+abbrev pub SameAnswers : Boot → List Call → List Call → ℕ → Type 0
+SameAnswers b cs cs′ i = (k : ℕ) → k < turnsMade cs (booted b) i → feedOf cs (booted b) i k ≡ feedOf cs′ (booted b) i k
+
+-- Two histories from one boot that gave a partition as many steps and the same ticket answers leave it equal.
 abbrev pub EqualGuests : Type 0
-EqualGuests = (b : Boot) (cs cs′ : List Call) (i : ℕ) → i < length (b .pages) → turnsMade cs (booted b) i ≡ turnsMade cs′ (booted b) i →
+EqualGuests = (b : Boot) (cs cs′ : List Call) (i : ℕ) → i < length (b .pages) → turnsMade cs (booted b) i ≡ turnsMade cs′ (booted b) i → SameAnswers b cs cs′ i →
     loneOf (history cs (booted b)) i ≡ loneOf (history cs′ (booted b)) i
 
 -- So do two that leave its counter equal, where it has not gone round.
 abbrev pub EqualCounters : Type 0
-EqualCounters = (b : Boot) (cs cs′ : List Call) (i : ℕ) → i < length (b .pages) → turnsMade cs (booted b) i < 2 ^ 64 → turnsMade cs′ (booted b) i < 2 ^ 64 →
+EqualCounters = (b : Boot) (cs cs′ : List Call) (i : ℕ) → i < length (b .pages) → turnsMade cs (booted b) i < 2 ^ 64 → turnsMade cs′ (booted b) i < 2 ^ 64 → SameAnswers b cs cs′ i →
     partition (history cs (booted b) .house) i .counter ≡ partition (history cs′ (booted b) .house) i .counter →
     loneOf (history cs (booted b)) i ≡ loneOf (history cs′ (booted b)) i
+
+-- Tickets: the tickets sent done to a partition in a history are those that it took and then those that wait, in this order.
+abbrev pub Tickets : Type 0
+Tickets = (b : Boot) (cs : List Call) (j : ℕ) → j < length (b .pages) →
+    let log = logOf cs (booted b) in
+    ticketsTo j log ≡ ticketsOff j log ++ queueIn (history cs (booted b)) j
+
+-- So their number is that of those taken and those waiting.
+abbrev pub TicketCounts : Type 0
+TicketCounts = (b : Boot) (cs : List Call) (j : ℕ) → j < length (b .pages) →
+    let log = logOf cs (booted b) in
+    length (ticketsTo j log) ≡ length (ticketsOff j log) + waitingOf (queuesOf (history cs (booted b) .house)) j
 
 -- A read-out that is done yields the words of those pages.
 abbrev pub ReadsThosePages : Type 0

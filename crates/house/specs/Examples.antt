@@ -12,7 +12,9 @@ use Rattle.dlx.specs.declared.partition.Processor.{Processor}
 use Rattle.translate.specs.Entries.{entryOf, faultWord, compositionOf}
 use Rattle.house.specs.Lists.{listFrom}
 use Rattle.house.specs.House.{noHouse, partition, registersOf}
-use Rattle.house.specs.Damage.{outsideLimits, frameTwice, turnWrong, registersWrong, shadowWrong, partitionUsed, unusedWrong, damaged}
+use Rattle.house.specs.Damage.{outsideLimits, frameTwice, turnWrong, registersWrong, shadowWrong, partitionUsed, unusedWrong, queuesWrong, damaged}
+use Rattle.tickets.specs.Queues.{Queues, queues}
+use Rattle.house.specs.Tickets.{queuesOf, withQueues}
 use Rattle.house.specs.Boot.{Verdict, bootVerdict, bootedHouse}
 use Rattle.house.specs.Turns.{World, world, turn, hostStep, hostSteps, houseAt}
 use Rattle.house.specs.Calls.{Answered, bootCall, runVerdict, runCall, oneVerdict, withTurn, started, stopped, emptiedHouse, startCall, stopCall, emptyCall, readVerdict, readOut, Read, readCall}
@@ -59,6 +61,8 @@ withSizes h count q words frames = record {
   regs = h .regs;
   frames = frames;
   shadows = h .shadows;
+  tickets = h .tickets;
+  waiting = h .waiting;
 }
 
 abbrev withFrame : House → ℕ → ℕ → House
@@ -114,7 +118,7 @@ same [] (y ∷ ys) = false
 same (x ∷ xs) [] = false
 same (x ∷ xs) (y ∷ ys) = eqb x y && same xs ys
 
--- every number in a house, 4,477 of them
+-- every number in a house, 4,741 of them
 
 unfoldable pub flags : List Bool → List ℕ
 flags [] = []
@@ -130,7 +134,7 @@ fields (p ∷ ps) =
 unfoldable pub numbers : House → List ℕ
 numbers h =
     h .count ∷ h .q ∷ h .words ∷ h .current ∷ h .left
-    ∷ flags (h .running) ++ (fields (h .parts) ++ (h .regs ++ (h .frames ++ h .shadows)))
+    ∷ flags (h .running) ++ (fields (h .parts) ++ (h .regs ++ (h .frames ++ (h .shadows ++ (h .tickets ++ h .waiting)))))
 
 unfoldable pub sameHouse : House → House → Bool
 sameHouse h k = same (numbers h) (numbers k)
@@ -226,7 +230,7 @@ plain q words = bootVerdict (1 ∷ []) q (0 ∷ []) words
 
 -- a refused boot returns the house of no partitions, every number in it 0
 unfoldable pub unbooted : Answered → ℕ → ℕ → Bool
-unbooted a n d = answers (a .verdict) n d && same (numbers (a .world .house)) (zeros 4477)
+unbooted a n d = answers (a .verdict) n d && same (numbers (a .world .house)) (zeros 4741)
 
 unfoldable pub boots : List Bool
 boots =
@@ -276,7 +280,7 @@ boots =
     -- all registers zero but PC = 4, all running, partition 0 current with q steps left, and unused places 0
     ∷ same (numbers (bootCall (2 ∷ 1 ∷ []) 7 (3 ∷ 1 ∷ 2 ∷ []) (zeros 4096) .world .house))
     (2 ∷ 7 ∷ 4096 ∷ 0 ∷ 7 ∷ 1 ∷ 1 ∷ zeros 6
-    ++ (2 ∷ 0 ∷ 4 ∷ zeros 11 ++ (1 ∷ 0 ∷ 4 ∷ zeros 11 ++ (zeros 84 ++ (zeros 256 ++ (3 ∷ 1 ∷ zeros 254 ++ (2 ∷ zeros 1791 ++ zeros 2048)))))))
+    ++ (2 ∷ 0 ∷ 4 ∷ zeros 11 ++ (1 ∷ 0 ∷ 4 ∷ zeros 11 ++ (zeros 84 ++ (zeros 256 ++ (3 ∷ 1 ∷ zeros 254 ++ (2 ∷ zeros 1791 ++ (zeros 2048 ++ zeros 264))))))))
     ∷ []
 
 -- 256 pages pass
@@ -320,7 +324,7 @@ turns =
     -- and changes nothing of another partition's
     ∷ same (numbers six)
     (2 ∷ 5 ∷ 2048 ∷ 1 ∷ 4 ∷ 1 ∷ 1 ∷ zeros 6
-    ++ (1 ∷ 0 ∷ 4 ∷ 0 ∷ 0 ∷ 2 ∷ 8 ∷ 4 ∷ zeros 5 ++ (5 ∷ 1 ∷ 4 ∷ 8 ∷ zeros 10 ++ (1 ∷ zeros 84 ++ (zeros 33 ++ (5 ∷ zeros 222 ++ (zeros 256 ++ (1 ∷ zeros 3839))))))))
+    ++ (1 ∷ 0 ∷ 4 ∷ 0 ∷ 0 ∷ 2 ∷ 8 ∷ 4 ∷ zeros 5 ++ (5 ∷ 1 ∷ 4 ∷ 8 ∷ zeros 10 ++ (1 ∷ zeros 84 ++ (zeros 33 ++ (5 ∷ zeros 222 ++ (zeros 256 ++ (1 ∷ zeros 4103))))))))
     -- after a trap taken in system mode, once also where it is the last step
     ∷ current (trapped 2) 1 2
     ∷ current (trapped 1) 1 1
@@ -521,6 +525,45 @@ places =
     ∷ damaged (withEntry 767 (entryOf 0 0))
     -- a valid entry of an own frame, protected or not, is right
     ∷ not (damaged (withEntry 263 (entryOf 1 1)))
+    ∷ []
+
+-- ---- tickets
+
+-- one step of the word w by partition 0 of `two`, where register 1 is v, register 2 is to and register 3 is 55
+unfoldable pub asks : ℕ → ℕ → ℕ → Queues → World
+asks w v to t = hostStep (world (withQueues (withRegisters two (0 ∷ v ∷ to ∷ 55 ∷ zeros 252)) t) (w ∷ zeros 2047))
+
+-- registers 1 and 3 of partition 0, and the queues, are then these; the turn goes on, and no interrupt was taken
+unfoldable pub leaves : World → ℕ → ℕ → Queues → Bool
+leaves w r1 r3 t =
+    eqb (register w 1) r1 && eqb (register w 3) r3 && pair w 4 8 && current (w .house) 0 4
+    && same (w .house .tickets) (t .tickets) && same (w .house .waiting) (t .waiting)
+
+-- partition 0's places, then partition 1's, and how many wait for them
+abbrev lines : List ℕ → ℕ → List ℕ → ℕ → Queues
+lines a n b m = queues (take 32 (a ++ zeros 32) ++ (take 32 (b ++ zeros 32) ++ zeros 192)) (n ∷ m ∷ zeros 6)
+
+unfoldable pub exchanges : List Bool
+exchanges =
+    -- a ticket sent stands behind the others; to oneself too
+    leaves (asks 0xF8000100 7 1 (lines [] 0 [] 0)) 7 0 (lines [] 0 (7 ∷ []) 1)
+    ∷ leaves (asks 0xF8000100 7 1 (lines (4 ∷ []) 1 (9 ∷ 8 ∷ []) 2)) 7 0 (lines (4 ∷ []) 1 (9 ∷ 8 ∷ 7 ∷ []) 3)
+    ∷ leaves (asks 0xF8000100 7 0 (lines (4 ∷ []) 1 [] 0)) 7 0 (lines (4 ∷ 7 ∷ []) 2 [] 0)
+    -- the 32nd fits, the 33rd finds a full queue; partition 2 is not there
+    ∷ leaves (asks 0xF8000100 7 1 (lines [] 0 (upTo 31) 31)) 7 0 (lines [] 0 (upTo 31 ++ (7 ∷ [])) 32)
+    ∷ leaves (asks 0xF8000100 7 1 (lines [] 0 (upTo 32) 32)) 7 1 (lines [] 0 (upTo 32) 32)
+    ∷ leaves (asks 0xF8000100 7 2 (lines [] 0 [] 0)) 7 2 (lines [] 0 [] 0)
+    ∷ leaves (asks 0xF8000100 7 0xFFFFFFFF (lines [] 0 [] 0)) 7 2 (lines [] 0 [] 0)
+    -- the oldest is taken, and the others move on; none waiting leaves register 1
+    ∷ leaves (asks 0xF8000101 7 1 (lines (9 ∷ 8 ∷ []) 2 (5 ∷ []) 1)) 9 0 (lines (8 ∷ []) 1 (5 ∷ []) 1)
+    ∷ leaves (asks 0xF8000101 7 1 (lines (ones 32) 32 [] 0)) 1 0 (lines (ones 31) 31 [] 0)
+    ∷ leaves (asks 0xF8000101 7 1 (lines [] 0 (5 ∷ []) 1)) 7 3 (lines [] 0 (5 ∷ []) 1)
+    -- a count above 32, of a partition that is not there, or a place used that none waits in, is damage
+    ∷ queuesWrong (withQueues two (lines (upTo 32) 33 [] 0))
+    ∷ queuesWrong (withQueues two (queues (zeros 256) (set (zeros 8) 2 1)))
+    ∷ queuesWrong (withQueues two (lines (4 ∷ 7 ∷ []) 1 [] 0))
+    ∷ queuesWrong (withQueues two (queues (set (zeros 256) 255 1) (zeros 8)))
+    ∷ not (queuesWrong (withQueues two (lines (upTo 32) 32 (0 ∷ []) 1)))
     ∷ []
 
 -- a booted house is not damaged, nor one with nothing running; the house of no partitions is

@@ -1,16 +1,19 @@
 -- Histories: a boot that is done, then any calls, house and memory handed on untouched; and the lone machine of each partition.
 use mathlib.Core.Path.{_≡_}
 use mathlib.Core.Bool.{Bool, _&&_}
-use mathlib.Core.List.{List, [], _∷_}
+use mathlib.Core.List.{List, [], _∷_, _++_}
 use Prim.Native.Nat.{ℕ, zero, suc, _+_, _*_, _/_, _%_}
 use lib.Dec.{eqb}
 use lib.ListN.{length, getD, replicate}
 use Rattle.dlx.specs.Choice.{if_then_else_}
 use Rattle.dlx.specs.Processor.{freshProcessor}
-use Rattle.dlx.specs.Machine.{Core, core}
-use Rattle.translate.specs.Memory.{Lone, lone, hostWord}
+use Rattle.dlx.specs.Machine.{Core, core, Request, asked, reply}
+use Rattle.dlx.specs.declared.execute.Reply.{Reply}
+use Rattle.translate.specs.Memory.{Lone, lone, loneMemory, hostWord}
 use Rattle.house.specs.Lists.{listFrom}
 use Rattle.house.specs.House.{partition, pagesOf, runs, registersOf, framesOf}
+use Rattle.tickets.specs.Queues.{queueOf, ruled, sentTo, takenBy}
+use Rattle.house.specs.Tickets.{queuesOf}
 use Rattle.house.specs.Boot.{bootVerdict, bootedHouse, offset}
 use Rattle.house.specs.Turns.{World, world, hostSteps}
 use Rattle.house.specs.Calls.{runCall, startCall, stopCall, emptyCall, readCall}
@@ -97,3 +100,52 @@ loneAtBoot b i = (
   lone (record { pto = 0; ptl = 0 })
       (listFrom (λ j. getD (b .memory) (getD (b .frames) (offset (b .pages) i + j / 1024) 0 * 1024 + j % 1024) 0) 0 (getD (b .pages) i 0 * 1024)),
 )
+
+-- ---- tickets: what a history asked and answered
+
+-- what partition i's step would ask now, by its own lone machine, and what the rules answer, by the queues as lists
+abbrev pub queueIn : World → ℕ → List ℕ
+queueIn w j = queueOf (queuesOf (w .house)) j
+
+unfoldable pub loneAsks : World → ℕ → Request
+loneAsks w i = asked (loneMemory (pagesOf (w .house) i)) (loneOf w i)
+
+unfoldable pub loneAnswer : World → ℕ → Reply
+loneAnswer w i = ruled (w .house .count) i (queueIn w) (loneAsks w i)
+
+-- one host step: whose it was, what it asked and what it was answered
+pub record Event : Type 0 where
+  pub who : ℕ
+  pub asks : Request
+  pub answer : Reply
+
+unfoldable pub eventOf : World → Event
+eventOf w = let i = w .house .current in record { who = i; asks = loneAsks w i; answer = loneAnswer w i }
+
+unfoldable pub logIn : ℕ → World → List Event
+logIn zero w = []
+logIn (suc k) w = logIn k w ++ (eventOf (hostSteps k w) ∷ [])
+
+-- the host steps of a history, in order
+unfoldable pub logOf : List Call → World → List Event
+logOf [] w = []
+logOf (c ∷ cs) w = logIn (stepsOf c w) w ++ logOf cs (after c w)
+
+-- read off a log
+unfoldable pub each : {A : Type 0} → (Event → List A) → List Event → List A
+each f [] = []
+each f (e ∷ es) = f e ++ each f es
+
+-- the answers at partition i's own steps; the tickets sent done to j; the tickets taken by j
+abbrev pub answersTo : ℕ → List Event → List Reply
+answersTo i = each (λ e. if eqb (e .who) i then e .answer ∷ [] else [])
+
+abbrev pub ticketsTo : ℕ → List Event → List ℕ
+ticketsTo j = each (λ e. sentTo (e .asks) (e .answer) j)
+
+abbrev pub ticketsOff : ℕ → List Event → List ℕ
+ticketsOff j = each (λ e. takenBy (e .who) (e .asks) (e .answer) j)
+
+-- the feed of partition i's lone machine, by its own step numbers
+abbrev pub feedOf : List Call → World → ℕ → ℕ → Reply
+feedOf cs w i k = getD (answersTo i (logOf cs w)) k (reply 0 0)

@@ -5,7 +5,7 @@ use Prim.Native.Nat.{ℕ, _*_}
 use lib.ListN.{getD, replicate}
 use Rattle.dlx.specs.declared.partition.Partition.{Partition}
 use Rattle.dlx.specs.declared.partition.Processor.{Processor}
-use Rattle.house.specs.Lists.{inner}
+use Rattle.tickets.specs.Parts.{inner}
 use Rattle.house.specs.declared.House.{House}
 
 -- a place that no partition uses
@@ -29,6 +29,8 @@ noHouse = record {
   regs = replicate 256 0;
   frames = replicate 2048 0;
   shadows = replicate 2048 0;
+  tickets = replicate 256 0;
+  waiting = replicate 8 0;
 }
 
 abbrev pub partition : House → ℕ → Partition

@@ -1,5 +1,6 @@
 pub mod Lists
 pub mod House
+pub mod Tickets
 pub mod Damage
 pub mod Boot
 pub mod Turns

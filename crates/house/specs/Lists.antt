@@ -1,17 +1,9 @@
--- Parts of a list, lists by a rule, and searches with a bound.
+-- Lists by a rule, and searches with a bound.
 use mathlib.Core.Bool.{Bool, true, false, _&&_, _||_}
-use mathlib.Core.List.{List, [], _∷_, _++_}
+use mathlib.Core.List.{List, [], _∷_}
 use Prim.Native.Nat.{ℕ, zero, suc, _+_}
 use lib.Dec.{leb}
-use lib.ListN.{take, drop}
 use Rattle.dlx.specs.Choice.{if_then_else_}
-
--- the size elements from base on, and the list with others in their place
-unfoldable pub inner : ℕ → ℕ → List ℕ → List ℕ
-inner base size m = take size (drop base m)
-
-unfoldable pub outer : ℕ → ℕ → List ℕ → List ℕ → List ℕ
-outer base size m k = take base m ++ (k ++ drop size (drop base m))
 
 -- f k, f (k + 1) and on, n of them
 unfoldable pub listFrom : {A : Type 0} → (ℕ → A) → ℕ → ℕ → List A

@@ -11,6 +11,8 @@ use Rattle.translate.specs.Premises.{Placed, Own, Shadowed}
 use Rattle.house.specs.House.{noPartition, partition, pagesOf, runs, registersOf, framesOf, shadowOf}
 use Rattle.house.specs.Damage.{damaged}
 use Rattle.house.specs.Turns.{World}
+use Rattle.tickets.specs.Queues.{waitingOf, ProperQueue}
+use Rattle.house.specs.Tickets.{queuesOf}
 use Rattle.house.specs.declared.House.{House}
 
 -- the lengths of a house's arrays
@@ -20,6 +22,8 @@ pub record Shaped (h : House) : Type 0 where
   pub regs : length (h .regs) ≡ 256
   pub frames : length (h .frames) ≡ 2048
   pub shadows : length (h .shadows) ≡ 2048
+  pub tickets : length (h .tickets) ≡ 256
+  pub waiting : length (h .waiting) ≡ 8
 
 -- partition i's frames lie in the memory, each once, and its shadow's frames are its own
 pub record SoundPartition (w : World) (i : ℕ) : Type 0 where
@@ -34,6 +38,7 @@ pub record Sound (w : World) : Type 0 where
   pub here : w .house .current < w .house .count
   pub left : 0 < w .house .left
   pub turns : 0 < w .house .q
+  pub most : (j : ℕ) → waitingOf (queuesOf (w .house)) j ≤ 32
 
 -- ---- damage, denied condition by condition
 
@@ -75,6 +80,8 @@ pub record Undamaged (h : House) : Type 0 where
   -- unused places
   pub behind : (i k : ℕ) → i < h .count → pagesOf h i ≤ k → k < 256 → getD (framesOf h i) k 0 ≡ 0
   pub unused : (i : ℕ) → h .count ≤ i → i < 8 → Unused h i
+  -- the queues
+  pub queued : (j : ℕ) → j < 8 → ProperQueue (h .count) (queuesOf h) j
 
 -- ---- what the types give
 
@@ -105,6 +112,8 @@ pub record Typed (w : World) : Type 0 where
   pub regs : (k : ℕ) → getD (w .house .regs) k 0 < 2 ^ 32
   pub frames : (k : ℕ) → getD (w .house .frames) k 0 < 2 ^ 32
   pub shadows : (k : ℕ) → getD (w .house .shadows) k 0 < 2 ^ 32
+  pub tickets : (k : ℕ) → getD (w .house .tickets) k 0 < 2 ^ 32
+  pub waiting : (k : ℕ) → getD (w .house .waiting) k 0 < 2 ^ 32
   pub memory : (k : ℕ) → getD (w .memory) k 0 < 2 ^ 32
 
 -- ---- a host step can be made

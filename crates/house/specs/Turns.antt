@@ -5,11 +5,14 @@ use Prim.Native.Nat.{ℕ, zero, suc, _+_, _-_, _*_, _%_, _^_}
 use lib.Dec.{eqb}
 use lib.ListN.{getD, set}
 use Rattle.dlx.specs.Choice.{if_then_else_}
-use Rattle.dlx.specs.Machine.{Ops, Core, core, Outcome, step, Stretch}
+use Rattle.dlx.specs.Machine.{Ops, Core, core, Outcome, Request, asked, step, Stretch}
+use Rattle.dlx.specs.declared.execute.Reply.{Reply}
 use Rattle.dlx.specs.declared.partition.Partition.{Partition}
 use Rattle.translate.specs.Memory.{Host, host, hostMemory}
-use Rattle.house.specs.Lists.{inner, outer}
+use Rattle.tickets.specs.Parts.{inner, outer}
 use Rattle.house.specs.House.{partition, pagesOf, registersOf, framesOf, shadowOf}
+use Rattle.tickets.specs.Queues.{Queues, desk}
+use Rattle.house.specs.Tickets.{queuesOf, withQueues}
 use Rattle.house.specs.declared.House.{House}
 use Rattle.house.specs.declared.Turn.{Turn}
 
@@ -55,8 +58,18 @@ guest w i =
 abbrev pub guestMemory : House → ℕ → Ops Host
 guestMemory h i = hostMemory (framesOf h i) (pagesOf h i)
 
+-- what its step asks, the answer to it, and the queues after it
+unfoldable pub requestNow : World → ℕ → Request
+requestNow w i = asked (guestMemory (w .house) i) (guest w i)
+
+unfoldable pub replyNow : World → ℕ → Reply
+replyNow w i = desk (w .house .count) i (queuesOf (w .house)) (requestNow w i) .0
+
+unfoldable pub queuesNext : World → ℕ → Queues
+queuesNext w i = desk (w .house .count) i (queuesOf (w .house)) (requestNow w i) .1
+
 unfoldable pub guestStep : World → ℕ → Outcome × Host
-guestStep w i = step (guestMemory (w .house) i) (guest w i)
+guestStep w i = step (guestMemory (w .house) i) (replyNow w i) (guest w i)
 
 -- the partition after its step: its counter goes up by 1, modulo 2^64
 abbrev pub counted : Partition → Outcome × Host → Partition
@@ -80,13 +93,19 @@ settledHouse h i o t = record {
   regs = outer (i * 32) 32 (h .regs) (o .0 .core .registers);
   frames = h .frames;
   shadows = outer (i * 256) 256 (h .shadows) (o .1 .shadow);
+  tickets = h .tickets;
+  waiting = h .waiting;
 }
 
 unfoldable pub stepWith : House → Outcome × Host → World
 stepWith h o = world (settledHouse h (h .current) o (turnAfter h 1 (o .0 .calls))) (o .1 .words)
 
+-- the world with the queues after the current partition's step
+abbrev pub queuedOn : World → World
+queuedOn w = world (withQueues (w .house) (queuesNext w (w .house .current))) (w .memory)
+
 unfoldable pub hostStep : World → World
-hostStep w = stepWith (w .house) (guestStep w (w .house .current))
+hostStep w = stepWith (queuedOn w .house) (guestStep w (w .house .current))
 
 unfoldable pub hostSteps : ℕ → World → World
 hostSteps zero w = w
@@ -95,7 +114,7 @@ hostSteps (suc n) w = hostStep (hostSteps n w)
 -- ---- a stretch of host steps in one turn
 
 -- partition i after a stretch
-abbrev pub countedOn : Partition → Stretch Host → Partition
+abbrev pub countedOn : Partition → Stretch Host Queues → Partition
 countedOn p r = record {
   pages = p .pages;
   processor = r .core .processor;
@@ -104,7 +123,7 @@ countedOn p r = record {
 }
 
 -- the house in which a stretch of partition i came to r, and the turn to t
-unfoldable pub stretchedHouse : House → ℕ → Stretch Host → Turn → House
+unfoldable pub stretchedHouse : House → ℕ → Stretch Host Queues → Turn → House
 stretchedHouse h i r t = record {
   count = h .count;
   q = h .q;
@@ -116,6 +135,8 @@ stretchedHouse h i r t = record {
   regs = outer (i * 32) 32 (h .regs) (r .core .registers);
   frames = h .frames;
   shadows = outer (i * 256) 256 (h .shadows) (r .memory .shadow);
+  tickets = r .desk .tickets;
+  waiting = r .desk .waiting;
 }
 
 -- the house h with what a host step may change
@@ -131,4 +152,6 @@ houseAt h current left parts regs shadows = record {
   regs = regs;
   frames = h .frames;
   shadows = shadows;
+  tickets = h .tickets;
+  waiting = h .waiting;
 }

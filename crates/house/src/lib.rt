@@ -16,6 +16,8 @@ pub struct House {
     pub regs: [u32; 256],
     pub frames: [u32; 2048],
     pub shadows: [u32; 2048],
+    pub tickets: [u32; 256],
+    pub waiting: [u32; 8],
 }
 
 // Whose turn it is, and how many steps it has left; none current is 0 and 0.
@@ -58,6 +60,8 @@ impl House {
         let regs = [0u32; 256];
         let frames = [0u32; 2048];
         let shadows = [0u32; 2048];
+        let tickets = [0u32; 256];
+        let waiting = [0u32; 8];
         House {
             count: 0,
             q: 0,
@@ -69,6 +73,8 @@ impl House {
             regs,
             frames,
             shadows,
+            tickets,
+            waiting,
         }
     }
 }

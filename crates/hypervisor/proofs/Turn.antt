@@ -16,13 +16,15 @@ use Rattle.translate.specs.Memory.{host, hostMemory}
 use Rattle.translate.specs.Premises.{Placed, Shadowed}
 use Rattle.engine.specs.declared.Stretched.{Stretched}
 use Rattle.engine.specs.Answers.{stretchOf}
-use Rattle.house.specs.Lists.{inner, outer}
+use Rattle.tickets.specs.Parts.{inner, outer}
+use Rattle.tickets.specs.Queues.{queues, desk, Seated}
+use Rattle.house.specs.Tickets.{withQueues}
 use Rattle.house.specs.House.{noPartition}
 use Rattle.house.specs.Turns.{World, world, turnOf, hostSteps, stretchedHouse, houseAt}
 use Rattle.house.specs.Sound.{Sound}
 use Rattle.house.specs.declared.House.{House}
 use Rattle.house.specs.declared.Turn.{Turn}
-use Rattle.house.proofs.Parts.{inner-length}
+use Rattle.tickets.proofs.Parts.{inner-length}
 use Rattle.house.proofs.Stretch.{Turned, turned, stretched}
 
 -- the part of a list that is lent from i * s on, and the list when it is back
@@ -32,18 +34,18 @@ lent i s l = take (i * s + s - i * s) (drop (i * s) l)
 abbrev back : ℕ → ℕ → List ℕ → List ℕ → List ℕ
 back i s l k = take (i * s) l ++ (k ++ drop (i * s + s - i * s) (drop (i * s) l))
 
-module _ (h : House) (current left : ℕ) (parts : List Partition) (regs shadows m : List ℕ) where
+module _ (h : House) (current left : ℕ) (parts : List Partition) (regs shadows tickets waiting m : List ℕ) where
   abbrev here : World
-  here = world (houseAt h current left parts regs shadows) m
+  here = world (withQueues (houseAt h current left parts regs shadows) (queues tickets waiting)) m
 
-  module _ (s : Stretched) (regs′ m′ shadow′ : List ℕ) (n : ℕ) where
+  module _ (s : Stretched) (regs′ m′ shadow′ tickets′ waiting′ : List ℕ) (n : ℕ) where
     -- the stretch that the engine was asked for
     abbrev Asked : ℕ → Type 0
     Asked i =
-        stretchOf s regs′ m′ shadow′
-        ≡ stretchFrom (hostMemory (lent i 256 (h .frames)) (getD parts i noPartition .pages)) n 0 (core (getD parts i noPartition .processor) (lent i 32 regs), host (getD parts i noPartition .table) m (lent i 256 shadows))
+        stretchOf s regs′ m′ shadow′ (queues tickets′ waiting′)
+        ≡ stretchFrom (hostMemory (lent i 256 (h .frames)) (getD parts i noPartition .pages)) (desk (h .count) current) n 0 (core (getD parts i noPartition .processor) (lent i 32 regs), host (getD parts i noPartition .table) m (lent i 256 shadows)) (queues tickets waiting)
 
-    pub asked-turned : (i : ℕ) → i ≡ current → Asked i → Sound here → 0 < n → n ≤ left → Turned here n (stretchOf s regs′ m′ shadow′)
+    pub asked-turned : (i : ℕ) → i ≡ current → Asked i → Sound here → 0 < n → n ≤ left → Turned here n (stretchOf s regs′ m′ shadow′ (queues tickets′ waiting′))
     unfolding inner
     asked-turned i q a o p l =
         subst (Turned here n)
@@ -53,19 +55,22 @@ module _ (h : House) (current left : ℕ) (parts : List Partition) (regs shadows
     -- the house that the loop's body makes of its answer
     abbrev Made : Turn → ℕ → ℕ → World
     Made t counter i =
-        world (houseAt h (t .current) (t .left) (set parts i (record { pages = getD parts i noPartition .pages; processor = s .processor; table = s .table; counter = counter })) (back i 32 regs regs′) (back i 256 shadows shadow′)) m′
+        world (withQueues (houseAt h (t .current) (t .left) (set parts i (record { pages = getD parts i noPartition .pages; processor = s .processor; table = s .table; counter = counter })) (back i 32 regs regs′) (back i 256 shadows shadow′)) (queues tickets′ waiting′)) m′
 
-    pub after-turn : (i : ℕ) (t : Turn) (counter : ℕ) → i ≡ current → Turned here n (stretchOf s regs′ m′ shadow′) → t ≡ turnOf (h .running) (h .count) (h .q) current left (s .made) (s .called) → counter ≡ (getD parts i noPartition .counter + s .made) % 2 ^ 64 → Made t counter i ≡ hostSteps (s .made) here
+    pub after-turn : (i : ℕ) (t : Turn) (counter : ℕ) → i ≡ current → Turned here n (stretchOf s regs′ m′ shadow′ (queues tickets′ waiting′)) → t ≡ turnOf (h .running) (h .count) (h .q) current left (s .made) (s .called) → counter ≡ (getD parts i noPartition .counter + s .made) % 2 ^ 64 → Made t counter i ≡ hostSteps (s .made) here
     unfolding stretchedHouse outer
     after-turn i t counter q d e c = rw q (simp (add-sub-cancel-left, e, rw q at c) (sym (d .steps)))
 
+  seated : Sound here → Seated (h .count) current (queues tickets waiting)
+  seated o = record { queued = record { tickets = o .shaped .tickets; waiting = o .shaped .waiting; most = o .most }; few = o .few; small = omega (arith, o .here, o .few) }
+
   -- what the engine asks of the lent parts
-  pub asked-sound : (i : ℕ) → i ≡ current → Sound here → (length (lent i 32 regs) ≡ 32) × (Placed (lent i 256 (h .frames)) (getD parts i noPartition .pages) (length m) × Shadowed (lent i 256 (h .frames)) (getD parts i noPartition .pages) (lent i 256 shadows))
+  pub asked-sound : (i : ℕ) → i ≡ current → Sound here → (length (lent i 32 regs) ≡ 32) × (Placed (lent i 256 (h .frames)) (getD parts i noPartition .pages) (length m) × (Shadowed (lent i 256 (h .frames)) (getD parts i noPartition .pages) (lent i 256 shadows) × Seated (h .count) current (queues tickets waiting)))
   unfolding inner
   asked-sound i q o =
       rw q
       (simp add-sub-cancel-left
-      (inner-length regs (current * 32) 32 (omega (arith, o .here, o .few, o .shaped .regs)), (o .each current (o .here) .placed, o .each current (o .here) .shadowed)))
+      (inner-length regs (current * 32) 32 (omega (arith, o .here, o .few, o .shaped .regs)), (o .each current (o .here) .placed, (o .each current (o .here) .shadowed, seated o))))
 
 -- the limit of a turn
 pub limited : (l r n : ℕ) → n ≡ (if leb l r then l else r) → 0 < l → 0 < r → (0 < n) × (n ≤ l) × (n ≤ r)

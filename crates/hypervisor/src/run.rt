@@ -91,6 +91,8 @@ pub fn steps(h: House, memory: &mut [u32], k: u32) -> House
     let mut parts = h.parts;
     let mut regs = h.regs;
     let mut shadows = h.shadows;
+    let mut tickets = h.tickets;
+    let mut waiting = h.waiting;
     let mut current = h.current;
     let mut left = h.left;
     let mut made: u32 = 0;
@@ -110,6 +112,10 @@ pub fn steps(h: House, memory: &mut [u32], k: u32) -> House
             &frames[c..d],
             &mut shadows[c..d],
             memory,
+            count,
+            current,
+            &mut tickets,
+            &mut waiting,
             n,
         );
         let processor = s.processor;
@@ -136,5 +142,7 @@ pub fn steps(h: House, memory: &mut [u32], k: u32) -> House
         regs,
         frames,
         shadows,
+        tickets,
+        waiting,
     }
 }

@@ -6,7 +6,7 @@ ghost use Rattle.dlx.specs.Instructions.{Formed};
 ghost use Rattle.dlx.specs.Choice.{if_then_else_};
 ghost use Rattle.dlx.specs.declared.execute.Change.the-variants.{Plain};
 ghost use Rattle.dlx.specs.declared.execute.Effect.the-variants.{Done};
-ghost use Rattle.dlx.specs.Execute.{valueOf, overflowsOf, operated, reached, loads, stores, jumped, inSystem, movedTo, effectOf, written};
+ghost use Rattle.dlx.specs.Execute.{valueOf, overflowsOf, operated, reached, loads, stores, jumped, inSystem, movedTo, trapOf, effectOf, written};
 ghost use Rattle.dlx.specs.Machine.{core, outcome, Places, settled};
 use dlx::execute::Change;
 use dlx::execute::Effect;
@@ -129,6 +129,22 @@ fn privileged(p: Processor, e: Effect) -> Effect
     e
 }
 
+// A trap: in system mode 256 and 257 are the house's.
+fn trap(p: Processor, v: u32, to: u32, imm: u32) -> Effect
+    ensures { λ r. ⌜ r ≡ trapOf p v to imm ⌝ }
+{
+    if p.mode == 1 {
+        return Effect::Done(Change::Cause(Partition::TRAP, imm));
+    }
+    if imm == 256 {
+        return Effect::Send(v, to);
+    }
+    if imm == 257 {
+        return Effect::Take;
+    }
+    Effect::Done(Change::Cause(Partition::TRAP, imm))
+}
+
 pub fn execute(p: Processor, t: Table, regs: &[u32], i: Instruction) -> Effect
     requires { ⌜ length (now regs) ≡ 32 ⌝ ∗ ⌜ Formed i ⌝ }
     ensures { λ r. ⌜ r ≡ effectOf p t (now (regs .entry)) i ⌝ }
@@ -154,7 +170,7 @@ pub fn execute(p: Processor, t: Table, regs: &[u32], i: Instruction) -> Effect
         Instruction::Jalr(rs1) => plain(31, next, regs[rs1]),
         Instruction::J(imm) => plain(0, 0, std::num::wrapping_add_u32(pc, imm)),
         Instruction::Jal(imm) => plain(31, next, std::num::wrapping_add_u32(pc, imm)),
-        Instruction::Trap(imm) => Effect::Done(Change::Cause(Partition::TRAP, imm)),
+        Instruction::Trap(imm) => trap(p, regs[1], regs[2], imm),
         Instruction::Rfe => privileged(p, Effect::Done(Change::Return)),
         Instruction::Register(op, rd, rs1, rs2) => operate(
             op,
@@ -218,5 +234,13 @@ pub fn settle(p: Processor, regs: &mut [u32], c: Change) -> Settled
             processor: return_from_exception(p),
             calls: false,
         },
+        Change::Ticket(v) => {
+            write(regs, 1, v);
+            write(regs, 3, 0);
+            Settled {
+                processor: go(p, std::num::wrapping_add_u32(p.pc, 4)),
+                calls: false,
+            }
+        }
     }
 }

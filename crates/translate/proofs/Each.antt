@@ -10,7 +10,7 @@ use Rattle.translate.specs.Entries.{number, valid, protection, entryOf, 
 use Rattle.translate.specs.Walk.{entries}
 use Rattle.translate.specs.Memory.{Host, hosted, given, served, hostWritten, hostReads, hostWrites, hostMemory}
 use Rattle.translate.specs.Premises.{Listed}
-use Rattle.translate.proofs.Tests.{getD-replicate-same}
+use Rattle.dlx.proofs.Tests.{getD-replicate-same}
 use Rattle.translate.proofs.Entries.{Within, walked-within}
 use Rattle.translate.proofs.Shadow.{serving, emptied-each}
 use Rattle.translate.proofs.Kept.{KeptHost, host-keeps}

@@ -13,7 +13,7 @@ use Rattle.translate.specs.Entries.{number, valid, protection, entryOf, 
 use Rattle.translate.specs.Walk.{entries, entryAddress, walked, direct}
 use Rattle.translate.specs.Memory.{Lone, loneWord, loneFound, hosted, given, freshShadow}
 use Rattle.translate.specs.Premises.{Listed, Placed, Own, Shadowed}
-use Rattle.translate.proofs.Tests.{either-both, getD-replicate-same}
+use Rattle.dlx.proofs.Tests.{either-both, getD-replicate-same}
 
 -- ---- the format
 

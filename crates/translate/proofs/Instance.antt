@@ -12,7 +12,7 @@ use Rattle.translate.specs.Entries.{valid, entryOf}
 use Rattle.translate.specs.Walk.{entries}
 use Rattle.translate.specs.Memory.{lone, host, place, freshShadow}
 use Rattle.translate.specs.Premises.{Placed, Shadowed}
-use Rattle.translate.proofs.Tests.{getD-replicate-same}
+use Rattle.dlx.proofs.Tests.{getD-replicate-same}
 use Rattle.translate.proofs.Entries.{Owned, fresh-shadowed}
 use Rattle.translate.proofs.Simulation.{Right, right-empty}
 use Rattle.translate.proofs.Isolation.{Alike}

@@ -12,7 +12,7 @@ use Rattle.dlx.proofs.Like.{Both, Like}
 use Rattle.translate.specs.Entries.{number, valid, protection}
 use Rattle.translate.specs.Memory.{Host, host, hosted, given, filled, looked, served, hostRead, hostWritten, hostReads, hostWrites, emptied, hostMemory}
 use Rattle.translate.specs.Premises.{Placed, Own, Shadowed}
-use Rattle.translate.proofs.Tests.{either-both, and-left, set-both}
+use Rattle.dlx.proofs.Tests.{either-both, and-left, set-both}
 use Rattle.translate.proofs.Entries.{walked-same, Owned, own-inside, fresh-shadowed}
 use Rattle.translate.proofs.Shadow.{place-page, served-state, served-own, served-shadowed, emptied-shadowed, Untouched, stored-untouched}
 

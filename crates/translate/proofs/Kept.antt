@@ -13,7 +13,7 @@ use Rattle.translate.specs.Entries.{number, valid, protection, Found, fa
 use Rattle.translate.specs.Walk.{entries}
 use Rattle.translate.specs.Memory.{wordIn, updated, Lone, lone, loneRead, loneWritten, loneMemory, Host, host, served, hostRead, hostWritten, hostReads, hostWrites, emptied, hostMemory}
 use Rattle.translate.specs.Premises.{Listed, Shadowed}
-use Rattle.translate.proofs.Tests.{getD-replicate-same}
+use Rattle.dlx.proofs.Tests.{getD-replicate-same}
 use Rattle.translate.proofs.Entries.{given-word, fresh-shadowed}
 use Rattle.translate.proofs.Shadow.{serving, served-state, served-shadowed, emptied-each, emptied-shadowed}
 

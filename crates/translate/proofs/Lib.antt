@@ -8,5 +8,4 @@ pub mod Places
 pub mod Served
 pub mod Shadow
 pub mod Simulation
-pub mod Tests
 pub mod Steps

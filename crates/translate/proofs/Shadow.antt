@@ -14,7 +14,7 @@ use Rattle.translate.specs.Entries.{valid}
 use Rattle.translate.specs.Walk.{entries}
 use Rattle.translate.specs.Memory.{Host, host, place, hosted, given, filled, looked, served, emptied}
 use Rattle.translate.specs.Premises.{Own, Shadowed}
-use Rattle.translate.proofs.Tests.{by-eq, getD-set-default}
+use Rattle.dlx.proofs.Tests.{by-eq, getD-set-default}
 use Rattle.translate.proofs.Entries.{empty-invalid, direct-within, walked-same, Owned, hosted-own, given-own}
 
 -- the word of page k's frame that stands for the guest's word

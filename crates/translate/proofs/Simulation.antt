@@ -13,7 +13,7 @@ use Rattle.translate.specs.Entries.{valid, Found, fault, found}
 use Rattle.translate.specs.Walk.{entries, walked}
 use Rattle.translate.specs.Memory.{Lone, lone, loneWord, loneFound, loneRead, loneWritten, loneMemory, wordIn, Host, host, place, hosted, given, looked, served, hostRead, hostWritten, hostReads, hostWrites, emptied, freshShadow, hostMemory}
 use Rattle.translate.specs.Premises.{Placed, Own, Shadowed}
-use Rattle.translate.proofs.Tests.{by-test, set-both}
+use Rattle.dlx.proofs.Tests.{by-test, set-both}
 use Rattle.translate.proofs.Entries.{number-entry, valid-entry, protection-entry, Within, found-within, walked-same, given-own, empty-invalid, fresh-invalid}
 use Rattle.translate.proofs.Shadow.{place-page, serving, emptied-each, emptied-count, given-missed, Untouched, stored-untouched}
 

@@ -8,9 +8,10 @@ use Rattle.dlx.specs.Words.{aligned}
 use Rattle.dlx.specs.Machine.{Core, fetched, accessed, retabled, step}
 use Rattle.dlx.specs.declared.partition.Processor.{Processor}
 use Rattle.dlx.specs.declared.execute.Change.{Change}
-use Rattle.dlx.specs.declared.execute.Change.the-variants.{Plain, Special, Retable, Cause, Return}
+use Rattle.dlx.specs.declared.execute.Change.the-variants.{Plain, Special, Retable, Cause, Return, Ticket}
 use Rattle.dlx.specs.declared.execute.Effect.{Effect}
-use Rattle.dlx.specs.declared.execute.Effect.the-variants.{Done, Load, Store}
+use Rattle.dlx.specs.declared.execute.Effect.the-variants.{Done, Load, Store, Send, Take}
+use Rattle.dlx.specs.declared.execute.Reply.{Reply}
 use Rattle.dlx.proofs.Kept.{either}
 use Rattle.translate.specs.Memory.{Host, hostMemory}
 use Rattle.translate.specs.Premises.{Shadowed}
@@ -30,12 +31,14 @@ module _ (fr : List ℕ) (n size : ℕ) where
       (λ _. record { long = rw (reads-words fr n) (w .long); shadowed = reads-shadowed fr n h (w .shadowed) _ _ })
       (λ _. w)
 
-  pub accessed-whole : (p : Processor) (e : Effect) (h : Host) → Whole fr n size h → Whole fr n size (accessed (hostMemory fr n) p e h .1)
+  pub accessed-whole : (y : Reply) (p : Processor) (e : Effect) (h : Host) → Whole fr n size h → Whole fr n size (accessed (hostMemory fr n) y p e h .1)
   unfolding accessed
-  accessed-whole p (Done c) h w = w
-  accessed-whole p (Load d a) h w =
+  accessed-whole y p (Done c) h w = w
+  accessed-whole y p (Send v to) h w = w
+  accessed-whole y p Take h w = w
+  accessed-whole y p (Load d a) h w =
       record { long = rw (reads-words fr n) (w .long); shadowed = reads-shadowed fr n h (w .shadowed) _ _ }
-  accessed-whole p (Store a v) h w =
+  accessed-whole y p (Store a v) h w =
       record { long = writes-length fr n h _ a (λ _. v) ∙ w .long; shadowed = writes-shadowed fr n h (w .shadowed) _ a (λ _. v) }
 
   retabled-whole : (c : Change) (h : Host) → Whole fr n size h → Whole fr n size (retabled (hostMemory fr n) c h)
@@ -45,7 +48,8 @@ module _ (fr : List ℕ) (n size : ℕ) where
   retabled-whole (Retable t) h w = record { long = w .long; shadowed = fresh-shadowed }
   retabled-whole (Cause causes datum) h w = w
   retabled-whole Return h w = w
+  retabled-whole (Ticket v) h w = w
 
-  pub step-whole : (c : Core) (h : Host) → Whole fr n size h → Whole fr n size (step (hostMemory fr n) (c, h) .1)
+  pub step-whole : (y : Reply) (c : Core) (h : Host) → Whole fr n size h → Whole fr n size (step (hostMemory fr n) y (c, h) .1)
   unfolding step
-  step-whole c h w = retabled-whole _ _ (accessed-whole _ _ _ (fetched-whole c h w))
+  step-whole y c h w = retabled-whole _ _ (accessed-whole y _ _ _ (fetched-whole c h w))

@@ -5,7 +5,7 @@ use Prim.Native.Nat.{ℕ, _+_, _-_, _*_, _^_}
 use lib.Dec.{eqb}
 use lib.ListN.{getD, set, replicate}
 use Rattle.dlx.specs.Processor.{freshProcessor}
-use Rattle.dlx.specs.Machine.{Core, core, Outcome, step, steps}
+use Rattle.dlx.specs.Machine.{Core, core, Outcome, reply, step, steps}
 use Rattle.dlx.specs.declared.partition.Table.{Table}
 use Rattle.dlx.specs.declared.partition.Processor.{Processor}
 use Rattle.dlx.specs.declared.execute.Access.{Access}
@@ -134,7 +134,7 @@ abbrev zeros : List ℕ
 zeros = replicate 32 0
 
 unfoldable pub booted : ℕ → List ℕ → Core × Host
-booted n ws = steps (hostMemory (0 ∷ replicate 255 0) 1) n (core freshProcessor zeros, host (table 0 0) (ws ++ replicate 1020 0) freshShadow)
+booted n ws = steps (hostMemory (0 ∷ replicate 255 0) 1) (λ _. reply 0 0) n (core freshProcessor zeros, host (table 0 0) (ws ++ replicate 1020 0) freshShadow)
 
 abbrev program : List ℕ
 program = 0x20010005 ∷ 0xAC010008 ∷ 0 ∷ 0 ∷ []
@@ -156,7 +156,7 @@ at dpc pc mode =
 
 -- the word w at the host's word i, and a shadow
 unfoldable pub once : Processor → ℕ → ℕ → List ℕ → Outcome × Host
-once p i w sh = step (hostMemory frames 3) (core p (set zeros 1 9), host (table 1 5) (set memory i w) sh)
+once p i w sh = step (hostMemory frames 3) (reply 0 0) (core p (set zeros 1 9), host (table 1 5) (set memory i w) sh)
 
 -- at guest address 0, in user mode, through an empty shadow
 unfoldable pub user : ℕ → Outcome × Host

@@ -133,6 +133,15 @@ plain-requires-5 c κs = search needs
 enum-known-i-11 : tie.Need-enum-known-i-11
 enum-known-i-11 c = search needs
 
+shared-slice-read-trap : tie.Need-shared-slice-read-trap
+shared-slice-read-trap c = search needs
+
+shared-slice-read-trap-2 : tie.Need-shared-slice-read-trap-2
+shared-slice-read-trap-2 c = search needs
+
+trap-requires : tie.Need-trap-requires
+trap-requires c κs = search needs
+
 enum-told : tie.Need-enum-told
 enum-told c = search needs
 
@@ -229,7 +238,7 @@ returns-10 c = simp (c .plain5 .ensures, c .before .wrapping-add-u325 .ensures, 
 
 returns-11 : tie.Need-returns-11
 unfolding effectOf
-returns-11 c = simp ((c .before .i11 .given .1))
+returns-11 c = simp (c .trap .ensures, (c .before .before .before .before .i11 .given .1))
 
 returns-12 : tie.Need-returns-12
 unfolding effectOf
@@ -298,6 +307,9 @@ execute-spec =
     wrapping-add-u32-requires-5
     plain-requires-5
     enum-known-i-11
+    shared-slice-read-trap
+    shared-slice-read-trap-2
+    trap-requires
     enum-told
     privileged-requires
     enum-known-i-12

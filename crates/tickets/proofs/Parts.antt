@@ -1,5 +1,5 @@
 -- A part of a list, and the list with another part in its place.
-use Prim.Native.Nat.{ℕ, _+_, _-_, _<_, _≤_}
+use Prim.Native.Nat.{ℕ, _+_, _-_, _*_, _<_, _≤_}
 use mathlib.Core.Path.{_≡_, sym, _∙_, ap}
 use mathlib.Core.List.{List, _++_}
 use native.Mathlib.Omega.{arith}
@@ -7,8 +7,8 @@ use borrow.Author.Tests.{ltb-true, ltb-false}
 use lib.ListN.{length, getD, take, drop, replicate, length-append, length-take, length-drop, length-replicate, List·getD-append, List·getD-eq-default}
 use lib.Seq.{getD-append-add, getD-take, getD-drop, ext-getD, take-at, drop-at, length-take-le}
 use lib.Dec.{ltb}
-use Rattle.translate.proofs.Tests.{by-test, getD-replicate-same}
-use Rattle.house.specs.Lists.{inner, outer}
+use Rattle.dlx.proofs.Tests.{by-test, getD-replicate-same}
+use Rattle.tickets.specs.Parts.{inner, outer}
 
 -- an element of a part
 pub part-at : (m : List ℕ) (a s i : ℕ) → i < s → getD (inner a s m) i 0 ≡ getD m (a + i) 0
@@ -92,6 +92,21 @@ inner-above m k a b s f g e l =
     part-same m (outer a s m k) b s g (outer-length m a s f k e) λ i q.
     let z : b + i ≡ a + (s + (b + i - (a + s))) = omega arith in
     ap (λ (x : ℕ). getD (outer a s m k) x 0) z ∙ outer-high m a s f k e (b + i - (a + s)) ∙ ap (λ (x : ℕ). getD m x 0) (sym z)
+
+-- ---- another partition's part
+
+-- of 32 registers, or 256 entries
+pub registers-apart : (m k : List ℕ) (i j : ℕ) → i * 32 + 32 ≤ length m → j * 32 + 32 ≤ length m → length k ≡ 32 → (j ≡ i → ⊥) → inner (j * 32) 32 (outer (i * 32) 32 m k) ≡ inner (j * 32) 32 m
+registers-apart m k i j f g e d =
+    by-test (ltb j i)
+    (λ t. let l = ltb-true j i t in inner-other m k (i * 32) (j * 32) 32 f g e (omega arith))
+    (λ t. let l = ltb-false j i t in inner-above m k (i * 32) (j * 32) 32 f g e (omega arith))
+
+pub entries-apart : (m k : List ℕ) (i j : ℕ) → i * 256 + 256 ≤ length m → j * 256 + 256 ≤ length m → length k ≡ 256 → (j ≡ i → ⊥) → inner (j * 256) 256 (outer (i * 256) 256 m k) ≡ inner (j * 256) 256 m
+entries-apart m k i j f g e d =
+    by-test (ltb j i)
+    (λ t. let l = ltb-true j i t in inner-other m k (i * 256) (j * 256) 256 f g e (omega arith))
+    (λ t. let l = ltb-false j i t in inner-above m k (i * 256) (j * 256) 256 f g e (omega arith))
 
 -- a part put in place twice is the last one
 module _ (m : List ℕ) (a s : ℕ) (fits : a + s ≤ length m) (k l : List ℕ) (e : length k ≡ s) where
