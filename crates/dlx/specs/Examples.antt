@@ -1,7 +1,7 @@
 -- Worked examples, as one list that proofs/Checked.antt checks by a single claim: first 01's that need no house, then what is easy to get wrong.
-use mathlib.Core.Bool.{Bool, true, false, _&&_}
+use mathlib.Core.Bool.{Bool, true, false, not, _&&_}
 use mathlib.Core.List.{List, [], _∷_}
-use Prim.Native.Nat.{ℕ, _/_}
+use Prim.Native.Nat.{ℕ, _-_, _/_}
 use lib.Dec.{ltb, eqb}
 use lib.ListN.{length, getD, set, replicate}
 use mir.Val.{boolByte}
@@ -9,7 +9,7 @@ use Rattle.dlx.specs.Choice.{if_then_else_}
 use Rattle.dlx.specs.Processor.{freshProcessor}
 use Rattle.dlx.specs.Interrupts.{levelOf}
 use Rattle.dlx.specs.Execute.{reg}
-use Rattle.dlx.specs.Machine.{Ops, Core, core, Outcome, reply, step, steps}
+use Rattle.dlx.specs.Machine.{Ops, Core, core, Outcome, Request, nothing, sends, takes, asked, reply, step, steps}
 use Rattle.dlx.specs.declared.execute.Access.the-variants.{Fault, Word}
 use Rattle.dlx.specs.declared.partition.Table.{Table}
 use Rattle.dlx.specs.declared.partition.Processor.{Processor}
@@ -76,6 +76,17 @@ interrupt m eca edpc epc edata esr emode =
     let p = processor m in
     eqb (p .eca) eca && eqb (p .edpc) edpc && eqb (p .epc) epc && eqb (p .edata) edata && eqb (p .esr) esr && eqb (p .emode) emode
     && eqb (p .sr) 0 && eqb (p .mode) 0 && eqb (p .dpc) 0 && eqb (p .pc) 4
+
+unfoldable pub same : List ℕ → List ℕ → Bool
+same [] [] = true
+same [] (y ∷ ys) = false
+same (x ∷ xs) [] = false
+same (x ∷ xs) (y ∷ ys) = eqb x y && same xs ys
+
+-- every number of a processor
+abbrev numbers : Processor → List ℕ
+numbers p =
+    p .dpc ∷ p .pc ∷ p .sr ∷ p .esr ∷ p .eca ∷ p .epc ∷ p .edpc ∷ p .edata ∷ p .mode ∷ p .emode ∷ []
 
 unfoldable pub pair : Outcome × Flat → ℕ → ℕ → Bool
 pair m dpc pc = eqb (processor m .dpc) dpc && eqb (processor m .pc) pc
@@ -204,31 +215,62 @@ traps =
 
 -- ---- tickets: trap 256 sends, trap 257 takes
 
--- one step of the word w at address 0, with the answer a
-unfoldable pub answered : Processor → List ℕ → ℕ → ℕ → ℕ → Outcome × Flat
-answered p r w code ticket = step flat (reply code ticket) (core p r, memory (w ∷ []))
+-- registers 1, 2 and 3 are x, y and z, all others 0
+abbrev trio : ℕ → ℕ → ℕ → List ℕ
+trio x y z = set (both x y) 3 z
+
+-- one step of the word w at address 0, where registers 1, 2 and 3 are 7, 1 and 55, with an answer
+unfoldable pub answered : Processor → ℕ → ℕ → ℕ → Outcome × Flat
+answered p w code ticket = step flat (reply code ticket) (core p (trio 7 1 55), memory (w ∷ []))
+
+-- at DPC and PC, all else of the processor as it was; these are the registers; the guest does not call
+unfoldable pub goes-on : Outcome × Flat → ℕ → ℕ → List ℕ → Bool
+goes-on m dpc pc rs =
+    same (numbers (processor m)) (numbers (at dpc pc 0 0)) && same (m .0 .core .registers) rs && not (m .0 .calls)
+
+-- an ordinary trap with the datum d, the answer being there all the same: it calls in system mode
+unfoldable pub ordinary : ℕ → ℕ → ℕ → Bool
+ordinary mode w d =
+    let m = answered (at 0 4 0 mode) w 0 9 in
+    interrupt m 32 4 8 d 0 mode && same (m .0 .core .registers) (trio 7 1 55) && eqb (boolByte (m .0 .calls)) (1 - mode)
+
+-- what is asked, as numbers
+abbrev told : Request → List ℕ
+told nothing = 0 ∷ []
+told (sends v to) = 1 ∷ v ∷ to ∷ []
+told takes = 2 ∷ []
+
+-- by one step of the word w, where registers 1 and 2 are v and to
+unfoldable pub asking : ℕ → ℕ → ℕ → ℕ → List ℕ
+asking mode w v to = told (asked flat (core (at 0 4 0 mode) (both v to), memory (w ∷ [])))
 
 unfoldable pub tickets : List Bool
 tickets =
-    -- a plain instruction that writes register 3, and does not call
-    pair (answered in-system (both 7 1) 0xF8000100 0 0) 4 8
-    ∷ eqb (r 3 (answered in-system (both 7 1) 0xF8000100 1 9)) 1
-    ∷ eqb (r 1 (answered in-system (both 7 1) 0xF8000100 0 9)) 7
-    ∷ eqb (boolByte (answered in-system (both 7 1) 0xF8000100 0 0 .0 .calls)) 0
-    ∷ eqb (processor (answered in-system (both 7 1) 0xF8000100 0 0) .eca) 92
-    -- one taken goes to register 1; on 3 register 1 stays
-    ∷ eqb (r 1 (answered in-system (both 7 1) 0xF8000101 0 9)) 9
-    ∷ eqb (r 3 (answered in-system (both 7 1) 0xF8000101 0 9)) 0
-    ∷ pair (answered in-system (both 7 1) 0xF8000101 0 9) 4 8
-    ∷ eqb (boolByte (answered in-system (both 7 1) 0xF8000101 0 9 .0 .calls)) 0
-    ∷ eqb (processor (answered in-system (both 7 1) 0xF8000101 0 9) .eca) 92
-    ∷ eqb (r 1 (answered in-system (both 7 1) 0xF8000101 3 9)) 7
-    ∷ eqb (r 3 (answered in-system (both 7 1) 0xF8000101 3 9)) 3
-    -- in user mode they are ordinary traps, and so is 258; an answer not asked for changes nothing
-    ∷ interrupt (answered in-user (both 7 1) 0xF8000100 2 9) 32 4 8 256 0 1
-    ∷ interrupt (answered in-user (both 7 1) 0xF8000101 2 9) 32 4 8 257 0 1
-    ∷ interrupt (answered in-system (both 7 1) 0xF8000102 2 9) 32 4 8 258 0 0
-    ∷ eqb (r 1 (answered in-system (both 7 1) 0x20030005 0 9)) 7
+    -- 256 asks to send register 1 to the partition numbered in register 2, all 32 bits of it; 257 asks to take; nothing else asks, and no user does
+    same (asking 0 0xF8000100 7 0xFFFFFFFF) (1 ∷ 7 ∷ 0xFFFFFFFF ∷ [])
+    ∷ same (asking 0 0xF8000100 0xFFFFFFFF 8) (1 ∷ 0xFFFFFFFF ∷ 8 ∷ [])
+    ∷ same (asking 0 0xF8000101 7 1) (2 ∷ [])
+    ∷ same (asking 0 0xF80000FF 7 1) (0 ∷ [])
+    ∷ same (asking 0 0xF8000102 7 1) (0 ∷ [])
+    ∷ same (asking 1 0xF8000100 7 1) (0 ∷ [])
+    ∷ same (asking 1 0xF8000101 7 1) (0 ∷ [])
+    ∷ same (asking 0 0x20010005 7 1) (0 ∷ [])
+    -- a send goes on as a plain instruction does; register 3 becomes the answer, and nothing else changes
+    ∷ goes-on (answered in-system 0xF8000100 0 9) 4 8 (trio 7 1 0)
+    ∷ goes-on (answered in-system 0xF8000100 1 9) 4 8 (trio 7 1 1)
+    ∷ goes-on (answered in-system 0xF8000100 2 9) 4 8 (trio 7 1 2)
+    ∷ goes-on (answered (at 0 0xFFFFFFFC 0 0) 0xF8000100 0 9) 0xFFFFFFFC 0 (trio 7 1 0)
+    -- so does a take: a ticket taken goes to register 1; where none waits register 1 stays
+    ∷ goes-on (answered in-system 0xF8000101 0 9) 4 8 (trio 9 1 0)
+    ∷ goes-on (answered in-system 0xF8000101 3 9) 4 8 (trio 7 1 3)
+    ∷ goes-on (answered (at 0 0xFFFFFFFC 0 0) 0xF8000101 0 9) 0xFFFFFFFC 0 (trio 9 1 0)
+    -- in user mode they are ordinary traps, and so are all other immediates, in either mode
+    ∷ ordinary 1 0xF8000100 256
+    ∷ ordinary 1 0xF8000101 257
+    ∷ ordinary 0 0xF80000FF 255
+    ∷ ordinary 0 0xF8000102 258
+    ∷ ordinary 0 0xF8010100 0x00010100
+    ∷ ordinary 0 0xFA000101 0xFE000101
     ∷ []
 
 unfoldable pub all : List Bool → Bool

@@ -146,7 +146,19 @@ pub fn step(
     ensures { λ r. ⌜ (outcomeOf r (now (regs .exit)) (now (words .exit)) (now (shadow .exit)), queues (now (tickets .exit)) (now (waiting .exit))) ≡ stepAt (hostMemory (now (frames .entry)) pages) (desk count i) (core p (now (regs .entry)), host t (now (words .entry)) (now (shadow .entry))) (queues (now (tickets .entry)) (now (waiting .entry))) ⌝ }
 {
     let e = fetch(p, t, pages, regs, frames, shadow, words);
-    let c = access(p, t, pages, frames, shadow, words, count, i, tickets, waiting, e);
+    let c = access(
+        p,
+        t,
+        pages,
+        frames,
+        shadow,
+        words,
+        count,
+        i,
+        tickets,
+        waiting,
+        e,
+    );
     let s = processor::execute::settle(p, regs, c);
     let n = retable(t, shadow, c);
     let q = s.processor;

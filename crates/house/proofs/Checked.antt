@@ -16,7 +16,7 @@ use Rattle.dlx.specs.Processor.{specialOf, withSpecial}
 use Rattle.dlx.specs.Interrupts.{levelOf, interrupted}
 use Rattle.dlx.specs.Execute.{written, valueOf, overflowsOf, operated, reached, loads, stores, movedTo, trapOf, effectOf}
 use Rattle.dlx.specs.Machine.{executed, fetched, loaded, stored, taken, accessed, settled, retabled, step, requestOf, asked}
-use Rattle.dlx.specs.Examples.{all}
+use Rattle.dlx.specs.Examples.{all, same}
 use Rattle.translate.specs.Entries.{judged, composed}
 use Rattle.translate.specs.Walk.{walked, direct}
 use Rattle.translate.specs.Memory.{hosted, given, filled, looked, served, hostRead, emptied, hostWritten, hostReads, hostWrites}
@@ -29,7 +29,7 @@ use Rattle.house.specs.Damage.{outsideLimits, frameTwice, turnWrong, reg
 use Rattle.house.specs.Boot.{firstOf, sum, bootVerdict, laid, offset, bootedHouse}
 use Rattle.house.specs.Turns.{nextFrom, turnOf, requestNow, replyNow, queuesNext, guestStep, settledHouse, stepWith, hostStep, hostSteps}
 use Rattle.house.specs.Calls.{bootCall, runVerdict, runCall, oneVerdict, started, stopped, emptiedHouse, startCall, stopCall, emptyCall, readVerdict, readOut, readCall}
-use Rattle.house.specs.Examples.{alone, two, idle, three, pair, interrupt, current, answers, same, flags, fields, numbers, sameHouse, ran, once, mapped, papers, plain, unbooted, boots, widest, after, trapped, six, counts, turns, refuses, reading, gives, calls, beyond, twice, outOfTurn, misset, astray, used, leftover, damages, places, asks, leaves, exchanges, whole}
+use Rattle.house.specs.Examples.{alone, two, idle, three, pair, interrupt, current, answers, flags, fields, numbers, sameHouse, ran, once, mapped, papers, plain, unbooted, boots, widest, after, trapped, six, counts, turns, refuses, reading, gives, calls, beyond, twice, outOfTurn, misset, astray, used, leftover, damages, places, leaves, across, exchanges, whole}
 use Rattle.house.proofs.Lists.{and-right}
 use Rattle.house.proofs.Searches.{getD-listFrom, length-listFrom}
 
@@ -65,7 +65,7 @@ joined (x ∷ a) b e f = rw (and-left x (all a) e) (joined a b (and-right x (all
 
 -- all that the examples compute with, but damage
 computing : ℕ
-unfolding all papers boots widest turns calls whole damages places exchanges asks leaves alone two idle three pair interrupt current answers same flags fields numbers sameHouse ran once mapped plain unbooted after trapped six counts refuses reading gives beyond twice outOfTurn misset astray used leftover inner outer listFrom any firstFrom firstOf sum bootVerdict laid offset bootedHouse nextFrom turnOf requestNow replyNow queuesNext desk sending taking asked requestOf guestStep settledHouse stepWith hostStep hostSteps bootCall runVerdict runCall oneVerdict started stopped emptiedHouse startCall stopCall emptyCall readVerdict readOut readCall judged composed walked direct hosted given filled looked served hostRead emptied hostWritten hostReads hostWrites step fetched executed loaded stored taken accessed settled retabled instructionOf registerType effectOf written valueOf overflowsOf operated reached loads stores movedTo trapOf specialOf withSpecial interrupted levelOf trailingZeros extendedBy readIn holds
+unfolding all papers boots widest turns calls whole damages places exchanges leaves across alone two idle three pair interrupt current answers same flags fields numbers sameHouse ran once mapped plain unbooted after trapped six counts refuses reading gives beyond twice outOfTurn misset astray used leftover inner outer listFrom any firstFrom firstOf sum bootVerdict laid offset bootedHouse nextFrom turnOf requestNow replyNow queuesNext desk sending taking asked requestOf guestStep settledHouse stepWith hostStep hostSteps bootCall runVerdict runCall oneVerdict started stopped emptiedHouse startCall stopCall emptyCall readVerdict readOut readCall judged composed walked direct hosted given filled looked served hostRead emptied hostWritten hostReads hostWrites step fetched executed loaded stored taken accessed settled retabled instructionOf registerType effectOf written valueOf overflowsOf operated reached loads stores movedTo trapOf specialOf withSpecial interrupted levelOf trailingZeros extendedBy readIn holds
 computing = 0
 
 -- how a call comes to its answer

@@ -91,11 +91,10 @@ module _ (w : World) (r : Ready w) where
       let fr = framesOf (w .house) i in
       let n = pagesOf (w .house) i in
       let g = asked-kept _ (guestMemory (w .house) i)
-          (each-keeps fr n (Proper fr n) (empty-proper fr n) (own-proper fr n) (length (w .memory)) (placed-listed (ready-sound .each i here .placed)))
-          (guest w i .0) (guest w i .1) core-kept (memory-kept, shadow-proper) in
+      (each-keeps fr n (Proper fr n) (empty-proper fr n) (own-proper fr n) (length (w .memory)) (placed-listed (ready-sound .each i here .placed)))
+      (guest w i .0) (guest w i .1) core-kept (memory-kept, shadow-proper) in
       desk-words (w .house .count) i (queuesOf (w .house)) (r .typed .tickets) (queued-of (w .house) (r .typed .shaped) (ready-sound .most)) (omega (arith, here, r .whole .few)) _ g
 
   pub next-proper : (j : ℕ) → j < 8 → ProperQueue (w .house .count) (queuesNext w i) j
   unfolding queuesNext
   next-proper = desk-proper (w .house .count) i (queuesOf (w .house)) (queued-of (w .house) (r .typed .shaped) (ready-sound .most)) (r .whole .few) (omega (arith, here, r .whole .few)) here (r .whole .queued) (requestNow w i)
-

@@ -12,12 +12,15 @@ use Rattle.translate.specs.Premises.{Own}
 use Rattle.translate.proofs.Shadow.{Untouched}
 use Rattle.translate.proofs.Isolation.{Alike, isolation}
 use Rattle.house.specs.House.{pagesOf, framesOf}
-use Rattle.house.specs.Turns.{world, guest, guestMemory, requestNow, replyNow, queuesNext, guestStep, settledHouse, stepWith, hostStep}
+use Rattle.house.specs.Turns.{world, guest, guestMemory, requestNow, replyNow, queuesNext, queuedOn, guestStep, turnAfter, settledHouse, stepWith, hostStep}
 use Rattle.tickets.specs.Queues.{Queues, desk}
 use Rattle.house.specs.Tickets.{queuesOf, withQueues}
 use Rattle.house.specs.Sound.{Sound}
-use Rattle.house.specs.Demands.{AgreeOn, OwnFramesAlone}
+use Rattle.house.specs.Demands.{AgreeOn, OwnAndOneTicket, OwnFramesAlone}
 use Rattle.house.specs.declared.House.{House}
+use Rattle.tickets.proofs.Queues.{desk-moved}
+use Rattle.house.proofs.Turns.{queued-of, step-registers, step-keeps, here-small, shaped-here, other-partition, other-registers, other-shadow}
+use Rattle.house.proofs.SameLayout.{step-layout}
 
 -- the house after a step depends on what the step answers, its table and its shadow
 stepped-house : (h : House) (o o′ : Outcome × Host) (x x′ : Queues) → o .0 ≡ o′ .0 → o .1 .table ≡ o′ .1 .table → o .1 .shadow ≡ o′ .1 .shadow → x ≡ x′ → stepWith (withQueues h x) o .house ≡ stepWith (withQueues h x′) o′ .house
@@ -72,6 +75,27 @@ module _ (h : House) (m m′ : List ℕ) (s : Sound (world h m)) (long : length 
       (isolation (framesOf h i) m m′ (pagesOf h i) (s .each i (s .here) .placed) long)
       (replyNow (world h m) i) (guest (world h m) i) (guest (world h m′) i) guests-alike)
 
+  -- what else the step changes in the house: by one ticket at most
+  own-and-one-ticket : OwnAndOneTicket h (hostStep (world h m) .house) (h .current)
+  unfolding hostStep stepWith queuesNext settledHouse
+  own-and-one-ticket =
+      let w = world h m in
+      let i = h .current in
+      let small = here-small w s in
+      let made = guestStep w i in
+      let regs = step-registers w (s .shaped) small in
+      let shadow = step-keeps w s .shadowed .count in
+      let t = turnAfter h 1 (made .0 .calls) in
+      let on = shaped-here w s in
+      record {
+        records = λ j l d. other-partition (queuedOn w) i on small made regs shadow t j l d;
+        registers = λ j l d. other-registers (queuedOn w) i on small made regs shadow t j l d;
+        shadows = λ j l d. other-shadow (queuedOn w) i on small made regs shadow t j l d;
+        layout = step-layout w;
+        running = refl;
+        queues = desk-moved (h .count) i (queuesOf h) (queued-of h (s .shaped) (s .most)) (s .few) small (requestNow w i);
+      }
+
   pub step-isolated : OwnFramesAlone h m m′
   unfolding hostStep stepWith
   step-isolated =
@@ -82,4 +106,5 @@ module _ (h : House) (m m′ : List ℕ) (s : Sound (world h m)) (long : length 
         b .rest .own,
         by-frame fr m (hostStep (world h m) .memory) n (b .rest .others),
         by-frame fr m′ (hostStep (world h m′) .memory) n (b .rest .others′),
+        own-and-one-ticket,
       )

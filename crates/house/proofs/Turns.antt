@@ -218,7 +218,7 @@ module _ (w : World) (s : Sound w) where
   unfolding guestStep
   step-keeps = step-whole _ _ _ _ _ _ (record { long = refl; shadowed = s .each (w .house .current) (s .here) .shadowed })
 
-  here-small : w .house .current < 8
+  pub here-small : w .house .current < 8
   here-small = omega (arith, s .here, s .few)
 
   queued-here : Queued (queuesNext w (w .house .current))

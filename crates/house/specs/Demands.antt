@@ -11,13 +11,13 @@ use Rattle.translate.specs.Entries.{number, valid, protection, refused, Found, 
 use Rattle.translate.specs.Memory.{wordIn, loneFound, loneMemory, served}
 use Rattle.translate.specs.Premises.{Own}
 use Rattle.house.specs.Lists.{listFrom}
-use Rattle.house.specs.House.{noHouse, partition, pagesOf, framesOf}
+use Rattle.house.specs.House.{noHouse, partition, pagesOf, registersOf, framesOf, shadowOf}
 use Rattle.house.specs.Damage.{damaged}
 use Rattle.house.specs.Turns.{World, world, turn, turnOf, guest, hostStep, hostSteps}
-use Rattle.house.specs.Sound.{Shaped}
+use Rattle.house.specs.Sound.{Shaped, LaidOut}
 use Rattle.house.specs.Calls.{Answered, bootCall, runCall, startCall, stopCall, emptyCall, readCall}
 use Rattle.house.specs.Histories.{Boot, booted, Call, history, Grown, turnsMade, stepsMade, staysRunning, loneOf, loneAtBoot, queueIn, loneAsks, loneAnswer, logOf, ticketsTo, ticketsOff, feedOf}
-use Rattle.tickets.specs.Queues.{waitingOf, lined}
+use Rattle.tickets.specs.Queues.{waitingOf, queueOf, lined, Moved}
 use Rattle.house.specs.Tickets.{queuesOf}
 use Rattle.house.specs.declared.House.{House}
 
@@ -45,7 +45,17 @@ AgreeOn h i m m′ = (k j : ℕ) → k < pagesOf h i → j < 1024 →
 abbrev pub KeepsFramesNotOf : House → ℕ → List ℕ → List ℕ → Type 0
 KeepsFramesNotOf h i m m′ = (f j : ℕ) → (Own (framesOf h i) (pagesOf h i) f → ⊥) → j < 1024 → getD m′ (f * 1024 + j) 0 ≡ getD m (f * 1024 + j) 0
 
--- One host step, in two memories, reads and changes the current partition's frames alone.
+-- All that a step of partition i may change in a house is i's own record, registers and shadow, the turn, and one ticket: of its own queue, by a take, or
+-- of the receiver's, by a send that is done.
+pub record OwnAndOneTicket (h h′ : House) (i : ℕ) : Type 0 where
+  pub records : (j : ℕ) → j < 8 → (j ≡ i → ⊥) → partition h′ j ≡ partition h j
+  pub registers : (j : ℕ) → j < 8 → (j ≡ i → ⊥) → registersOf h′ j ≡ registersOf h j
+  pub shadows : (j : ℕ) → j < 8 → (j ≡ i → ⊥) → shadowOf h′ j ≡ shadowOf h j
+  pub layout : LaidOut h h′
+  pub running : h′ .running ≡ h .running
+  pub queues : Moved (h .count) i (queueOf (queuesOf h)) (queueOf (queuesOf h′))
+
+-- One host step, in two memories, reads and changes the current partition's frames alone. The queues and the partition count are the one house's.
 abbrev pub OwnFramesAlone : House → List ℕ → List ℕ → Type 0
 OwnFramesAlone h m m′ =
     let w = hostStep (world h m) in
@@ -54,6 +64,7 @@ OwnFramesAlone h m m′ =
     × AgreeOn h (h .current) (w .memory) (w′ .memory)
     × KeepsFramesNotOf h (h .current) m (w .memory)
     × KeepsFramesNotOf h (h .current) m′ (w′ .memory)
+    × OwnAndOneTicket h (w .house) (h .current)
 
 -- Isolation: so it is in any house that is not damaged, right shadows or wrong.
 abbrev pub Isolation : Type 0

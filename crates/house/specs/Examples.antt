@@ -6,6 +6,7 @@ use lib.Dec.{eqb}
 use lib.ListN.{length, getD, set, take, replicate}
 use mir.Val.{boolByte}
 use Rattle.dlx.specs.Processor.{freshOf}
+use Rattle.dlx.specs.Examples.{same}
 use Rattle.dlx.specs.Interrupts.{levelOf}
 use Rattle.dlx.specs.declared.partition.Partition.{Partition}
 use Rattle.dlx.specs.declared.partition.Processor.{Processor}
@@ -111,12 +112,6 @@ current h c l = eqb (h .current) c && eqb (h .left) l
 
 unfoldable pub answers : Verdict → ℕ → ℕ → Bool
 answers v n d = eqb (v .number) n && eqb (v .detail) d
-
-unfoldable pub same : List ℕ → List ℕ → Bool
-same [] [] = true
-same [] (y ∷ ys) = false
-same (x ∷ xs) [] = false
-same (x ∷ xs) (y ∷ ys) = eqb x y && same xs ys
 
 -- every number in a house, 4,741 of them
 
@@ -529,35 +524,73 @@ places =
 
 -- ---- tickets
 
--- one step of the word w by partition 0 of `two`, where register 1 is v, register 2 is to and register 3 is 55
-unfoldable pub asks : ℕ → ℕ → ℕ → Queues → World
-asks w v to t = hostStep (world (withQueues (withRegisters two (0 ∷ v ∷ to ∷ 55 ∷ zeros 252)) t) (w ∷ zeros 2047))
+-- h, a house of two, where partition 0 has made n plain steps of its turn, has these in registers 1, 2 and 3, and the queues are t
+abbrev atDesk : House → ℕ → ℕ → ℕ → ℕ → Queues → House
+atDesk h n r1 r2 r3 t =
+    withQueues
+    (houseAt h 0 (5 - n) (set (h .parts) 0 (part 1 (at (4 * n) (4 * n + 4) 0 0 1) 0 0 n)) (0 ∷ r1 ∷ r2 ∷ r3 ∷ zeros 252) (h .shadows)) t
 
--- registers 1 and 3 of partition 0, and the queues, are then these; the turn goes on, and no interrupt was taken
-unfoldable pub leaves : World → ℕ → ℕ → Queues → Bool
-leaves w r1 r3 t =
-    eqb (register w 1) r1 && eqb (register w 3) r3 && pair w 4 8 && current (w .house) 0 4
-    && same (w .house .tickets) (t .tickets) && same (w .house .waiting) (t .waiting)
+-- n steps of these words by it, with 7, `to` and 55 in the registers, leave just such a house, the turn going on, and the memory
+unfoldable pub leaves : House → List ℕ → ℕ → Queues → ℕ → ℕ → Queues → Bool
+leaves h ws to t r1 r3 t′ =
+    let n = length ws in
+    let m = ws ++ zeros (2048 - n) in
+    let w = hostSteps n (world (atDesk h 0 7 to 55 t) m) in
+    sameHouse (w .house) (atDesk h n r1 to r3 t′) && same (w .memory) m
 
 -- partition 0's places, then partition 1's, and how many wait for them
 abbrev lines : List ℕ → ℕ → List ℕ → ℕ → Queues
 lines a n b m = queues (take 32 (a ++ zeros 32) ++ (take 32 (b ++ zeros 32) ++ zeros 192)) (n ∷ m ∷ zeros 6)
 
+abbrev none : Queues
+none = lines [] 0 [] 0
+
+abbrev send : ℕ
+send = 0xF8000100
+
+abbrev receive : ℕ
+receive = 0xF8000101
+
+-- turns of 1 step: partition 0 sends 7 to partition 1, which takes
+unfoldable pub across : ℕ → House
+across n =
+    hostSteps n
+    (world (withRegisters (bootedHouse (1 ∷ 1 ∷ []) 1 (0 ∷ 1 ∷ []) 2048) (0 ∷ 7 ∷ 1 ∷ zeros 253)) (send ∷ zeros 1023 ++ (receive ∷ zeros 1023))) .house
+
 unfoldable pub exchanges : List Bool
 exchanges =
-    -- a ticket sent stands behind the others; to oneself too
-    leaves (asks 0xF8000100 7 1 (lines [] 0 [] 0)) 7 0 (lines [] 0 (7 ∷ []) 1)
-    ∷ leaves (asks 0xF8000100 7 1 (lines (4 ∷ []) 1 (9 ∷ 8 ∷ []) 2)) 7 0 (lines (4 ∷ []) 1 (9 ∷ 8 ∷ 7 ∷ []) 3)
-    ∷ leaves (asks 0xF8000100 7 0 (lines (4 ∷ []) 1 [] 0)) 7 0 (lines (4 ∷ 7 ∷ []) 2 [] 0)
-    -- the 32nd fits, the 33rd finds a full queue; partition 2 is not there
-    ∷ leaves (asks 0xF8000100 7 1 (lines [] 0 (upTo 31) 31)) 7 0 (lines [] 0 (upTo 31 ++ (7 ∷ [])) 32)
-    ∷ leaves (asks 0xF8000100 7 1 (lines [] 0 (upTo 32) 32)) 7 1 (lines [] 0 (upTo 32) 32)
-    ∷ leaves (asks 0xF8000100 7 2 (lines [] 0 [] 0)) 7 2 (lines [] 0 [] 0)
-    ∷ leaves (asks 0xF8000100 7 0xFFFFFFFF (lines [] 0 [] 0)) 7 2 (lines [] 0 [] 0)
-    -- the oldest is taken, and the others move on; none waiting leaves register 1
-    ∷ leaves (asks 0xF8000101 7 1 (lines (9 ∷ 8 ∷ []) 2 (5 ∷ []) 1)) 9 0 (lines (8 ∷ []) 1 (5 ∷ []) 1)
-    ∷ leaves (asks 0xF8000101 7 1 (lines (ones 32) 32 [] 0)) 1 0 (lines (ones 31) 31 [] 0)
-    ∷ leaves (asks 0xF8000101 7 1 (lines [] 0 (5 ∷ []) 1)) 7 3 (lines [] 0 (5 ∷ []) 1)
+    -- a ticket sent stands behind the others; to oneself too; a stopped partition still receives
+    leaves two (send ∷ []) 1 none 7 0 (lines [] 0 (7 ∷ []) 1)
+    ∷ leaves two (send ∷ []) 1 (lines (4 ∷ []) 1 (9 ∷ 8 ∷ []) 2) 7 0 (lines (4 ∷ []) 1 (9 ∷ 8 ∷ 7 ∷ []) 3)
+    ∷ leaves two (send ∷ []) 0 (lines (4 ∷ []) 1 [] 0) 7 0 (lines (4 ∷ 7 ∷ []) 2 [] 0)
+    ∷ leaves (stopped two 1) (send ∷ []) 1 none 7 0 (lines [] 0 (7 ∷ []) 1)
+    -- the 32nd fits, the 33rd finds a full queue
+    ∷ leaves two (send ∷ []) 1 (lines [] 0 (upTo 31) 31) 7 0 (lines [] 0 (upTo 31 ++ (7 ∷ [])) 32)
+    ∷ leaves two (send ∷ send ∷ []) 1 (lines [] 0 (upTo 31) 31) 7 1 (lines [] 0 (upTo 31 ++ (7 ∷ [])) 32)
+    ∷ leaves two (send ∷ []) 1 (lines [] 0 (upTo 32) 32) 7 1 (lines [] 0 (upTo 32) 32)
+    -- no such partition: the count, 8, and the largest number
+    ∷ leaves two (send ∷ []) 2 none 7 2 none
+    ∷ leaves two (send ∷ []) 8 none 7 2 none
+    ∷ leaves two (send ∷ []) 0xFFFFFFFF none 7 2 none
+    -- the oldest of one's own is taken, and the others move on; none waiting leaves register 1
+    ∷ leaves two (receive ∷ []) 1 (lines (9 ∷ 8 ∷ []) 2 (5 ∷ []) 1) 9 0 (lines (8 ∷ []) 1 (5 ∷ []) 1)
+    ∷ leaves two (receive ∷ []) 1 (lines (upTo 32) 32 [] 0) 0 0 (lines (listFrom (λ i. i) 1 31) 31 [] 0)
+    ∷ leaves two (receive ∷ []) 1 (lines [] 0 (5 ∷ []) 1) 7 3 (lines [] 0 (5 ∷ []) 1)
+    -- a freed place is used again: the oldest of a full queue goes to its end; one's own ticket comes back
+    ∷ leaves two (receive ∷ send ∷ []) 0 (lines (listFrom (λ i. i) 40 32) 32 [] 0) 40 0 (lines (listFrom (λ i. i) 41 31 ++ (40 ∷ [])) 32 [] 0)
+    ∷ leaves two (send ∷ receive ∷ receive ∷ []) 0 none 7 3 none
+    -- in user mode both are ordinary traps; 258 is one in system mode too, and passes the turn
+    ∷ interrupt (user (0 ∷ 7 ∷ 1 ∷ []) send) 32 12 16 256
+    ∷ interrupt (user (0 ∷ 7 ∷ 1 ∷ []) receive) 32 12 16 257
+    ∷ same (user (0 ∷ 7 ∷ 1 ∷ []) send .house .waiting) (zeros 8)
+    ∷ current (user (0 ∷ 7 ∷ 1 ∷ []) send .house) 0 4
+    ∷ interrupt (system (0 ∷ 7 ∷ 1 ∷ []) 0xF8000102) 32 12 16 258
+    ∷ current (system (0 ∷ 7 ∷ 1 ∷ []) 0xF8000102 .house) 1 5
+    -- between two partitions across turns
+    ∷ same (across 1 .tickets ++ across 1 .waiting) (lines [] 0 (7 ∷ []) 1 .tickets ++ lines [] 0 (7 ∷ []) 1 .waiting)
+    ∷ current (across 1) 1 1
+    ∷ same (take 4 (registersOf (across 2) 1)) (0 ∷ 7 ∷ 0 ∷ 0 ∷ [])
+    ∷ same (across 2 .tickets ++ across 2 .waiting) (zeros 264)
     -- a count above 32, of a partition that is not there, or a place used that none waits in, is damage
     ∷ queuesWrong (withQueues two (lines (upTo 32) 33 [] 0))
     ∷ queuesWrong (withQueues two (queues (zeros 256) (set (zeros 8) 2 1)))

@@ -16,7 +16,7 @@ use Rattle.dlx.specs.declared.execute.Reply.{Reply}
 use Rattle.dlx.proofs.Kept.{either, getD-set-elim, KeptReply, KeptRequest}
 use Rattle.dlx.proofs.Tests.{by-test, by-eq}
 use Rattle.tickets.specs.Parts.{inner, outer}
-use Rattle.tickets.specs.Queues.{Queued, ProperQueue, Queues, queues, placesOf, waitingOf, sentOn, takenOff, sending, taking, desk, queueOf, oldest, ruled, sentTo, takenBy, lined}
+use Rattle.tickets.specs.Queues.{Queued, ProperQueue, Queues, queues, placesOf, waitingOf, sentOn, takenOff, sending, taking, desk, queueOf, oldest, ruled, sentTo, takenBy, lined, Moved, stays, takesOne, sendsOne}
 use Rattle.tickets.proofs.Parts.{part-at, part-each, inner-length, outer-length, inner-outer, outer-each, registers-apart}
 
 -- ---- one word set, in a part of 32 places and outside it
@@ -252,6 +252,21 @@ module _ (n i : ℕ) (t : Queues) (q : Queued t) (few : n ≤ 8) (small : i < 8)
   desk-lined r j l =
       let T = takenBy i r (desk n i t r .0) j in
       sym (ap (drop (length T)) (desk-kept r j l) ∙ drop-append-seam T (queueOf (desk n i t r .1) j))
+
+  -- by one ticket at most, of the asker's own queue or of the receiver's
+  pub desk-moved : (r : Request) → Moved n i (queueOf t) (queueOf (desk n i t r .1))
+  unfolding desk sending taking
+  desk-moved nothing = stays (λ j l. refl)
+  desk-moved (sends v to) =
+      either (λ (g : Reply × Queues). Moved n i (queueOf t) (queueOf (g .1))) (leb n to) (λ _. stays (λ j l. refl)) λ e.
+      either (λ (g : Reply × Queues). Moved n i (queueOf t) (queueOf (g .1))) (leb 32 (waitingOf t to)) (λ _. stays (λ j l. refl)) λ f.
+      let l = leb-false n to e in
+      let m = leb-false 32 (waitingOf t to) f in
+      sendsOne v to l (sent-own t q to v (omega arith) m) (λ j s d. sent-other t q to v (omega arith) m j d)
+  desk-moved takes =
+      either (λ (g : Reply × Queues). Moved n i (queueOf t) (queueOf (g .1))) (eqb (waitingOf t i) 0) (λ _. stays (λ j l. refl)) λ e.
+      let d = eqb-false (waitingOf t i) 0 e in
+      takesOne (getD (t .tickets) (i * 32) 0) (taken-own t q i small d) (λ j l y. taken-other t q i small d j l y)
 
   pub desk-proper : i < n → ((k : ℕ) → k < 8 → ProperQueue n t k) → (r : Request) (k : ℕ) → k < 8 → ProperQueue n (desk n i t r .1) k
   unfolding desk sending taking

@@ -85,6 +85,12 @@ takenBy i takes a j = if eqb (a .code) 0 && eqb i j then a .ticket ∷ [] else [
 unfoldable pub lined : ℕ → Request → Reply → List ℕ → ℕ → List ℕ
 lined i q a l j = drop (length (takenBy i q a j)) (l ++ sentTo q a j)
 
+-- What a step of partition i of n may do to queues: nothing; take the oldest of its own; put one ticket behind the others of one partition's.
+pub data Moved (n i : ℕ) (Q Q′ : ℕ → List ℕ) : Type 0 where
+  stays : ((j : ℕ) → j < 8 → Q′ j ≡ Q j) → Moved n i Q Q′
+  takesOne : (v : ℕ) → Q i ≡ v ∷ Q′ i → ((j : ℕ) → j < 8 → (j ≡ i → ⊥) → Q′ j ≡ Q j) → Moved n i Q Q′
+  sendsOne : (v to : ℕ) → to < n → Q′ to ≡ Q to ++ (v ∷ []) → ((j : ℕ) → j < 8 → (j ≡ to → ⊥) → Q′ j ≡ Q j) → Moved n i Q Q′
+
 -- ---- what holds of queues
 
 -- what the types give, and that at most 32 wait
