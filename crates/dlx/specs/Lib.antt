@@ -1,4 +1,5 @@
 pub mod Choice
+pub mod Parts
 pub mod Words
 pub mod Instructions
 pub mod Processor

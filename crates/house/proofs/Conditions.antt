@@ -14,14 +14,14 @@ use Rattle.translate.specs.Entries.{number, valid, entryOf}
 use Rattle.translate.specs.Premises.{Own}
 use Rattle.translate.proofs.Entries.{number-entry, valid-entry, empty-invalid}
 use Rattle.dlx.proofs.Tests.{and-left}
-use Rattle.tickets.specs.Parts.{inner}
+use Rattle.dlx.specs.Parts.{inner}
 use Rattle.house.specs.Lists.{any, between}
 use Rattle.house.specs.House.{noPartition, partition, pagesOf, runs, registersOf, framesOf, shadowOf}
 use Rattle.house.specs.Damage.{stands, entryWrong, notZero, partitionUsed}
 use Rattle.house.specs.Sound.{Proper}
 use Rattle.house.specs.declared.House.{House}
 use Rattle.house.proofs.Lists.{or-left, or-right, or-none, and-right, one-way, any-at, any-none, any-from, any-yes}
-use Rattle.tickets.proofs.Parts.{part-at}
+use Rattle.dlx.proofs.Parts.{part-at}
 
 -- ---- tests by `between`, by `stands` and by `notZero`
 

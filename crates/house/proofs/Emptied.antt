@@ -9,7 +9,7 @@ use Rattle.house.specs.House.{shadowOf}
 use Rattle.house.specs.Calls.{emptiedHouse}
 use Rattle.house.specs.Sound.{Shaped}
 use Rattle.house.specs.declared.House.{House}
-use Rattle.tickets.proofs.Parts.{inner-outer, outer-length, entries-apart}
+use Rattle.dlx.proofs.Parts.{inner-outer, outer-length, entries-apart}
 
 pub fresh-count : length freshShadow ≡ 256
 fresh-count = length-replicate {A = ℕ} entries 0

@@ -25,7 +25,7 @@ use Rattle.house.specs.declared.House.{House}
 use Rattle.house.proofs.Lists.{by-order}
 use Rattle.house.proofs.Searches.{length-listFrom, listFrom-at}
 use Rattle.house.proofs.Conditions.{empty-proper}
-use Rattle.tickets.proofs.Parts.{part-at, inner-replicate}
+use Rattle.dlx.proofs.Parts.{part-at, inner-replicate}
 use Rattle.house.proofs.Offsets.{offset-below, offset-in, laid-page, laid-behind, laid-after}
 use Rattle.house.proofs.Verdicts.{BootDone, boot-done}
 use Rattle.house.proofs.Damage.{undamaged-from}

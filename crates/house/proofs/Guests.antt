@@ -16,7 +16,7 @@ use Rattle.house.specs.Tickets.{queuesOf}
 use Rattle.house.specs.Turns.{World, guest, guestMemory, requestNow, replyNow, queuesNext, guestStep}
 use Rattle.house.specs.Sound.{Sound, Proper, Ready}
 use Rattle.tickets.specs.Queues.{ProperQueue}
-use Rattle.tickets.proofs.Parts.{part-each, inner-length}
+use Rattle.dlx.proofs.Parts.{part-each, inner-length}
 use Rattle.house.proofs.Conditions.{empty-proper, own-proper}
 use Rattle.house.proofs.Damage.{undamaged-from}
 use Rattle.tickets.proofs.Queues.{desk-reply, desk-words, desk-proper}

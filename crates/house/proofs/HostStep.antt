@@ -16,7 +16,7 @@ use Rattle.house.specs.Turns.{World, world, turnAfter, guestStep, queued
 use Rattle.house.specs.Tickets.{queuesOf}
 use Rattle.house.specs.Sound.{Proper, Undamaged, TypedPartition, Typed, Ready, Stays}
 use Rattle.house.specs.declared.Turn.{Turn}
-use Rattle.tickets.proofs.Parts.{outer-each}
+use Rattle.dlx.proofs.Parts.{outer-each}
 use Rattle.house.proofs.Turns.{queued-of, queued-next, queued-shaped, steps-keep, in-turn, in-turn-on, InTurn, settled-pages, settled-shaped, settled-partition, settled-registers, settled-shadow, other-partition, other-registers, other-shadow}
 use Rattle.house.proofs.Damage.{undamaged-from}
 use Rattle.house.proofs.Guests.{ready-sound, here, step-all, next-words, next-proper}

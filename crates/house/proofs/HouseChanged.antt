@@ -7,7 +7,7 @@ use native.Mathlib.Omega.{arith}
 use lib.ListN.{length, getD}
 use Rattle.translate.specs.Walk.{entries}
 use Rattle.dlx.proofs.Tests.{by-eq}
-use Rattle.tickets.specs.Parts.{inner}
+use Rattle.dlx.specs.Parts.{inner}
 use Rattle.house.specs.House.{pagesOf, framesOf}
 use Rattle.house.specs.Turns.{world}
 use Rattle.house.specs.Sound.{Proper, Undamaged, Typed, Stays}

@@ -21,7 +21,7 @@ use Rattle.translate.specs.Entries.{entryOf, judged}
 use Rattle.translate.specs.Walk.{walked, direct}
 use Rattle.translate.specs.Memory.{loneMemory, loneFound, loneRead, hosted, given, filled, looked, served, hostRead, emptied, hostWritten, hostReads, hostWrites}
 use Rattle.dlx.proofs.Tests.{and-left}
-use Rattle.tickets.specs.Parts.{inner, outer}
+use Rattle.dlx.specs.Parts.{inner, outer}
 use Rattle.house.specs.Lists.{listFrom, any, firstFrom}
 use Rattle.house.specs.House.{noHouse, pagesOf, runs, framesOf, shadowOf}
 use Rattle.tickets.specs.Queues.{sending, taking, desk, queueOf, oldest, ruled}

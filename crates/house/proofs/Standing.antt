@@ -30,7 +30,7 @@ use Rattle.tickets.specs.Queues.{waitingOf, ruled, sentTo, takenBy, lined}
 use Rattle.house.specs.Tickets.{queuesOf}
 use Rattle.house.specs.Demands.{StepOf}
 use Rattle.house.specs.declared.Turn.{Turn}
-use Rattle.tickets.proofs.Parts.{inner-length}
+use Rattle.dlx.proofs.Parts.{inner-length}
 use Rattle.house.proofs.Searches.{length-listFrom, listFrom-at, listFrom-same}
 use Rattle.tickets.specs.Queues.{Queued}
 use Rattle.tickets.proofs.Queues.{desk-ruled, desk-kept}

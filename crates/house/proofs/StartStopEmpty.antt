@@ -21,7 +21,7 @@ use Rattle.house.specs.Sound.{Undamaged, Typed, Stays}
 use Rattle.house.specs.declared.House.{House}
 use Rattle.house.proofs.Conditions.{empty-proper}
 use Rattle.house.proofs.Emptied.{fresh-count, emptied-shaped, emptied-own, emptied-other}
-use Rattle.tickets.proofs.Parts.{outer-each}
+use Rattle.dlx.proofs.Parts.{outer-each}
 use Rattle.house.proofs.Lists.{any-at, any-none}
 use Rattle.house.proofs.Turns.{next-below, next-runs}
 use Rattle.house.proofs.Undamaged.{undamaged-gives}

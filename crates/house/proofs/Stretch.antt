@@ -19,7 +19,7 @@ use Rattle.house.specs.Tickets.{queuesOf}
 use Rattle.house.specs.Sound.{Shaped, Sound}
 use Rattle.house.specs.declared.House.{House}
 use Rattle.house.specs.declared.Turn.{Turn}
-use Rattle.tickets.proofs.Parts.{outer-outer}
+use Rattle.dlx.proofs.Parts.{outer-outer}
 use Rattle.house.proofs.Turns.{settled-pages, settled-partition, settled-registers, settled-shadow, step-keeps, step-registers, shaped-here, sound-step}
 
 -- ---- the count is carried along

@@ -15,7 +15,7 @@ use Rattle.dlx.specs.Machine.{executed, fetched, loaded, stored, taken, accesse
 use Rattle.translate.specs.Entries.{judged}
 use Rattle.translate.specs.Walk.{walked, direct}
 use Rattle.translate.specs.Memory.{loneFound, loneRead, hosted, given, filled, looked, served, hostRead, emptied, hostWritten, hostReads, hostWrites}
-use Rattle.tickets.specs.Parts.{inner, outer}
+use Rattle.dlx.specs.Parts.{inner, outer}
 use Rattle.house.specs.Lists.{listFrom, any, firstFrom}
 use Rattle.tickets.specs.Queues.{sending, taking, desk, queueOf, oldest, ruled, sentTo, takenBy}
 use Rattle.house.specs.Boot.{sum, firstOf, bootVerdict, laid, offset, bootedHouse}

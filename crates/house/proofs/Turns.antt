@@ -16,7 +16,7 @@ use Rattle.dlx.proofs.Places.{step-count}
 use Rattle.translate.specs.Memory.{Host}
 use Rattle.translate.proofs.Steps.{Whole, step-whole}
 use Rattle.dlx.proofs.Tests.{by-test, by-eq}
-use Rattle.tickets.specs.Parts.{inner, outer}
+use Rattle.dlx.specs.Parts.{inner, outer}
 use Rattle.house.specs.House.{noPartition, partition, pagesOf, registersOf, framesOf, shadowOf}
 use Rattle.house.specs.Turns.{World, world, following, nextFrom, nextOf, turn, turnAfter, guestMemory, requestNow, queuesNext, guestStep, queuedOn, counted, settledHouse, stepWith, hostStep, hostSteps, turnOf}
 use Rattle.house.specs.Sound.{Shaped, SoundPartition, Sound, Undamaged}
@@ -27,7 +27,7 @@ use Rattle.house.specs.declared.Turn.{Turn}
 use Rattle.house.proofs.Lists.{or-left, one-way}
 use Rattle.tickets.specs.Queues.{Queued}
 use Rattle.tickets.proofs.Queues.{desk-queued}
-use Rattle.tickets.proofs.Parts.{inner-length, outer-length, inner-outer, registers-apart, entries-apart}
+use Rattle.dlx.proofs.Parts.{inner-length, outer-length, inner-outer, registers-apart, entries-apart}
 
 -- ---- whose turn it is
 

@@ -21,7 +21,7 @@ use Rattle.tickets.specs.Queues.{placesOf, waitingOf}
 use Rattle.house.specs.Tickets.{queuesOf}
 use Rattle.house.specs.declared.House.{House}
 use Rattle.house.proofs.Lists.{or-left, or-right, and-right, by-order, any-none}
-use Rattle.tickets.proofs.Parts.{inner-length}
+use Rattle.dlx.proofs.Parts.{inner-length}
 use Rattle.house.proofs.Conditions.{within, stands-none, is-zero, zeros, entry-proper, partition-unused, badPages, badFrames, frameStands, badCore, badEntry, badBehind, badUnused, badPlace}
 
 module _ (h : House) where

@@ -7,7 +7,7 @@ use lib.ListN.{length, getD, set, drop, replicate}
 use Rattle.dlx.specs.Choice.{if_then_else_}
 use Rattle.translate.specs.Walk.{entries}
 use Rattle.translate.specs.Memory.{hostWord}
-use Rattle.tickets.specs.Parts.{outer}
+use Rattle.dlx.specs.Parts.{outer}
 use Rattle.house.specs.Lists.{listFrom, any}
 use Rattle.house.specs.House.{noHouse, pagesOf, runs, framesOf}
 use Rattle.house.specs.Damage.{damaged}

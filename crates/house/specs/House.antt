@@ -5,7 +5,7 @@ use Prim.Native.Nat.{ℕ, _*_}
 use lib.ListN.{getD, replicate}
 use Rattle.dlx.specs.declared.partition.Partition.{Partition}
 use Rattle.dlx.specs.declared.partition.Processor.{Processor}
-use Rattle.tickets.specs.Parts.{inner}
+use Rattle.dlx.specs.Parts.{inner}
 use Rattle.house.specs.declared.House.{House}
 
 -- a place that no partition uses

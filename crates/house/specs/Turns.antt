@@ -9,7 +9,7 @@ use Rattle.dlx.specs.Machine.{Ops, Core, core, Outcome, Request, asked, step, S
 use Rattle.dlx.specs.declared.execute.Reply.{Reply}
 use Rattle.dlx.specs.declared.partition.Partition.{Partition}
 use Rattle.translate.specs.Memory.{Host, host, hostMemory}
-use Rattle.tickets.specs.Parts.{inner, outer}
+use Rattle.dlx.specs.Parts.{inner, outer}
 use Rattle.house.specs.House.{partition, pagesOf, registersOf, framesOf, shadowOf}
 use Rattle.tickets.specs.Queues.{Queues, desk}
 use Rattle.house.specs.Tickets.{queuesOf, withQueues}

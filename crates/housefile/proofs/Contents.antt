@@ -9,8 +9,8 @@ use borrow.Author.Tests.{eqb-true, ltb-true, leb-true}
 use lib.Dec.{ltb, leb, eqb}
 use lib.ListN.{length, take, drop}
 use lib.Seq.{sets, sets-eq, take-nil, take-take, drop-drop, length-take-le}
-use Rattle.translate.proofs.Tests.{by-test, and-left}
-use Rattle.house.specs.Lists.{outer}
+use Rattle.dlx.proofs.Tests.{by-test, and-left}
+use Rattle.dlx.specs.Parts.{outer}
 use Rattle.house.proofs.Lists.{and-right, one-way}
 use Rattle.housefile.specs.Records.{number, wordsOf, mayCome, File, file, withRecord}
 

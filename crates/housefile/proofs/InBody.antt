@@ -9,7 +9,7 @@ use lib.Dec.{ltb, eqb}
 use lib.ListN.{length, set, take, drop, length-drop}
 use lib.Seq.{sets, drop-drop}
 use Rattle.dlx.specs.Choice.{if_then_else_}
-use Rattle.translate.proofs.Tests.{by-test}
+use Rattle.dlx.proofs.Tests.{by-test}
 use Rattle.housefile.specs.Records.{wrong, number, wordsOf}
 use Rattle.housefile.specs.Reader.{Read, read, within, spoils, placed, further, completed, settled, fed, answerOf}
 use Rattle.housefile.specs.declared.Record.{Record}

@@ -11,7 +11,7 @@ use borrow.Author.Tests.{eq-eqb, ne-eqb, le-ltb, leb-true, leb-false}
 use lib.Dec.{leb}
 use lib.ListN.{length, getD, take, drop, drop-of-length-le}
 use lib.Seq.{drop-cons, take-all, take-length}
-use Rattle.translate.proofs.Tests.{by-test}
+use Rattle.dlx.proofs.Tests.{by-test}
 use Rattle.housefile.specs.Reader.{Read, read, spoils, spoiled, within, placed, completed, settled, took, fed}
 use Rattle.housefile.specs.declared.Record.{Record}
 use Rattle.housefile.specs.declared.Reader.{Reader}

@@ -9,7 +9,7 @@ use lib.Dec.{ltb, leb, eqb}
 use lib.ListN.{length, getD, set, take, drop, replicate, length-append, length-drop, length-set, length-replicate}
 use lib.Seq.{sets, sets-eq, length-sets, take-suc-set, take-at, take-take, drop-drop}
 use Rattle.dlx.specs.Choice.{if_then_else_}
-use Rattle.translate.proofs.Tests.{by-test, and-left}
+use Rattle.dlx.proofs.Tests.{by-test, and-left}
 use Rattle.house.proofs.Lists.{and-right, one-way}
 use Rattle.housefile.specs.Records.{number, wordsOf, size, kind, body, mayCome, recordRight, File, noFile, withRecord, wrong, right, readFrom, readingOf}
 use Rattle.housefile.specs.Reader.{Read, read, noRecord, noRead, completed, took, fed, answerOf}

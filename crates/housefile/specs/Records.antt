@@ -5,7 +5,7 @@ use Prim.Native.Nat.{ℕ, zero, suc, _+_, _*_, _/_, _%_}
 use lib.Dec.{ltb, leb, eqb}
 use lib.ListN.{length, take, drop, replicate}
 use Rattle.dlx.specs.Choice.{if_then_else_}
-use Rattle.house.specs.Lists.{outer}
+use Rattle.dlx.specs.Parts.{outer}
 use Rattle.house.specs.Boot.{Verdict, verdict}
 
 -- ---- numbers, little-endian

@@ -11,7 +11,8 @@ use lib.ListN.{length, getD, set, take, drop, length-map}
 use lib.Seq.{drop-cons, set-append-seam}
 use Rattle.translate.specs.Memory.{hostWord}
 use Rattle.translate.specs.Premises.{Placed}
-use Rattle.house.specs.Lists.{inner, listFrom}
+use Rattle.dlx.specs.Parts.{inner}
+use Rattle.house.specs.Lists.{listFrom}
 use Rattle.house.specs.House.{noPartition, pagesOf, framesOf}
 use Rattle.house.specs.Damage.{damaged}
 use Rattle.house.specs.Boot.{verdict, firstOf}

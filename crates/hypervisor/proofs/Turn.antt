@@ -16,7 +16,7 @@ use Rattle.translate.specs.Memory.{host, hostMemory}
 use Rattle.translate.specs.Premises.{Placed, Shadowed}
 use Rattle.engine.specs.declared.Stretched.{Stretched}
 use Rattle.engine.specs.Answers.{stretchOf}
-use Rattle.tickets.specs.Parts.{inner, outer}
+use Rattle.dlx.specs.Parts.{inner, outer}
 use Rattle.tickets.specs.Queues.{queues, desk, Seated}
 use Rattle.house.specs.Tickets.{withQueues}
 use Rattle.house.specs.House.{noPartition}
@@ -24,7 +24,7 @@ use Rattle.house.specs.Turns.{World, world, turnOf, hostSteps, stretchedHouse, 
 use Rattle.house.specs.Sound.{Sound}
 use Rattle.house.specs.declared.House.{House}
 use Rattle.house.specs.declared.Turn.{Turn}
-use Rattle.tickets.proofs.Parts.{inner-length}
+use Rattle.dlx.proofs.Parts.{inner-length}
 use Rattle.house.proofs.Stretch.{Turned, turned, stretched}
 
 -- the part of a list that is lent from i * s on, and the list when it is back

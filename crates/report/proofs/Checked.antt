@@ -12,7 +12,8 @@ use Rattle.dlx.specs.Machine.{executed, fetched, loaded, stored, accessed, sett
 use Rattle.translate.specs.Entries.{judged}
 use Rattle.translate.specs.Walk.{walked, direct}
 use Rattle.translate.specs.Memory.{hosted, given, filled, looked, served, hostRead, emptied, hostWritten, hostReads, hostWrites}
-use Rattle.house.specs.Lists.{inner, outer, listFrom}
+use Rattle.dlx.specs.Parts.{inner, outer}
+use Rattle.house.specs.Lists.{listFrom}
 use Rattle.house.specs.Boot.{offset, laid, bootedHouse}
 use Rattle.house.specs.Turns.{nextFrom, turnOf, guestStep, settledHouse, stepWith, hostStep, hostSteps}
 use Rattle.report.specs.Report.{ascii, decimalIn, decimal, field, line, header, lineOf, linesFrom, reportOf, refusedText}

@@ -7,7 +7,7 @@ use native.Mathlib.Omega.{arith}
 use borrow.Author.Tests.{lt-ltb, le-ltb, ltb-true, ltb-false}
 use lib.Dec.{ltb}
 use lib.ListN.{length, length-append}
-use Rattle.translate.proofs.Tests.{by-test}
+use Rattle.dlx.proofs.Tests.{by-test}
 use Rattle.report.specs.Report.{digit, decimalIn, decimal}
 
 one-in : (k n : ℕ) → n < 10 → decimalIn k n ≡ digit n ∷ []

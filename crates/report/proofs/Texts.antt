@@ -9,7 +9,7 @@ use borrow.Author.Tests.{ltb-true, ltb-false}
 use lib.Dec.{ltb}
 use lib.ListN.{length, getD, set, take, drop, length-append, drop-of-length-le, length-map}
 use lib.Seq.{drop-cons, take-all, take-suc, length-take-le, sets, sets-eq}
-use Rattle.translate.proofs.Tests.{by-test}
+use Rattle.dlx.proofs.Tests.{by-test}
 use Rattle.dlx.specs.declared.partition.Partition.{Partition}
 use Rattle.report.specs.Report.{digit, decimal, field, line, lineOf, linesFrom}
 use Rattle.report.specs.Put.{Text, text, put, Counts}

@@ -3,7 +3,7 @@ use mathlib.Core.Path.{_≡_, refl}
 use mathlib.Core.Bool.{true}
 use mathlib.Core.List.{_++_}
 use Rattle.dlx.specs.Examples.{all, same}
-use Rattle.tickets.specs.Parts.{inner, outer}
+use Rattle.dlx.specs.Parts.{inner, outer}
 use Rattle.tickets.specs.Queues.{sending, taking, desk, queueOf, oldest, ruled, sentTo, takenBy, lined}
 use Rattle.tickets.specs.Examples.{served, requests, counted}
 

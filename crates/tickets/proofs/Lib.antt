@@ -1,4 +1,3 @@
 pub mod Checked
-pub mod Parts
 pub mod Queues
 pub mod Moves

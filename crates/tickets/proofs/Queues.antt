@@ -15,9 +15,9 @@ use Rattle.dlx.specs.Machine.{Request, nothing, sends, takes, reply}
 use Rattle.dlx.specs.declared.execute.Reply.{Reply}
 use Rattle.dlx.proofs.Kept.{either, getD-set-elim, KeptReply, KeptRequest}
 use Rattle.dlx.proofs.Tests.{by-test, by-eq}
-use Rattle.tickets.specs.Parts.{inner, outer}
+use Rattle.dlx.specs.Parts.{inner, outer}
 use Rattle.tickets.specs.Queues.{Queued, ProperQueue, Queues, queues, placesOf, waitingOf, sentOn, takenOff, sending, taking, desk, queueOf, oldest, ruled, sentTo, takenBy, lined, Moved, stays, takesOne, sendsOne}
-use Rattle.tickets.proofs.Parts.{part-at, part-each, inner-length, outer-length, inner-outer, outer-each, registers-apart}
+use Rattle.dlx.proofs.Parts.{part-at, part-each, inner-length, outer-length, inner-outer, outer-each, registers-apart}
 
 -- ---- one word set, in a part of 32 places and outside it
 

@@ -1,3 +1,2 @@
-pub mod Parts
 pub mod Queues
 pub mod Examples

@@ -8,7 +8,7 @@ use lib.ListN.{length, getD, set, take, drop}
 use Rattle.dlx.specs.Choice.{if_then_else_}
 use Rattle.dlx.specs.Machine.{Request, nothing, sends, takes, reply, Desk}
 use Rattle.dlx.specs.declared.execute.Reply.{Reply}
-use Rattle.tickets.specs.Parts.{inner, outer}
+use Rattle.dlx.specs.Parts.{inner, outer}
 
 pub record Queues : Type 0 where
   pub tickets : List ℕ

@@ -1,5 +1,5 @@
 use native.Mathlib.Nat.{add-sub-cancel-left}
-use Rattle.tickets.specs.Parts.{inner, outer}
+use Rattle.dlx.specs.Parts.{inner, outer}
 use borrow.Author.Tests.{lt-ltb, le-ltb, lt-leb, le-leb, eq-eqb, ne-eqb}
 use Rattle.tickets.specs.Queues.{taking}
 use borrow.Author.Needs.{needs}

@@ -1,7 +1,7 @@
 use lib.ListN.{length}
 use mathlib.Core.Path.{_≡_}
 use Rattle.house.specs.Calls.{emptiedHouse}
-use Rattle.house.specs.Lists.{outer}
+use Rattle.dlx.specs.Parts.{outer}
 use native.Mathlib.Nat.{add-sub-cancel-left}
 use native.Mathlib.Omega.{arith}
 use borrow.Author.Needs.{needs}

@@ -7,8 +7,8 @@ use borrow.Author.Tests.{ltb-true, ltb-false}
 use lib.ListN.{length, getD, take, drop, replicate, length-append, length-take, length-drop, length-replicate, List·getD-append, List·getD-eq-default}
 use lib.Seq.{getD-append-add, getD-take, getD-drop, ext-getD, take-at, drop-at, length-take-le}
 use lib.Dec.{ltb}
 use Rattle.dlx.proofs.Tests.{by-test, getD-replicate-same}
-use Rattle.tickets.specs.Parts.{inner, outer}
+use Rattle.dlx.specs.Parts.{inner, outer}
 
 -- an element of a part
 pub part-at : (m : List ℕ) (a s i : ℕ) → i < s → getD (inner a s m) i 0 ≡ getD m (a + i) 0
