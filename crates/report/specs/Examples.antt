@@ -70,6 +70,8 @@ byHand = record {
   regs = replicate 256 0;
   frames = replicate 2048 0;
   shadows = replicate 2048 0;
+  tickets = replicate 256 0;
+  waiting = replicate 8 0;
 }
 
 unfoldable pub reports : List (List ℕ × String)
