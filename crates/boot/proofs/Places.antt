@@ -8,7 +8,7 @@ use borrow.Author.Tests.{lt-ltb, le-ltb, ltb-true, ltb-false}
 use lib.Dec.{ltb}
 use lib.ListN.{length, getD, set, replicate, List·getD-eq-default}
 use Rattle.dlx.specs.Choice.{if_then_else_}
-use Rattle.translate.proofs.Tests.{by-test}
+use Rattle.dlx.proofs.Tests.{by-test}
 use Rattle.house.specs.Lists.{listFrom, any}
 use Rattle.house.specs.Boot.{pagesWrong, bootVerdict}
 use Rattle.house.proofs.Lists.{any-none}

@@ -240,6 +240,8 @@ fn booted(pages: &[u32], q: u32, frames: &[u32], words: usize) -> House
     let places = lay(pages, frames);
     let regs = [0u32; 256];
     let shadows = [0u32; 2048];
+    let tickets = [0u32; 256];
+    let waiting = [0u32; 8];
     House {
         count: pages.len() as u32,
         q,
@@ -251,6 +253,8 @@ fn booted(pages: &[u32], q: u32, frames: &[u32], words: usize) -> House
         regs,
         frames: places,
         shadows,
+        tickets,
+        waiting,
     }
 }
 

@@ -12,11 +12,11 @@ fresh-parts-requires c κs = search needs
 lay-requires : tie.Need-lay-requires
 lay-requires c κs = search needs
 
-cast-t11 : tie.Need-cast-t11
-cast-t11 c = search needs
+cast-t13 : tie.Need-cast-t13
+cast-t13 c = search needs
 
-cast-t12 : tie.Need-cast-t12
-cast-t12 c = search needs
+cast-t14 : tie.Need-cast-t14
+cast-t14 c = search needs
 
 returns : tie.Need-returns
 unfolding bootedHouse
@@ -25,4 +25,4 @@ returns c = simp (c .before .before .all-running .ensures, c .before .fresh-part
 pub booted-spec : {M : Type 1} → statement M
 booted-spec =
     tie.close
-    (tie.spec all-running-requires fresh-parts-requires lay-requires cast-t11 cast-t12 returns)
+    (tie.spec all-running-requires fresh-parts-requires lay-requires cast-t13 cast-t14 returns)
