@@ -12,10 +12,11 @@ use lib.ListN.{length, getD, set, take, drop, length-set, length-replicate, getD
 use lib.Seq.{getD-set-same, getD-set-other}
 use Rattle.dlx.specs.Choice.{if_then_else_}
 use Rattle.dlx.specs.declared.partition.Partition.{Partition}
-use Rattle.translate.proofs.Tests.{by-test, by-eq}
+use Rattle.dlx.proofs.Tests.{by-test, by-eq}
 use Rattle.translate.specs.Entries.{number}
 use Rattle.translate.specs.Walk.{entries}
-use Rattle.house.specs.Lists.{any, inner, between}
+use Rattle.tickets.specs.Parts.{inner}
+use Rattle.house.specs.Lists.{any, between}
 use Rattle.house.specs.Damage.{stands, entryWrong, wholeFrames}
 use Rattle.house.proofs.Lists.{one-way, same-test, or-left, or-right, any-yes, any-at, any-none, any-same, and-right}
 use Rattle.damage.specs.Marks.{Within, shadowMarked, shadowOutside, pagesAt, partAt, pagesOutside, frameOutside, framesOutside, marked, ownersOf, twiceMarked, twiceAt, twiceIn, entryMarked, outside}

@@ -9,7 +9,8 @@ use Rattle.dlx.specs.declared.partition.Partition.{Partition}
 use Rattle.dlx.specs.declared.partition.Processor.{Processor}
 use Rattle.translate.specs.Entries.{number, valid}
 use Rattle.translate.specs.Walk.{entries}
-use Rattle.house.specs.Lists.{inner, any, between}
+use Rattle.tickets.specs.Parts.{inner}
+use Rattle.house.specs.Lists.{any, between}
 use Rattle.house.specs.House.{noPartition}
 use Rattle.house.specs.Damage.{wholeFrames, stands, entryWrong, notZero, partitionUsed}
 
@@ -104,7 +105,19 @@ roomWrong count i run p rs fr sh =
     || notZero fr (i * 256) 256
     || notZero sh (i * 256) 256
 
--- ---- all of it but the limits
+-- ---- queues
+
+abbrev pub countWrong : ℕ → ℕ → ℕ → Bool
+countWrong count j n = ltb 32 n || (leb count j && not (eqb n 0))
+
+-- queue j with n waiting
+abbrev pub queueOutside : ℕ → ℕ → ℕ → List ℕ → Bool
+queueOutside count j n places = countWrong count j n || any (behind places n) 32
+
+abbrev pub queueAt : ℕ → List ℕ → List ℕ → ℕ → Bool
+queueAt count ts ns j = queueOutside count j (getD ns j 0) (inner (j * 32) 32 ts)
+
+-- ---- all of it but the limits and the queues
 
 abbrev pub shadowOutside : List Partition → List ℕ → List ℕ → ℕ → Bool
 shadowOutside ps fr sh i = any (λ px. entryWrong (partAt fr i) (pagesAt ps i) (getD (partAt sh i) px 0)) entries

@@ -7,7 +7,7 @@ ghost use Rattle.translate.specs.Walk.{entries};
 ghost use Rattle.house.specs.Lists.{any};
 ghost use Rattle.house.specs.House.{noPartition};
 ghost use Rattle.house.specs.Damage.{damaged, partitionUsed, notZero};
-ghost use Rattle.damage.specs.Marks.{Within, inside, pagesAt, partAt, pagesOutside, frameOutside, framesOutside, outside, marked, ownersOf, twiceMarked, twiceIn, entryMarked, shadowMarked, turnOutside, processorWrong, registersAt, behind, roomWrong};
+ghost use Rattle.damage.specs.Marks.{Within, inside, pagesAt, partAt, pagesOutside, frameOutside, framesOutside, outside, marked, ownersOf, twiceMarked, twiceIn, entryMarked, shadowMarked, turnOutside, processorWrong, registersAt, behind, roomWrong, countWrong, queueOutside, queueAt};
 use dlx::partition::Partition;
 use dlx::partition::Processor;
 use dlx::words::wide;
@@ -323,14 +323,13 @@ fn not_zero(l: &[u32], base: usize, size: usize) -> bool
     false
 }
 
-// Anything but 0 behind the n frames of a list.
-fn behind_used(frames: &[u32], n: usize) -> bool
-    requires { ⌜ length (now frames) ≡ 256 ⌝ }
-    ensures { λ r. ⌜ r ≡ any (behind (now (frames .entry)) n) 256 ⌝ }
+// Anything but 0 behind the first n of a list: behind the frames, or behind the tickets.
+fn behind_used(l: &[u32], n: usize) -> bool
+    ensures { λ r. ⌜ r ≡ any (behind (now (l .entry)) n) (length (now (l .entry))) ⌝ }
 {
     let mut k = n;
-    while k < 256 {
-        if frames[k] != 0 {
+    while k < l.len() {
+        if l[k] != 0 {
             return true;
         }
         k += 1;
@@ -393,7 +392,48 @@ fn unused_wrong(
     false
 }
 
-// Damage in a house inside boot's limits.
+// A count n of queue j above 32, or not 0 though the partition isn't there.
+fn count_wrong(count: u32, j: usize, n: u32) -> bool
+    ensures { λ r. ⌜ r ≡ countWrong count j n ⌝ }
+{
+    if n > 32 {
+        return true;
+    }
+    if j < wide(count) {
+        return false;
+    }
+    n != 0
+}
+
+// The same, or anything but 0 behind the n tickets of queue j.
+fn queue_wrong(count: u32, j: usize, n: u32, places: &[u32]) -> bool
+    requires { ⌜ length (now places) ≡ 32 ⌝ }
+    ensures { λ r. ⌜ r ≡ queueOutside count j n (now (places .entry)) ⌝ }
+{
+    if count_wrong(count, j, n) {
+        return true;
+    }
+    behind_used(places, wide(n))
+}
+
+// A queue is wrong.
+fn queues_wrong(count: u32, tickets: &[u32], waiting: &[u32; 8]) -> bool
+    requires { ⌜ length (now tickets) ≡ 256 ⌝ }
+    ensures { λ r. ⌜ r ≡ any (queueAt count (now (tickets .entry)) (now (waiting .entry))) 8 ⌝ }
+{
+    let mut j: usize = 0;
+    while j < 8 {
+        let a = j * 32;
+        let e = a + 32;
+        if queue_wrong(count, j, waiting[j], &tickets[a..e]) {
+            return true;
+        }
+        j += 1;
+    }
+    false
+}
+
+// Damage in a house inside boot's limits, but for the queues.
 fn inside_wrong(
     count: u32,
     q: u32,
@@ -434,10 +474,12 @@ pub fn damaged(h: House) -> bool
     let regs = h.regs;
     let frames = h.frames;
     let shadows = h.shadows;
+    let tickets = h.tickets;
+    let waiting = h.waiting;
     if outside_limits(h.count, h.q, h.words, parts, &frames) {
         return true;
     }
-    inside_wrong(
+    if inside_wrong(
         h.count,
         h.q,
         h.current,
@@ -447,5 +489,8 @@ pub fn damaged(h: House) -> bool
         &regs,
         &frames,
         &shadows,
-    )
+    ) {
+        return true;
+    }
+    queues_wrong(h.count, &tickets, &waiting)
 }

@@ -1,4 +1,5 @@
 use native.Mathlib.Omega.{arith}
+use lib.ListN.{length}
 use mathlib.Core.Bool.{false}
 use mathlib.Core.Path.{_≡_, sym}
 use Prim.Native.Nat.{_≤_, _-_}
@@ -10,13 +11,13 @@ use Rattle.damage.proofs.behind_used.Statement.{statement}
 use Rattle.damage.proofs.behind_used.Tie as tie
 
 abbrev Inv-loop : tie.InvT-loop
-Inv-loop frames n k₀ k = (any (behind frames n) k ≡ false) × (n ≤ k)
+Inv-loop l n k₀ k = (any (behind l n) k ≡ false) × (n ≤ k)
 
 abbrev μ-loop : tie.MeasureT-loop
-μ-loop frames n k₀ k = 256 - k
+μ-loop l n k₀ k = length l - k
 
 loop-holds : tie.Need-loop-holds Inv-loop μ-loop
-loop-holds c = (any-from (behind (c .args .frames .now) (c .args .n)) (c .args .n) (λ j l. rw (lt-leb (c .args .n) j l)), omega arith)
+loop-holds c = (any-from (behind (c .args .l .now) (c .args .n)) (c .args .n) (λ j l. rw (lt-leb (c .args .n) j l)), omega arith)
 
 mul-if1 : tie.Need-mul-if1 Inv-loop μ-loop
 mul-if1 c = omega arith
@@ -25,7 +26,7 @@ shared-slice-read-if1 : tie.Need-shared-slice-read-if1 Inv-loop μ-loop
 shared-slice-read-if1 c = omega arith
 
 returns : tie.Need-returns Inv-loop μ-loop
-returns c = let a = c .before .before .before .before .args in sym (any-yes (behind (a .frames .now) (a .n)) 256 (c .before .before .before .loop .k) (c .before .before .loop-test .taken) (rw (le-leb (a .n) _ (c .before .before .before .loop .inv .1), ne-eqb _ _ (c .if1 .taken))))
+returns c = let a = c .before .before .before .before .args in sym (any-yes (behind (a .l .now) (a .n)) (length (a .l .now)) (c .before .before .before .loop .k) (c .before .before .loop-test .taken) (rw (le-leb (a .n) _ (c .before .before .before .loop .inv .1), ne-eqb _ _ (c .if1 .taken))))
 
 add-k : tie.Need-add-k Inv-loop μ-loop
 add-k c = omega arith
@@ -34,10 +35,10 @@ loop-less : tie.Need-loop-less Inv-loop μ-loop
 loop-less c = omega arith
 
 loop-again : tie.Need-loop-again Inv-loop μ-loop
-loop-again c = let a = c .before .before .before .before .args in (any-more (behind (a .frames .now) (a .n)) (c .before .before .before .loop .k) (c .before .before .before .loop .inv .0) (rw (le-leb (a .n) _ (c .before .before .before .loop .inv .1), eq-eqb _ _ (c .if1 .left))), omega arith)
+loop-again c = let a = c .before .before .before .before .args in (any-more (behind (a .l .now) (a .n)) (c .before .before .before .loop .k) (c .before .before .before .loop .inv .0) (rw (le-leb (a .n) _ (c .before .before .before .loop .inv .1), eq-eqb _ _ (c .if1 .left))), omega arith)
 
 returns-2 : tie.Need-returns-2 Inv-loop μ-loop
-returns-2 c = let a = c .before .before .args in sym (any-from (behind (a .frames .now) (a .n)) 256 (λ j l. any-none (behind (a .frames .now) (a .n)) (c .before .loop .k) (c .before .loop .inv .0) j (omega (arith, c .loop-test .left))))
+returns-2 c = let a = c .before .before .args in sym (any-from (behind (a .l .now) (a .n)) (length (a .l .now)) (λ j l. any-none (behind (a .l .now) (a .n)) (c .before .loop .k) (c .before .loop .inv .0) j (omega (arith, c .loop-test .left))))
 
 pub behind-used-spec : {M : Type 1} → statement M
 behind-used-spec =

@@ -1,6 +1,6 @@
 use mathlib.Core.Path.{_∙_, sym}
 use Rattle.damage.proofs.Marks.{within}
-use Rattle.house.specs.Damage.{damaged, outsideLimits, frameTwice, turnWrong, registersWrong, shadowWrong, unusedWrong}
+use Rattle.house.specs.Damage.{damaged, outsideLimits, frameTwice, turnWrong, registersWrong, shadowWrong, unusedWrong, queuesWrong}
 use borrow.Author.Needs.{needs}
 use Rattle.damage.proofs.damaged.Statement.{statement}
 use Rattle.damage.proofs.damaged.Tie as tie
@@ -25,11 +25,21 @@ slice-aggregate-inside-wrong-3 : tie.Need-slice-aggregate-inside-wrong-3
 slice-aggregate-inside-wrong-3 c = search needs
 
 inside-wrong-requires : tie.Need-inside-wrong-requires
-inside-wrong-requires c κs = let h = c .before .before .before .before .before .before .before .before .before .before .before .before .args .h in (within (h .count) (h .q) (h .words) (h .parts) (h .frames) (sym (c .before .before .before .before .before .outside-limits .ensures) ∙ c .before .before .before .before .if1 .left), search needs, search needs, search needs)
+inside-wrong-requires c κs = let h = c .before .before .before .before .before .before .before .before .before .before .before .before .before .before .args .h in (within (h .count) (h .q) (h .words) (h .parts) (h .frames) (sym (c .before .before .before .before .before .outside-limits .ensures) ∙ c .before .before .before .before .if1 .left), search needs, search needs, search needs)
 
 returns-2 : tie.Need-returns-2
 unfolding damaged outsideLimits frameTwice turnWrong registersWrong shadowWrong unusedWrong
-returns-2 c = simp (sym (c .before .before .before .before .before .before .outside-limits .ensures) ∙ c .before .before .before .before .before .if1 .left) (c .inside-wrong .ensures)
+returns-2 c = simp (sym (c .before .before .before .before .before .before .before .outside-limits .ensures) ∙ c .before .before .before .before .before .before .if1 .left, sym (c .before .inside-wrong .ensures) ∙ c .if2 .taken)
+
+slice-aggregate-queues-wrong : tie.Need-slice-aggregate-queues-wrong
+slice-aggregate-queues-wrong c = search needs
+
+queues-wrong-requires : tie.Need-queues-wrong-requires
+queues-wrong-requires c κs = search (needs, c .before .before .before .before .before .before .before .before .before .before .before .before .before .before .before .before .before .before .good)
+
+returns-3 : tie.Need-returns-3
+unfolding damaged outsideLimits frameTwice turnWrong registersWrong shadowWrong unusedWrong queuesWrong
+returns-3 c = simp (sym (c .before .before .before .before .before .before .before .before .before .before .outside-limits .ensures) ∙ c .before .before .before .before .before .before .before .before .before .if1 .left, sym (c .before .before .before .before .inside-wrong .ensures) ∙ c .before .before .before .if2 .left) (c .queues-wrong .ensures)
 
 pub damaged-spec : {M : Type 1} → statement M
 damaged-spec =
@@ -42,4 +52,7 @@ damaged-spec =
     slice-aggregate-inside-wrong-2
     slice-aggregate-inside-wrong-3
     inside-wrong-requires
-    returns-2)
+    returns-2
+    slice-aggregate-queues-wrong
+    queues-wrong-requires
+    returns-3)

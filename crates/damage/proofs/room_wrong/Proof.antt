@@ -1,6 +1,8 @@
 use native.Mathlib.Nat.{add-sub-cancel-left}
-use borrow.Author.Tests.{le-ltb, lt-ltb}
-use Rattle.house.specs.Lists.{inner}
+use native.Mathlib.Omega.{arith}
+use Prim.Native.Nat.{_*_}
+use Rattle.tickets.specs.Parts.{inner}
+use Rattle.tickets.proofs.Parts.{inner-length}
 use borrow.Author.Tests.{lt-ltb, le-ltb}
 use borrow.Author.Needs.{needs}
 use Rattle.damage.proofs.room_wrong.Statement.{statement}
@@ -32,7 +34,7 @@ behind-used-requires c κs = search needs
 
 returns : tie.Need-returns
 unfolding inner
-returns c = simp (c .behind-used .ensures, add-sub-cancel-left, c .before .wide .ensures, lt-ltb _ _ (c .before .before .before .if1 .taken))
+returns c = let a = c .before .before .before .before .before .before .before .args in simp (c .behind-used .ensures, add-sub-cancel-left, c .before .wide .ensures, lt-ltb _ _ (c .before .before .before .if1 .taken), inner-length (a .frames .now) (a .i * 256) 256 (omega arith))
 
 returns-2 : tie.Need-returns-2
 returns-2 c = simp ((c .if2 .taken), le-ltb _ _ (c .before .if1 .left))
