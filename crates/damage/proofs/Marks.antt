@@ -15,7 +15,7 @@ use Rattle.dlx.specs.declared.partition.Partition.{Partition}
 use Rattle.dlx.proofs.Tests.{by-test, by-eq}
 use Rattle.translate.specs.Entries.{number}
 use Rattle.translate.specs.Walk.{entries}
-use Rattle.tickets.specs.Parts.{inner}
+use Rattle.dlx.specs.Parts.{inner}
 use Rattle.house.specs.Lists.{any, between}
 use Rattle.house.specs.Damage.{stands, entryWrong, wholeFrames}
 use Rattle.house.proofs.Lists.{one-way, same-test, or-left, or-right, any-yes, any-at, any-none, any-same, and-right}

@@ -9,7 +9,7 @@ use Rattle.dlx.specs.declared.partition.Partition.{Partition}
 use Rattle.dlx.specs.declared.partition.Processor.{Processor}
 use Rattle.translate.specs.Entries.{number, valid}
 use Rattle.translate.specs.Walk.{entries}
-use Rattle.tickets.specs.Parts.{inner}
+use Rattle.dlx.specs.Parts.{inner}
 use Rattle.house.specs.Lists.{any, between}
 use Rattle.house.specs.House.{noPartition}
 use Rattle.house.specs.Damage.{wholeFrames, stands, entryWrong, notZero, partitionUsed}

@@ -6,7 +6,7 @@ use lib.ListN.{length}
 use mathlib.Core.Bool.{true, false}
 use mathlib.Core.Path.{_≡_, refl, _∙_, ap, sym}
 use Prim.Native.Nat.{_≤_, _-_, _+_, zero-le}
-use Rattle.tickets.specs.Parts.{inner}
+use Rattle.dlx.specs.Parts.{inner}
 use Rattle.house.specs.Lists.{any}
 use Rattle.house.proofs.Lists.{any-more, any-yes}
 use Rattle.damage.specs.Marks.{ownersOf, twiceIn}

@@ -5,7 +5,7 @@ use mathlib.Core.Path.{_≡_, refl, _∙_, sym}
 use Prim.Native.Nat.{_≤_, _-_, _*_, zero-le}
 use Rattle.house.specs.Lists.{any}
 use Rattle.house.proofs.Lists.{any-more, any-yes}
-use Rattle.tickets.proofs.Parts.{part-at}
+use Rattle.dlx.proofs.Parts.{part-at}
 use Rattle.damage.specs.Marks.{registersAt}
 use Rattle.damage.proofs.registers_wrong.Statement.{statement}
 use Rattle.damage.proofs.registers_wrong.Tie as tie

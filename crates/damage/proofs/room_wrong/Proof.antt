@@ -1,8 +1,8 @@
 use native.Mathlib.Nat.{add-sub-cancel-left}
 use native.Mathlib.Omega.{arith}
 use Prim.Native.Nat.{_*_}
-use Rattle.tickets.specs.Parts.{inner}
-use Rattle.tickets.proofs.Parts.{inner-length}
+use Rattle.dlx.specs.Parts.{inner}
+use Rattle.dlx.proofs.Parts.{inner-length}
 use borrow.Author.Tests.{lt-ltb, le-ltb}
 use borrow.Author.Needs.{needs}
 use Rattle.damage.proofs.room_wrong.Statement.{statement}

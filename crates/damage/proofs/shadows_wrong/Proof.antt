@@ -3,7 +3,7 @@ use native.Mathlib.Nat.{le-antisymm, add-sub-cancel-left}
 use mathlib.Core.Bool.{false}
 use mathlib.Core.Path.{_≡_, refl, _∙_, sym}
 use Prim.Native.Nat.{_≤_, _-_, _+_, zero-le}
-use Rattle.tickets.specs.Parts.{inner}
+use Rattle.dlx.specs.Parts.{inner}
 use Rattle.house.specs.Lists.{any}
 use Rattle.house.proofs.Lists.{any-more, any-yes}
 use Rattle.damage.specs.Marks.{shadowMarked}
