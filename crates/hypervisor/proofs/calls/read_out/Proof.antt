@@ -83,7 +83,7 @@ part-read-start : tie.Need-part-read-start
 part-read-start c = search needs
 
 part-read-end : tie.Need-part-read-end
-part-read-end c = let l : length (c .before .before .before .before .before .before .before .before .before .before .before .before .before .before .before .before .before .args .h .frames) ≡ 2048 = search needs in omega (arith, c .before .wide3 .ensures, c .before .before .before .before .before .before .before .before .before .if3 .left, count-within (c .before .before .before .before .before .before .before .before .before .before .before .before .before .before .before .before .before .args .h) (sym (c .before .before .before .before .before .before .before .before .before .before .before .before .before .before .damaged .ensures) ∙ c .before .before .before .before .before .before .before .before .before .before .before .before .before .if1 .left) .1)
+part-read-end c = let l : length (c .before .before .before .before .before .before .before .before .before .before .before .before .before .before .before .before .before .args .h .frames) ≡ 2048 = search (needs, c .before .before .before .before .before .before .before .before .before .before .before .before .before .before .before .before .before .good) in omega (arith, c .before .wide3 .ensures, c .before .before .before .before .before .before .before .before .before .if3 .left, count-within (c .before .before .before .before .before .before .before .before .before .before .before .before .before .before .before .before .before .args .h) (sym (c .before .before .before .before .before .before .before .before .before .before .before .before .before .before .damaged .ensures) ∙ c .before .before .before .before .before .before .before .before .before .before .before .before .before .if1 .left) .1)
 
 wide-requires-4 : tie.Need-wide-requires-4
 wide-requires-4 c κs = search needs
@@ -93,7 +93,7 @@ read-requires c κs = let h = c .before .before .before .before .before .before 
     let g = c .before .before .before .before .before .before .before .before .before .before .before .before .before .before .before .before .before .before .before .before .good in
     let e = (sym (c .before .before .before .before .before .before .before .before .before .before .before .before .before .before .before .before .before .damaged .ensures) ∙ c .before .before .before .before .before .before .before .before .before .before .before .before .before .before .before .before .if1 .left) in
     let i = c .before .before .before .before .before .before .before .before .before .before .before .before .before .before .before .before .before .before .before .before .args .i in
-    let d = sound-partition h e (c .before .before .before .before .before .before .before .before .before .before .before .before .before .before .before .before .before .before .before .before .args .memory .now) (record { running = search (needs, g); parts = search (needs, unmapped, g); regs = search (needs, g); frames = search (needs, g); shadows = search (needs, g) }) (c .before .before .before .before .before .before .before .before .before .before .before .before .before .before .if2 .left ∙ c .before .before .before .before .before .before .before .before .before .before .before .before .before .before .before .wide .ensures) i (c .before .before .before .before .before .before .before .before .before .before .before .before .if3 .left) .placed in
+    let d = sound-partition h e (c .before .before .before .before .before .before .before .before .before .before .before .before .before .before .before .before .before .before .before .before .args .memory .now) (record { running = search (needs, g); parts = search (needs, unmapped, g); regs = search (needs, g); frames = search (needs, g); shadows = search (needs, g); tickets = search (needs, g); waiting = search (needs, g) }) (c .before .before .before .before .before .before .before .before .before .before .before .before .before .before .if2 .left ∙ c .before .before .before .before .before .before .before .before .before .before .before .before .before .before .before .wide .ensures) i (c .before .before .before .before .before .before .before .before .before .before .before .before .if3 .left) .placed in
     (lent-placed h _ i _ _ (c .before .before .before .before .wide3 .ensures) (c .before .before .before .before .before .before .before .before .before .before .wide2 .ensures) d, (rw (c .before .wide4 .ensures) (within-pages _ _ _ (sym (c .before .before .before .before .before .before .before .before .beyond .ensures) ∙ c .before .before .before .before .before .before .before .if4 .left)), c .before .before .before .before .before .before .if5 .left))
 
 same-length : tie.Need-same-length

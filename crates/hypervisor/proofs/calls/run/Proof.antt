@@ -52,8 +52,9 @@ returns-5 c = simp (c .refused5 .ensures, (sym (c .before .before .before .befor
 
 steps-requires : tie.Need-steps-requires
 steps-requires c κs = let h = c .before .before .before .before .before .before .before .before .before .before .args .h in
+    let g = c .before .before .before .before .before .before .before .before .before .before .good in
     sound h (sym (c .before .before .before .before .before .before .before .before .damaged .ensures) ∙ c .before .before .before .before .before .before .before .if1 .left) _
-    (record { running = search needs; parts = search (needs, unmapped); regs = search needs; frames = search needs; shadows = search needs })
+    (record { running = search (needs, g); parts = search (needs, unmapped, g); regs = search (needs, g); frames = search (needs, g); shadows = search (needs, g); tickets = search (needs, g); waiting = search (needs, g) })
     (c .before .before .before .before .before .if2 .left ∙ c .before .before .before .before .before .before .wide .ensures)
     (c .before .if5 .left)
 
