@@ -8,9 +8,9 @@ use Rattle.dlx.specs.Instructions.{registerType, instructionOf}
 use Rattle.dlx.specs.Processor.{specialOf, withSpecial}
 use Rattle.dlx.specs.Interrupts.{levelOf, interrupted}
 use Rattle.dlx.specs.Execute.{written, valueOf, overflowsOf, operated, reached, loads, stores, movedTo, trapOf, effectOf}
-use Rattle.dlx.specs.Machine.{executed, fetched, loaded, stored, taken, accessed, settled, retabled, step, steps, asked, requestOf}
+use Rattle.dlx.specs.Machine.{executed, fetched, loaded, stored, accessed, received, handed, settled, retabled, step, steps, asked, requestOf}
 use Rattle.dlx.specs.Examples.{once, booted, r, interrupt, same, pair, is-ill, answered, goes-on, ordinary, asking, papers, traps, tickets, all}
 
 pub checked : all (papers ++ (traps ++ tickets)) ≡ true
-unfolding all papers traps tickets r interrupt same pair is-ill once answered goes-on ordinary asking booted step steps asked requestOf fetched executed loaded stored taken accessed settled retabled instructionOf registerType effectOf written valueOf overflowsOf operated reached loads stores movedTo trapOf specialOf withSpecial interrupted levelOf trailingZeros extendedBy readIn holds
+unfolding all papers traps tickets r interrupt same pair is-ill once answered goes-on ordinary asking booted step steps asked requestOf fetched executed loaded stored accessed received handed settled retabled instructionOf registerType effectOf written valueOf overflowsOf operated reached loads stores movedTo trapOf specialOf withSpecial interrupted levelOf trailingZeros extendedBy readIn holds
 checked = refl

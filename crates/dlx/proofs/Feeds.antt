@@ -6,7 +6,7 @@ use Prim.Native.Nat.{ℕ, zero, suc, _+_, _<_}
 use native.Mathlib.Omega.{arith}
 use lib.ListN.{length, getD, length-append, List·getD-append}
 use lib.Seq.{getD-append-add}
-use Rattle.dlx.specs.Machine.{Ops, Core, Outcome, accessed, fetched, settled, retabled, step, steps, Request, nothing, sends, takes, requestOf, asked, reply}
+use Rattle.dlx.specs.Machine.{Ops, Core, Outcome, accessed, handed, fetched, settled, retabled, step, steps, Request, nothing, sends, takes, requestOf, asked, reply}
 use Rattle.dlx.specs.declared.partition.Processor.{Processor}
 use Rattle.dlx.specs.declared.execute.Change.{Change}
 use Rattle.dlx.specs.declared.execute.Effect.{Effect}
@@ -18,6 +18,14 @@ abbrev Silent : Request → Type 0
 Silent nothing = Unit
 Silent (sends v to) = ⊥
 Silent takes = ⊥
+
+unhanded : (a b : Reply) (e : Effect) (c : Core) → Silent (requestOf e) → handed e a c ≡ handed e b c
+unfolding handed requestOf
+unhanded a b (Done x) c h = refl
+unhanded a b (Load d x) c h = refl
+unhanded a b (Store x v) c h = refl
+unhanded a b (Send v to) c h = refl
+unhanded a b Take c h = absurd h
 
 module _ {S : Type 0} (O : Ops S) where
   silent : (a b : Reply) (p : Processor) (e : Effect) (s : S) → Silent (requestOf e) → accessed O a p e s ≡ accessed O b p e s
@@ -31,8 +39,11 @@ module _ {S : Type 0} (O : Ops S) where
   pub unasked : (a b : Reply) (m : Core × S) → asked O m ≡ nothing → step O a m ≡ step O b m
   unfolding step asked
   unasked a b m e =
-      ap (λ (g : Change × S). (settled (m .0) (g .0), retabled O (g .0) (g .1)))
-      (silent a b (m .0 .processor) (fetched O m .0) (fetched O m .1) (subst Silent (sym e) tt))
+      let n = subst Silent (sym e) tt in
+      let g = accessed O b (m .0 .processor) (fetched O m .0) (fetched O m .1) in
+      ap (λ (x : Change × S). (settled (handed (fetched O m .0) a (m .0)) (x .0), retabled O (x .0) (x .1)))
+      (silent a b (m .0 .processor) (fetched O m .0) (fetched O m .1) n)
+      ∙ ap (λ (c : Core). (settled c (g .0), retabled O (g .0) (g .1))) (unhanded a b (fetched O m .0) (m .0) n)
 
   -- feeds that agree so far
   pub steps-same : (f g : ℕ → Reply) (n : ℕ) (m : Core × S) → ((k : ℕ) → k < n → f k ≡ g k) → steps O f n m ≡ steps O g n m

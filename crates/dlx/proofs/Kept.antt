@@ -17,7 +17,7 @@ use Rattle.dlx.specs.Processor.{user, specialOf, withSpecial, wentTo, be
 use Rattle.dlx.specs.Interrupts.{unmasked, levelOf, interrupted, returned, savesOld, bringsDatum}
 use Rattle.dlx.specs.Instructions.{instructionOf, registerType, Formed}
 use Rattle.dlx.specs.Execute.{reg, written, valueOf, overflowsOf, operated, reached, loads, stores, inSystem, movedTo, trapOf, effectOf}
-use Rattle.dlx.specs.Machine.{Ops, Core, core, Outcome, executed, fetched, loaded, stored, taken, accessed, settled, retabled, step, Request, nothing, sends, takes, requestOf, asked}
+use Rattle.dlx.specs.Machine.{Ops, Core, core, Outcome, executed, fetched, loaded, stored, accessed, received, handed, settled, retabled, step, Request, nothing, sends, takes, requestOf, asked}
 use Rattle.dlx.specs.declared.partition.Table.{Table}
 use Rattle.dlx.specs.declared.partition.Processor.{Processor}
 use Rattle.dlx.specs.declared.instruction.Operation.{Operation}
@@ -27,7 +27,7 @@ use Rattle.dlx.specs.declared.instruction.Instruction.the-variants.{Lw, 
 use Rattle.dlx.specs.declared.execute.Access.{Access}
 use Rattle.dlx.specs.declared.execute.Access.the-variants.{Fault, Word}
 use Rattle.dlx.specs.declared.execute.Change.{Change}
-use Rattle.dlx.specs.declared.execute.Change.the-variants.{Plain, Special, Retable, Cause, Return, Ticket}
+use Rattle.dlx.specs.declared.execute.Change.the-variants.{Plain, Special, Retable, Cause, Return}
 use Rattle.dlx.specs.declared.execute.Effect.{Effect}
 use Rattle.dlx.specs.declared.execute.Effect.the-variants.{Done, Load, Store, Send, Take}
 use Rattle.dlx.specs.declared.execute.Reply.{Reply}
@@ -137,7 +137,6 @@ KeptChange (Special n v) = v < 2 ^ 32
 KeptChange (Retable t) = KeptTable t
 KeptChange (Cause causes datum) = (causes < 2 ^ 32) × (datum < 2 ^ 32)
 KeptChange Return = Unit
-KeptChange (Ticket v) = v < 2 ^ 32
 
 abbrev pub KeptEffect : Effect → Type 0
 KeptEffect (Done c) = KeptChange c
@@ -350,10 +349,6 @@ settled-kept c Return h k = record {
   processor = returned-kept (c .processor) (h .processor);
   registers = h .registers;
 }
-settled-kept c (Ticket v) h k = record {
-  processor = went-kept (c .processor) (h .processor) _ (omega arith);
-  registers = written-kept _ 3 0 (written-kept (c .registers) 1 v (h .registers) k) (omega arith);
-}
 
 -- a memory that keeps I, whose words and table's registers are words
 pub record Keeps {S : Type 0} (I : S → Type 0) (O : Ops S) : Type 0 where
@@ -387,15 +382,22 @@ module _ {S : Type 0} (I : S → Type 0) (O : Ops S) (K : Keeps I O) where
   stored-kept p a made h =
       either KeptChange made (λ _. (omega arith, omega arith, omega arith)) (λ _. (omega arith, h))
 
-  taken-kept : (p : Processor) (y : Reply) → KeptReply y → KeptChange (taken p y)
-  unfolding taken
-  taken-kept p y k = either KeptChange (eqb (y .code) 0) (λ _. k .ticket) (λ _. (omega arith, k .code, omega arith))
+  handed-kept : (y : Reply) → KeptReply y → (e : Effect) (c : Core) → Kept c → Kept (handed e y c)
+  unfolding handed received
+  handed-kept y k (Done x) c h = h
+  handed-kept y k (Load d a) c h = h
+  handed-kept y k (Store a v) c h = h
+  handed-kept y k (Send v to) c h = h
+  handed-kept y k Take c h = record {
+    processor = h .processor;
+    registers = either Registers (eqb (y .code) 0) (λ _. written-kept (c .registers) 1 (y .ticket) (h .registers) (k .ticket)) (λ _. h .registers);
+  }
 
   accessed-kept : (y : Reply) → KeptReply y → (p : Processor) (e : Effect) (s : S) → KeptEffect e → I s → KeptChange (accessed O y p e s .0) × I (accessed O y p e s .1)
   unfolding accessed
   accessed-kept y k p (Done c) s h i = (h, i)
   accessed-kept y k p (Send v to) s h i = ((omega arith, k .code, omega arith), i)
-  accessed-kept y k p Take s h i = (taken-kept p y k, i)
+  accessed-kept y k p Take s h i = ((omega arith, k .code, omega arith), i)
   accessed-kept y k p (Load d a) s h i = let g = K .reads s i (user p) a in (loaded-kept p d a _ (h .0) (h .1) (g .0), g .1)
   accessed-kept y k p (Store a v) s h i = (stored-kept p a _ (h .0), K .writes s i (user p) a (λ _. v) (λ _. h .1))
 
@@ -406,7 +408,6 @@ module _ {S : Type 0} (I : S → Type 0) (O : Ops S) (K : Keeps I O) where
   retabled-kept (Retable t) s h i = K .retables s i t h
   retabled-kept (Cause causes datum) s h i = i
   retabled-kept Return s h i = i
-  retabled-kept (Ticket v) s h i = i
 
   -- what a step sends is a word, so that queues stay words
   pub asked-kept : (c : Core) (s : S) → Kept c → I s → KeptRequest (asked O (c, s))
@@ -419,4 +420,4 @@ module _ {S : Type 0} (I : S → Type 0) (O : Ops S) (K : Keeps I O) where
   step-kept y k c s h i =
       let f = fetched-kept c s h i in
       let a = accessed-kept y k (c .processor) _ _ (f .0) (f .1) in
-      (settled-kept c _ h (a .0), retabled-kept _ _ (a .0) (a .1))
+      (settled-kept _ _ (handed-kept y k _ c h) (a .0), retabled-kept _ _ (a .0) (a .1))

@@ -5,11 +5,11 @@ use Prim.Native.Nat.{ℕ, zero, suc}
 use Rattle.dlx.specs.Choice.{if_then_else_}
 use Rattle.dlx.specs.Words.{aligned}
 use Rattle.dlx.specs.Processor.{user}
-use Rattle.dlx.specs.Machine.{Ops, Core, Outcome, executed, fetched, loaded, stored, accessed, settled, retabled, step, steps, requestOf, asked}
+use Rattle.dlx.specs.Machine.{Ops, Core, Outcome, executed, fetched, loaded, stored, accessed, handed, settled, retabled, step, steps, requestOf, asked}
 use Rattle.dlx.specs.declared.partition.Table.{Table}
 use Rattle.dlx.specs.declared.partition.Processor.{Processor}
 use Rattle.dlx.specs.declared.execute.Change.{Change}
-use Rattle.dlx.specs.declared.execute.Change.the-variants.{Plain, Special, Retable, Cause, Return, Ticket}
+use Rattle.dlx.specs.declared.execute.Change.the-variants.{Plain, Special, Retable, Cause, Return}
 use Rattle.dlx.specs.declared.execute.Effect.{Effect}
 use Rattle.dlx.specs.declared.execute.Effect.the-variants.{Done, Load, Store, Send, Take}
 use Rattle.dlx.specs.declared.execute.Reply.{Reply}
@@ -66,23 +66,26 @@ module _ {S S′ : Type 0} (R : S → S′ → Type 0) (O : Ops S) (O′ : Ops S
   retabled-like (Retable t) s s′ r = L .retables s s′ r t
   retabled-like (Cause causes datum) s s′ r = r
   retabled-like Return s s′ r = r
-  retabled-like (Ticket v) s s′ r = r
 
   settled-like : (c : Core) (g : Change × S) (g′ : Change × S′) → Both R g g′ → Both R (settled c (g .0), retabled O (g .0) (g .1)) (settled c (g′ .0), retabled O′ (g′ .0) (g′ .1))
   settled-like c g g′ b =
       subst (λ x. Both R (settled c (g .0), retabled O (g .0) (g .1)) (settled c x, retabled O′ x (g′ .1))) (b .same)
       (record { same = refl; rest = retabled-like (g .0) (g .1) (g′ .1) (b .rest) })
 
-  effect-like : (y : Reply) (p : Processor) (g : Effect × S) (g′ : Effect × S′) → Both R g g′ → Both R (accessed O y p (g .0) (g .1)) (accessed O′ y p (g′ .0) (g′ .1))
-  effect-like y p g g′ b =
-      subst (λ x. Both R (accessed O y p (g .0) (g .1)) (accessed O′ y p x (g′ .1))) (b .same)
-      (accessed-like y p (g .0) (g .1) (g′ .1) (b .rest))
+  -- from the same effect on
+  stepped-like : (y : Reply) (c : Core) (f : Effect × S) (f′ : Effect × S′) → Both R f f′ →
+      let g = accessed O y (c .processor) (f .0) (f .1) in
+      let g′ = accessed O′ y (c .processor) (f′ .0) (f′ .1) in
+      Both R (settled (handed (f .0) y c) (g .0), retabled O (g .0) (g .1)) (settled (handed (f′ .0) y c) (g′ .0), retabled O′ (g′ .0) (g′ .1))
+  stepped-like y c f f′ b =
+      subst (λ (x : Effect). Both R (settled (handed (f .0) y c) (accessed O y (c .processor) (f .0) (f .1) .0), retabled O (accessed O y (c .processor) (f .0) (f .1) .0) (accessed O y (c .processor) (f .0) (f .1) .1)) (settled (handed x y c) (accessed O′ y (c .processor) x (f′ .1) .0), retabled O′ (accessed O′ y (c .processor) x (f′ .1) .0) (accessed O′ y (c .processor) x (f′ .1) .1))) (b .same)
+      (settled-like (handed (f .0) y c) _ _ (accessed-like y (c .processor) (f .0) (f .1) (f′ .1) (b .rest)))
 
   pub step-like : (y : Reply) (m : Core × S) (m′ : Core × S′) → Both R m m′ → Both R (step O y m) (step O′ y m′)
   unfolding step
   step-like y m m′ b =
       subst (λ c. Both R (step O y m) (step O′ y (c, m′ .1))) (b .same)
-      (settled-like (m .0) _ _ (effect-like y (m .0 .processor) _ _ (fetched-like (m .0) (m .1) (m′ .1) (b .rest))))
+      (stepped-like y (m .0) _ _ (fetched-like (m .0) (m .1) (m′ .1) (b .rest)))
 
   pub steps-like : (feed : ℕ → Reply) (n : ℕ) (m : Core × S) (m′ : Core × S′) → Both R m m′ → Both R (steps O feed n m) (steps O′ feed n m′)
   unfolding steps

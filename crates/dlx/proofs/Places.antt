@@ -13,7 +13,7 @@ use Rattle.dlx.specs.Instructions.{instructionOf, Formed}
 use Rattle.dlx.specs.Processor.{user}
 use Rattle.dlx.specs.Interrupts.{unmasked}
 use Rattle.dlx.specs.Execute.{written, overflowsOf, operated, reached, loads, stores, inSystem, movedTo, trapOf, effectOf}
-use Rattle.dlx.specs.Machine.{Ops, Core, executed, fetched, loaded, stored, taken, accessed, settled, step, Places}
+use Rattle.dlx.specs.Machine.{Ops, Core, executed, fetched, loaded, stored, accessed, received, handed, settled, step, Places}
 use Rattle.dlx.specs.declared.partition.Table.{Table}
 use Rattle.dlx.specs.declared.partition.Processor.{Processor}
 use Rattle.dlx.specs.declared.instruction.Operation.{Operation}
@@ -22,7 +22,7 @@ use Rattle.dlx.specs.declared.instruction.Instruction.the-variants.{Lw, 
 use Rattle.dlx.specs.declared.execute.Access.{Access}
 use Rattle.dlx.specs.declared.execute.Access.the-variants.{Fault, Word}
 use Rattle.dlx.specs.declared.execute.Change.{Change}
-use Rattle.dlx.specs.declared.execute.Change.the-variants.{Plain, Special, Retable, Cause, Return, Ticket}
+use Rattle.dlx.specs.declared.execute.Change.the-variants.{Plain, Special, Retable, Cause, Return}
 use Rattle.dlx.specs.declared.execute.Effect.{Effect}
 use Rattle.dlx.specs.declared.execute.Effect.the-variants.{Done, Load, Store, Send, Take}
 use Rattle.dlx.specs.declared.execute.Reply.{Reply}
@@ -86,10 +86,10 @@ module _ {S : Type 0} (O : Ops S) where
       either (λ (g : Effect × S). PlacesEffect (g .0)) (aligned (c .processor .dpc)) (λ _. executed-places c _ _) (λ _. tt)
 
   pub accessed-places : (y : Reply) (p : Processor) (e : Effect) (s : S) → PlacesEffect e → Places (accessed O y p e s .0)
-  unfolding accessed loaded stored taken
+  unfolding accessed loaded stored
   accessed-places y p (Done c) s h = h
   accessed-places y p (Send v to) s h = omega arith
-  accessed-places y p Take s h = either Places (eqb (y .code) 0) (λ _. tt) (λ _. omega arith)
+  accessed-places y p Take s h = omega arith
   accessed-places y p (Load d a) s h = go (O .read s (user p) a .0)
     where
       go : (x : Access) → Places (loaded p d a x)
@@ -110,8 +110,17 @@ settled-count c (Special n v) = refl
 settled-count c (Retable t) = refl
 settled-count c (Cause causes datum) = refl
 settled-count c Return = refl
-settled-count c (Ticket v) = written-count (written (c .registers) 1 v) 3 0 ∙ written-count (c .registers) 1 v
+
+pub handed-count : (e : Effect) (y : Reply) (c : Core) → length (handed e y c .registers) ≡ length (c .registers)
+unfolding handed received
+handed-count (Done x) y c = refl
+handed-count (Load d a) y c = refl
+handed-count (Store a v) y c = refl
+handed-count (Send v to) y c = refl
+handed-count Take y c =
+    either (λ (l : List ℕ). length l ≡ length (c .registers)) (eqb (y .code) 0) {x = written (c .registers) 1 (y .ticket)} {y = c .registers}
+    (λ _. written-count (c .registers) 1 (y .ticket)) (λ _. refl)
 
 pub step-count : {S : Type 0} (O : Ops S) (y : Reply) (c : Core) (s : S) → length (step O y (c, s) .0 .core .registers) ≡ length (c .registers)
 unfolding step
-step-count O y c s = settled-count c _
+step-count O y c s = settled-count _ _ ∙ handed-count _ y c

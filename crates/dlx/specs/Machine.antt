@@ -13,7 +13,7 @@ use Rattle.dlx.specs.Execute.{written, effectOf}
 use Rattle.dlx.specs.declared.partition.Table.{Table}
 use Rattle.dlx.specs.declared.partition.Processor.{Processor}
 use Rattle.dlx.specs.declared.execute.Change.{Change}
-use Rattle.dlx.specs.declared.execute.Change.the-variants.{Plain, Special, Retable, Cause, Return, Ticket}
+use Rattle.dlx.specs.declared.execute.Change.the-variants.{Plain, Special, Retable, Cause, Return}
 use Rattle.dlx.specs.declared.execute.Access.{Access}
 use Rattle.dlx.specs.declared.execute.Access.the-variants.{Fault, Word}
 use Rattle.dlx.specs.declared.execute.Effect.{Effect}
@@ -67,17 +67,25 @@ loaded p d a (Word w) = Plain d w (behind p)
 unfoldable pub stored : Processor → ℕ → Bool → Change
 stored p a made = if made then Plain 0 0 (behind p) else Cause pfls a
 
--- a ticket's call answered: register 3 becomes the code; a ticket taken goes to register 1
-unfoldable pub taken : Processor → Reply → Change
-taken p a = if eqb (a .code) 0 then Ticket (a .ticket) else Plain 3 (a .code) (behind p)
-
--- the data access; a, the answer, is used where a ticket is sent or taken, and nowhere else
+-- the data access; a, the answer, is used where a ticket is sent or taken, and nowhere else: register 3 becomes its code
 unfoldable pub accessed : {S : Type 0} → Ops S → Reply → Processor → Effect → S → Change × S
 accessed O a p (Done c) s = (c, s)
 accessed O a p (Load d x) s = let g = O .read s (user p) x in (loaded p d x (g .0), g .1)
 accessed O a p (Store x v) s = let g = O .write s (user p) x (λ _. v) in (stored p x (g .0), g .1)
 accessed O a p (Send v to) s = (Plain 3 (a .code) (behind p), s)
-accessed O a p Take s = (taken p a, s)
+accessed O a p Take s = (Plain 3 (a .code) (behind p), s)
+
+-- a ticket taken goes to register 1; on any other answer register 1 stays
+unfoldable pub received : List ℕ → Reply → List ℕ
+received r a = if eqb (a .code) 0 then written r 1 (a .ticket) else r
+
+-- the core with what the data access brings it beside a change: a take's ticket
+unfoldable pub handed : Effect → Reply → Core → Core
+handed (Done x) a c = c
+handed (Load d x) a c = c
+handed (Store x v) a c = c
+handed (Send v to) a c = c
+handed Take a c = core (c .processor) (received (c .registers) a)
 
 -- the change of the processor and the registers
 unfoldable pub settled : Core → Change → Outcome
@@ -89,8 +97,6 @@ settled c (Cause causes datum) =
     outcome (core (interrupted (c .processor) causes datum) (c .registers))
     (eqb (levelOf causes) 5 && not (user (c .processor)))
 settled c Return = outcome (core (returned (c .processor)) (c .registers)) false
-settled c (Ticket v) =
-    outcome (core (wentTo (c .processor) (behind (c .processor))) (written (written (c .registers) 1 v) 3 0)) false
 
 -- the change of PTO and PTL
 unfoldable pub retabled : {S : Type 0} → Ops S → Change → S → S
@@ -99,14 +105,13 @@ retabled O (Special n v) s = s
 retabled O (Retable t) s = O .retable s t
 retabled O (Cause causes datum) s = s
 retabled O Return s = s
-retabled O (Ticket v) s = s
 
 -- the step, with the answer a to what it asks
 unfoldable pub step : {S : Type 0} → Ops S → Reply → Core × S → Outcome × S
 step O a m =
     let f = fetched O m in
     let g = accessed O a (m .0 .processor) (f .0) (f .1) in
-    (settled (m .0) (g .0), retabled O (g .0) (g .1))
+    (settled (handed (f .0) a (m .0)) (g .0), retabled O (g .0) (g .1))
 
 -- so many steps, fed answers by step number
 unfoldable pub steps : {S : Type 0} → Ops S → (ℕ → Reply) → ℕ → Core × S → Core × S
@@ -138,8 +143,8 @@ abbrev pub Desk : Type 0 → Type 0
 Desk T = T → Request → Reply × T
 
 -- the data access of a guest at a desk
-abbrev pub accessedAt : {S T : Type 0} → Ops S → Desk T → Processor → Effect → S → T → (Change × S) × T
-accessedAt O D p e s t = let g = D t (requestOf e) in (accessed O (g .0) p e s, g .1)
+abbrev pub accessedAt : {S T : Type 0} → Ops S → Desk T → Core → Effect → S → T → (Core × (Change × S)) × T
+accessedAt O D c e s t = let g = D t (requestOf e) in ((handed e (g .0) c, accessed O (g .0) (c .processor) e s), g .1)
 
 -- the step of a guest at a desk
 abbrev pub stepAt : {S T : Type 0} → Ops S → Desk T → Core × S → T → (Outcome × S) × T
@@ -170,4 +175,3 @@ Places (Special n v) = Unit
 Places (Retable t) = Unit
 Places (Cause causes datum) = Unit
 Places Return = Unit
-Places (Ticket v) = Unit

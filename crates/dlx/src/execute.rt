@@ -14,8 +14,6 @@ pub enum Change {
     Cause(u32, u32),
     // rfe.
     Return,
-    // A ticket taken: register 1 becomes it, register 3 becomes 0.
-    Ticket(u32),
 }
 
 // What an instruction asks for: a change, or first a load of a register from an address, a store of a value there, a ticket sent to a partition, or one taken.

@@ -6,23 +6,24 @@ use mathlib.Core.List.{List}
 use Prim.Native.Nat.{ℕ, suc, _+_, _-_, _<_, _≤_}
 use native.Mathlib.Numerals.{add-one}
 use native.Mathlib.Omega.{arith}
-use Rattle.dlx.specs.Machine.{Ops, Core, Outcome, outcome, fetched, accessed, settled, retabled, step, Request, requestOf, asked, Desk, accessedAt, stepAt, stretchFrom, Places}
-use Rattle.dlx.specs.declared.partition.Processor.{Processor}
+use lib.ListN.{length}
+use Rattle.dlx.specs.Machine.{Ops, Core, Outcome, outcome, fetched, accessed, handed, settled, retabled, step, Request, requestOf, asked, Desk, accessedAt, stepAt, stretchFrom, Places}
 use Rattle.dlx.specs.declared.execute.Change.{Change}
 use Rattle.dlx.specs.declared.execute.Effect.{Effect}
-use Rattle.dlx.proofs.Places.{PlacesEffect, fetched-places, accessed-places}
+use Rattle.dlx.proofs.Places.{PlacesEffect, fetched-places, accessed-places, handed-count}
 use Rattle.tickets.specs.Queues.{Queues, Seated, desk}
 use Rattle.tickets.proofs.Queues.{desk-queued}
 use Rattle.translate.specs.Memory.{Host, hostMemory}
-use Rattle.translate.proofs.Steps.{Whole, fetched-whole, accessed-whole, step-whole}
+use Rattle.translate.proofs.Steps.{Whole, fetched-whole, step-whole}
 
 module _ {S T : Type 0} (O : Ops S) (D : Desk T) where
-  pub step-is : (c : Core) (s s₁ s₂ s₃ : S) (q q₁ : T) (e : Effect) (x : Change) (o : Outcome) → (e, s₁) ≡ fetched O (c, s) → ((x, s₂), q₁) ≡ accessedAt O D (c .processor) e s₁ q → o ≡ settled c x → s₃ ≡ retabled O x s₂ → ((o, s₃), q₁) ≡ stepAt O D (c, s) q
+  pub step-is : (c c₁ : Core) (s s₁ s₂ s₃ : S) (q q₁ : T) (e : Effect) (x : Change) (o : Outcome) → (e, s₁) ≡ fetched O (c, s) → ((c₁, (x, s₂)), q₁) ≡ accessedAt O D c e s₁ q → o ≡ settled c₁ x → s₃ ≡ retabled O x s₂ → ((o, s₃), q₁) ≡ stepAt O D (c, s) q
   unfolding step asked
-  step-is c s s₁ s₂ s₃ q q₁ e x o f a t r =
-      let a₀ : (x, s₂) ≡ accessed O (D q (requestOf e) .0) (c .processor) e s₁ = ap (λ (g : (Change × S) × T). g .0) a in
-      let a₁ : q₁ ≡ D q (requestOf e) .1 = ap (λ (g : (Change × S) × T). g .1) a in
-      simp (← f, ← a₀, ← a₁, t, r)
+  step-is c c₁ s s₁ s₂ s₃ q q₁ e x o f a t r =
+      let a₀ : (x, s₂) ≡ accessed O (D q (requestOf e) .0) (c .processor) e s₁ = ap (λ (g : (Core × (Change × S)) × T). g .0 .1) a in
+      let a₁ : q₁ ≡ D q (requestOf e) .1 = ap (λ (g : (Core × (Change × S)) × T). g .1) a in
+      let a₂ : c₁ ≡ handed e (D q (requestOf e) .0) c = ap (λ (g : (Core × (Change × S)) × T). g .0 .0) a in
+      simp (← f, ← a₀, ← a₁, ← a₂, t, r)
 
 module _ (fr : List ℕ) (n size count i : ℕ) where
   pub after-fetch : (c : Core) (h h₁ : Host) (e : Effect) → Whole fr n size h → (e, h₁) ≡ fetched (hostMemory fr n) (c, h) → Whole fr n size h₁ × PlacesEffect e
@@ -30,10 +31,10 @@ module _ (fr : List ℕ) (n size count i : ℕ) where
       subst (λ (g : Effect × Host). Whole fr n size (g .1) × PlacesEffect (g .0)) (sym f)
       (fetched-whole fr n size c h w, fetched-places (hostMemory fr n) c h)
 
-  pub after-access : (p : Processor) (h h₂ : Host) (q q₁ : Queues) (e : Effect) (x : Change) → Whole fr n size h × PlacesEffect e → ((x, h₂), q₁) ≡ accessedAt (hostMemory fr n) (desk count i) p e h q → Whole fr n size h₂ × Places x
-  after-access p h h₂ q q₁ e x w a =
-      subst (λ (g : (Change × Host) × Queues). Whole fr n size (g .0 .1) × Places (g .0 .0)) (sym a)
-      (accessed-whole fr n size _ p e h (w .0), accessed-places (hostMemory fr n) _ p e h (w .1))
+  pub after-access : (c c₁ : Core) (h h₂ : Host) (q q₁ : Queues) (e : Effect) (x : Change) → length (c .registers) ≡ 32 → Whole fr n size h × PlacesEffect e → ((c₁, (x, h₂)), q₁) ≡ accessedAt (hostMemory fr n) (desk count i) c e h q → (length (c₁ .registers) ≡ 32) × Places x
+  after-access c c₁ h h₂ q q₁ e x l w a =
+      subst (λ (g : (Core × (Change × Host)) × Queues). (length (g .0 .0 .registers) ≡ 32) × Places (g .0 .1 .0)) (sym a)
+      (handed-count e _ c ∙ l, accessed-places (hostMemory fr n) _ (c .processor) e h (w .1))
 
   pub after-step : (c : Core) (h h′ : Host) (q q′ : Queues) (o : Outcome) → Whole fr n size h → Seated count i q → ((o, h′), q′) ≡ stepAt (hostMemory fr n) (desk count i) (c, h) q → Whole fr n size h′ × Seated count i q′
   after-step c h h′ q q′ o w k s =

@@ -1,13 +1,13 @@
 // The interpreter: one guest step through the shadow, and a stretch of steps, on lent arrays. The processor's numbers go by value.
 ghost use mathlib.Core.Path.{_≡_};
 ghost use mathlib.Core.List.{List};
-ghost use Prim.Native.Nat.{ℕ};
+ghost use Prim.Native.Nat.{ℕ, _<_};
 ghost use lib.ListN.{length};
 ghost use Rattle.dlx.specs.Machine.{core, fetched, accessedAt, retabled, stepAt, stretchFrom};
-ghost use Rattle.tickets.specs.Queues.{queues, desk, Seated};
+ghost use Rattle.tickets.specs.Queues.{queues, taking, desk, Queued, Seated};
 ghost use Rattle.translate.specs.Memory.{host, hostMemory};
 ghost use Rattle.translate.specs.Premises.{Placed, Shadowed};
-ghost use Rattle.engine.specs.Answers.{outcomeOf, stretchOf};
+ghost use Rattle.engine.specs.Answers.{receivedOf, outcomeOf, stretchOf};
 use dlx::execute::Access;
 use dlx::execute::Change;
 use dlx::execute::Effect;
@@ -58,11 +58,25 @@ fn fetch(
     }
 }
 
-// The data access, where the instruction asks for one.
+// A ticket of partition i taken into register 1, if one waits; the answer's code.
+fn receive(regs: &mut [u32], i: u32, tickets: &mut [u32], waiting: &mut [u32]) -> u32
+    requires { ⌜ length (now regs) ≡ 32 ⌝ ∗ ⌜ Queued (queues (now tickets) (now waiting)) ⌝ ∗ ⌜ i < 8 ⌝ }
+    ensures { λ r. ⌜ ((now (regs .exit), r), queues (now (tickets .exit)) (now (waiting .exit))) ≡ receivedOf (now (regs .entry)) (taking (queues (now (tickets .entry)) (now (waiting .entry))) i) ⌝ }
+{
+    let reply = tickets::take(tickets, waiting, i);
+    if reply.code == 0 {
+        processor::execute::write(regs, 1, reply.ticket);
+        return reply.code;
+    }
+    reply.code
+}
+
+// The data access, where the instruction asks for one. A ticket that it takes stands in register 1 then.
 fn access(
     p: Processor,
     t: Table,
     pages: u32,
+    regs: &mut [u32],
     frames: &[u32],
     shadow: &mut [u32],
     words: &mut [u32],
@@ -72,8 +86,8 @@ fn access(
     waiting: &mut [u32],
     e: Effect,
 ) -> Change
-    requires { ⌜ Placed (now frames) pages (length (now words)) ⌝ ∗ ⌜ Shadowed (now frames) pages (now shadow) ⌝ ∗ ⌜ Seated count i (queues (now tickets) (now waiting)) ⌝ }
-    ensures { λ r. ⌜ ((r, host t (now (words .exit)) (now (shadow .exit))), queues (now (tickets .exit)) (now (waiting .exit))) ≡ accessedAt (hostMemory (now (frames .entry)) pages) (desk count i) p e (host t (now (words .entry)) (now (shadow .entry))) (queues (now (tickets .entry)) (now (waiting .entry))) ⌝ }
+    requires { ⌜ length (now regs) ≡ 32 ⌝ ∗ ⌜ Placed (now frames) pages (length (now words)) ⌝ ∗ ⌜ Shadowed (now frames) pages (now shadow) ⌝ ∗ ⌜ Seated count i (queues (now tickets) (now waiting)) ⌝ }
+    ensures { λ r. ⌜ ((core p (now (regs .exit)), (r, host t (now (words .exit)) (now (shadow .exit)))), queues (now (tickets .exit)) (now (waiting .exit))) ≡ accessedAt (hostMemory (now (frames .entry)) pages) (desk count i) (core p (now (regs .entry))) e (host t (now (words .entry)) (now (shadow .entry))) (queues (now (tickets .entry)) (now (waiting .entry))) ⌝ }
 {
     let next = std::num::wrapping_add_u32(p.pc, 4);
     match e {
@@ -101,11 +115,8 @@ fn access(
             Change::Plain(3, reply.code, next)
         }
         Effect::Take => {
-            let reply = tickets::take(tickets, waiting, i);
-            if reply.code == 0 {
-                return Change::Ticket(reply.ticket);
-            }
-            Change::Plain(3, reply.code, next)
+            let code = receive(regs, i, tickets, waiting);
+            Change::Plain(3, code, next)
         }
     }
 }
@@ -124,7 +135,6 @@ fn retable(t: Table, shadow: &mut [u32], c: Change) -> Table
         }
         Change::Cause(_, _) => t,
         Change::Return => t,
-        Change::Ticket(_) => t,
     }
 }
 
@@ -150,6 +160,7 @@ pub fn step(
         p,
         t,
         pages,
+        regs,
         frames,
         shadow,
         words,

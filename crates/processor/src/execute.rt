@@ -234,13 +234,5 @@ pub fn settle(p: Processor, regs: &mut [u32], c: Change) -> Settled
             processor: return_from_exception(p),
             calls: false,
         },
-        Change::Ticket(v) => {
-            write(regs, 1, v);
-            write(regs, 3, 0);
-            Settled {
-                processor: go(p, std::num::wrapping_add_u32(p.pc, 4)),
-                calls: false,
-            }
-        }
     }
 }

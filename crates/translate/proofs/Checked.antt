@@ -8,12 +8,12 @@ use Rattle.dlx.specs.Instructions.{registerType, instructionOf}
 use Rattle.dlx.specs.Processor.{specialOf, withSpecial}
 use Rattle.dlx.specs.Interrupts.{levelOf, interrupted}
 use Rattle.dlx.specs.Execute.{written, valueOf, overflowsOf, operated, reached, loads, stores, movedTo, trapOf, effectOf}
-use Rattle.dlx.specs.Machine.{executed, fetched, loaded, stored, taken, accessed, settled, retabled, step, steps}
+use Rattle.dlx.specs.Machine.{executed, fetched, loaded, stored, accessed, received, handed, settled, retabled, step, steps}
 use Rattle.translate.specs.Entries.{judged, composed}
 use Rattle.translate.specs.Walk.{walked, direct}
 use Rattle.translate.specs.Memory.{hosted, given, filled, looked, served, hostRead, emptied, hostWritten, hostReads, hostWrites}
 use Rattle.translate.specs.Examples.{compositions, reads, writes, gives, faults, shadow, words, accesses, booted, stepped, once, user, interrupt, single, all}
 
 pub checked : all (compositions ++ (accesses ++ (stepped ++ single))) ≡ true
-unfolding all compositions accesses stepped single once user interrupt reads writes gives faults shadow words booted judged composed walked direct hosted given filled looked served hostRead emptied hostWritten hostReads hostWrites step steps fetched executed loaded stored taken accessed settled retabled instructionOf registerType effectOf written valueOf overflowsOf operated reached loads stores movedTo trapOf specialOf withSpecial interrupted levelOf trailingZeros extendedBy readIn holds
+unfolding all compositions accesses stepped single once user interrupt reads writes gives faults shadow words booted judged composed walked direct hosted given filled looked served hostRead emptied hostWritten hostReads hostWrites step steps fetched executed loaded stored accessed received handed settled retabled instructionOf registerType effectOf written valueOf overflowsOf operated reached loads stores movedTo trapOf specialOf withSpecial interrupted levelOf trailingZeros extendedBy readIn holds
 checked = refl

@@ -8,7 +8,7 @@ use Rattle.dlx.specs.Words.{aligned}
 use Rattle.dlx.specs.Machine.{Core, fetched, accessed, retabled, step}
 use Rattle.dlx.specs.declared.partition.Processor.{Processor}
 use Rattle.dlx.specs.declared.execute.Change.{Change}
-use Rattle.dlx.specs.declared.execute.Change.the-variants.{Plain, Special, Retable, Cause, Return, Ticket}
+use Rattle.dlx.specs.declared.execute.Change.the-variants.{Plain, Special, Retable, Cause, Return}
 use Rattle.dlx.specs.declared.execute.Effect.{Effect}
 use Rattle.dlx.specs.declared.execute.Effect.the-variants.{Done, Load, Store, Send, Take}
 use Rattle.dlx.specs.declared.execute.Reply.{Reply}
@@ -48,7 +48,6 @@ module _ (fr : List ℕ) (n size : ℕ) where
   retabled-whole (Retable t) h w = record { long = w .long; shadowed = fresh-shadowed }
   retabled-whole (Cause causes datum) h w = w
   retabled-whole Return h w = w
-  retabled-whole (Ticket v) h w = w
 
   pub step-whole : (y : Reply) (c : Core) (h : Host) → Whole fr n size h → Whole fr n size (step (hostMemory fr n) y (c, h) .1)
   unfolding step

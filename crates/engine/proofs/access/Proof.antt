@@ -1,6 +1,8 @@
-use Rattle.dlx.specs.Machine.{accessed, loaded, stored, taken, requestOf}
-use Rattle.tickets.specs.Queues.{desk}
-use borrow.Author.Tests.{eq-eqb, ne-eqb}
+use mathlib.Core.Path.{ap}
+use mathlib.Core.List.{List}
+use Prim.Native.Nat.{ℕ}
+use Rattle.dlx.specs.Machine.{accessed, loaded, stored, handed, requestOf}
+use Rattle.tickets.specs.Queues.{Queues, desk}
 use borrow.Author.Needs.{needs}
 use Rattle.engine.proofs.access.Statement.{statement}
 use Rattle.engine.proofs.access.Tie as tie
@@ -36,20 +38,24 @@ same-length-2 : tie.Need-same-length-2
 same-length-2 c = search needs
 
 returns : tie.Need-returns
-unfolding accessed stored loaded taken requestOf desk
+unfolding accessed stored loaded handed requestOf desk
 returns c = simp (c .before .before .before .before .before .before .before .before .before .before .e3 .given .1, ← c .before .before .before .before .before .store .ensures, c .if1 .taken, c .before .before .before .before .before .before .before .before .before .before .before .before .wrapping-add-u32 .ensures)
 
 enum-known-e-4 : tie.Need-enum-known-e-4
 enum-known-e-4 c = search needs
 
 send-requires : tie.Need-send-requires
-send-requires c κs = (c .before .before .before .before .before .before .before .before .before .before .before .pre .1 .1 .queued, c .before .before .before .before .before .before .before .before .before .before .before .pre .1 .1 .few)
+send-requires c κs = (c .before .before .before .before .before .before .before .before .before .before .before .before .pre .1 .1 .1 .queued, c .before .before .before .before .before .before .before .before .before .before .before .before .pre .1 .1 .1 .few)
 
 enum-told-2 : tie.Need-enum-told-2
 enum-told-2 c = search needs
 
-take-requires : tie.Need-take-requires
-take-requires c κs = (c .before .before .before .before .before .before .before .before .before .before .pre .1 .1 .queued, c .before .before .before .before .before .before .before .before .before .before .pre .1 .1 .small)
+receive-requires : tie.Need-receive-requires
+receive-requires c κs = (c .before .before .before .before .before .before .before .before .before .before .before .before .pre .0, (c .before .before .before .before .before .before .before .before .before .before .before .before .pre .1 .1 .1 .queued, c .before .before .before .before .before .before .before .before .before .before .before .before .pre .1 .1 .1 .small))
+
+returns-2 : tie.Need-returns-2
+unfolding accessed stored loaded handed requestOf desk
+returns-2 c = simp (c .before .e .given .1)
 
 same-length-3 : tie.Need-same-length-3
 same-length-3 c = search needs
@@ -57,13 +63,9 @@ same-length-3 c = search needs
 same-length-4 : tie.Need-same-length-4
 same-length-4 c = search needs
 
-returns-2 : tie.Need-returns-2
-unfolding accessed stored loaded taken requestOf desk
-returns-2 c = simp (c .before .before .before .before .before .before .before .before .before .enum-told2 .given .1, ← c .before .before .before .before .before .before .take .ensures, eq-eqb _ _ (c .if2 .taken), c .before .before .before .before .before .before .before .before .before .before .before .wrapping-add-u32 .ensures)
-
 returns-3 : tie.Need-returns-3
-unfolding accessed stored loaded taken requestOf desk
-returns-3 c = simp (c .before .e .given .1)
+unfolding accessed stored loaded handed requestOf desk
+returns-3 c = simp (c .before .before .before .before .before .before .before .before .before .e2 .given .1, ← c .before .before .before .before .load .ensures, c .enum-told .given .1)
 
 same-length-5 : tie.Need-same-length-5
 same-length-5 c = search needs
@@ -72,8 +74,8 @@ same-length-6 : tie.Need-same-length-6
 same-length-6 c = search needs
 
 returns-4 : tie.Need-returns-4
-unfolding accessed stored loaded taken requestOf desk
-returns-4 c = simp (c .before .before .before .before .before .before .before .before .before .e2 .given .1, ← c .before .before .before .before .load .ensures, c .enum-told .given .1)
+unfolding accessed stored loaded handed requestOf desk
+returns-4 c = simp (c .before .before .before .before .before .before .before .before .before .before .e2 .given .1, ← c .before .before .before .before .before .load .ensures, c .before .w .given .1, c .before .before .before .before .before .before .before .before .before .before .before .before .wrapping-add-u32 .ensures)
 
 same-length-7 : tie.Need-same-length-7
 same-length-7 c = search needs
@@ -82,8 +84,8 @@ same-length-8 : tie.Need-same-length-8
 same-length-8 c = search needs
 
 returns-5 : tie.Need-returns-5
-unfolding accessed stored loaded taken requestOf desk
-returns-5 c = simp (c .before .before .before .before .before .before .before .before .before .before .e2 .given .1, ← c .before .before .before .before .before .load .ensures, c .before .w .given .1, c .before .before .before .before .before .before .before .before .before .before .before .before .wrapping-add-u32 .ensures)
+unfolding accessed stored loaded handed requestOf desk
+returns-5 c = simp (c .before .before .before .before .before .before .before .before .before .before .e3 .given .1, ← c .before .before .before .before .before .store .ensures, c .if1 .left)
 
 same-length-9 : tie.Need-same-length-9
 same-length-9 c = search needs
@@ -92,8 +94,8 @@ same-length-10 : tie.Need-same-length-10
 same-length-10 c = search needs
 
 returns-6 : tie.Need-returns-6
-unfolding accessed stored loaded taken requestOf desk
-returns-6 c = simp (c .before .before .before .before .before .before .before .before .before .before .e3 .given .1, ← c .before .before .before .before .before .store .ensures, c .if1 .left)
+unfolding accessed stored loaded handed requestOf desk
+returns-6 c = simp (c .before .before .before .before .before .before .before .before .e4 .given .1, ← c .before .before .before .before .send .ensures, c .before .before .before .before .before .before .before .before .before .before .wrapping-add-u32 .ensures)
 
 same-length-11 : tie.Need-same-length-11
 same-length-11 c = search needs
@@ -101,19 +103,12 @@ same-length-11 c = search needs
 same-length-12 : tie.Need-same-length-12
 same-length-12 c = search needs
 
-returns-7 : tie.Need-returns-7
-unfolding accessed stored loaded taken requestOf desk
-returns-7 c = simp (c .before .before .before .before .before .before .before .before .e4 .given .1, ← c .before .before .before .before .send .ensures, c .before .before .before .before .before .before .before .before .before .before .wrapping-add-u32 .ensures)
-
 same-length-13 : tie.Need-same-length-13
 same-length-13 c = search needs
 
-same-length-14 : tie.Need-same-length-14
-same-length-14 c = search needs
-
-returns-8 : tie.Need-returns-8
-unfolding accessed stored loaded taken requestOf desk
-returns-8 c = simp (c .before .before .before .before .before .before .before .before .before .enum-told2 .given .1, ← c .before .before .before .before .before .before .take .ensures, ne-eqb _ _ (c .if2 .left), c .before .before .before .before .before .before .before .before .before .before .before .wrapping-add-u32 .ensures)
+returns-7 : tie.Need-returns-7
+unfolding accessed stored loaded handed requestOf desk
+returns-7 c = simp (c .before .before .before .before .before .before .before .before .before .before .enum-told2 .given .1, ap (λ (g : (List ℕ × ℕ) × Queues). g .0 .0) (c .before .before .before .before .before .before .receive .ensures), ap (λ (g : (List ℕ × ℕ) × Queues). g .0 .1) (c .before .before .before .before .before .before .receive .ensures), ap (λ (g : (List ℕ × ℕ) × Queues). g .1) (c .before .before .before .before .before .before .receive .ensures), c .before .before .before .before .before .before .before .before .before .before .before .before .wrapping-add-u32 .ensures)
 
 pub access-spec : {M : Type 1} → statement M
 access-spec =
@@ -133,10 +128,10 @@ access-spec =
     enum-known-e-4
     send-requires
     enum-told-2
-    take-requires
+    receive-requires
+    returns-2
     same-length-3
     same-length-4
-    returns-2
     returns-3
     same-length-5
     same-length-6
@@ -149,7 +144,5 @@ access-spec =
     returns-6
     same-length-11
     same-length-12
-    returns-7
     same-length-13
-    same-length-14
-    returns-8)
+    returns-7)

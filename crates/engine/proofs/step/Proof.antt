@@ -3,7 +3,6 @@ use Rattle.engine.proofs.Parts.{step-is, after-fetch, after-access}
 use mathlib.Core.Path.{refl}
 use native.Mathlib.Omega.{arith}
 use borrow.Author.Needs.{needs}
-use borrow.Author.Needs.{needs}
 use Rattle.engine.proofs.step.Statement.{statement}
 use Rattle.engine.proofs.step.Tie as tie
 
@@ -11,19 +10,19 @@ fetch-requires : tie.Need-fetch-requires
 fetch-requires c κs = search needs
 
 access-requires : tie.Need-access-requires
-access-requires c κs = let s = c .before .before .before .before .before .before .before .before .before .before .before .before .before .before .before .before in (s .pre .1 .0, (after-fetch _ _ _ (s .args .count) (s .args .i) _ _ _ _ (record { long = refl; shadowed = s .pre .1 .1 .0 }) (c .before .before .before .before .before .before .fetch .ensures) .0 .shadowed, s .pre .1 .1 .1))
+access-requires c κs = let s = c .before .before .before .before .before .before .before .before .before .before .before .before .before .before .before .before .before in (s .pre .0, (s .pre .1 .0, (after-fetch _ _ _ (s .args .count) (s .args .i) _ _ _ _ (record { long = refl; shadowed = s .pre .1 .1 .0 }) (c .before .before .before .before .before .before .before .fetch .ensures) .0 .shadowed, s .pre .1 .1 .1)))
 
 settle-requires : tie.Need-settle-requires
-settle-requires c κs = let s = c .before .before .before .before .before .before .before .before .before .before .before .before .before .before .before .before .before .before .before .before .before .before .before .before .before .before in (omega (arith, s .pre .0), after-access _ _ _ (s .args .count) (s .args .i) _ _ _ _ _ _ _ (after-fetch _ _ _ (s .args .count) (s .args .i) _ _ _ _ (record { long = refl; shadowed = s .pre .1 .1 .0 }) (c .before .before .before .before .before .before .before .before .before .before .before .before .before .before .before .before .fetch .ensures)) (c .before .before .before .before .before .before .before .before .before .access .ensures) .1)
+settle-requires c κs = let s = c .before .before .before .before .before .before .before .before .before .before .before .before .before .before .before .before .before .before .before .before .before .before .before .before .before .before .before .before .before in after-access _ _ _ (s .args .count) (s .args .i) _ _ _ _ _ _ _ _ (s .pre .0) (after-fetch _ _ _ (s .args .count) (s .args .i) _ _ _ _ (record { long = refl; shadowed = s .pre .1 .1 .0 }) (c .before .before .before .before .before .before .before .before .before .before .before .before .before .before .before .before .before .before .before .fetch .ensures)) (c .before .before .before .before .before .before .before .before .before .before .before .access .ensures)
 
 retable-requires : tie.Need-retable-requires
-retable-requires c κs = omega (arith, c .before .before .before .before .before .before .before .before .before .before .before .before .before .before .before .before .before .before .before .before .before .before .before .before .before .before .before .before .before .before .pre .1 .1 .0 .count)
+retable-requires c κs = omega (arith, c .before .before .before .before .before .before .before .before .before .before .before .before .before .before .before .before .before .before .before .before .before .before .before .before .before .before .before .before .before .before .before .before .before .pre .1 .1 .0 .count)
 
 same-length : tie.Need-same-length
 same-length c = search needs
 
 same-length-2 : tie.Need-same-length-2
-same-length-2 c = search needs
+same-length-2 c = search (needs, c .before .before .before .before .before .before .before .before .before .before .before .before .before .before .before .before .before .before .before .before .before .before .before .before .before .before .shadow, c .before .before .before .before .before .before .before .before .before .before .before .before .before .before .before .before .shadow2, c .before .before .shadow3)
 
 same-length-3 : tie.Need-same-length-3
 same-length-3 c = search needs
@@ -35,7 +34,7 @@ same-length-5 : tie.Need-same-length-5
 same-length-5 c = search needs
 
 returns : tie.Need-returns
-returns c = let s = c .before .before .before .before .before .before .before .before .before .before .before .before .before .before .before .before .before .before .before .before .before .before .before .before .before .before .before .before .before .before .before .before .before .before in step-is _ (desk (s .args .count) (s .args .i)) _ _ _ _ _ (queues (s .args .tickets .now) (s .args .waiting .now)) _ _ _ _ (c .before .before .before .before .before .before .before .before .before .before .before .before .before .before .before .before .before .before .before .before .before .before .before .before .fetch .ensures) (c .before .before .before .before .before .before .before .before .before .before .before .before .before .before .before .before .before .access .ensures) (c .before .before .before .before .before .before .before .settle .ensures) (c .before .before .before .retable .ensures _ _ _)
+returns c = let s = c .before .before .before .before .before .before .before .before .before .before .before .before .before .before .before .before .before .before .before .before .before .before .before .before .before .before .before .before .before .before .before .before .before .before .before .before .before in step-is _ (desk (s .args .count) (s .args .i)) _ _ _ _ _ _ (queues (s .args .tickets .now) (s .args .waiting .now)) _ _ _ _ (c .before .before .before .before .before .before .before .before .before .before .before .before .before .before .before .before .before .before .before .before .before .before .before .before .before .before .before .fetch .ensures) (c .before .before .before .before .before .before .before .before .before .before .before .before .before .before .before .before .before .before .before .access .ensures) (c .before .before .before .before .before .before .before .settle .ensures) (c .before .before .before .retable .ensures _ _ _)
 
 pub step-spec : {M : Type 1} → statement M
 step-spec =

@@ -54,21 +54,6 @@ enum-told-2 c = search needs
 return-from-exception-requires : tie.Need-return-from-exception-requires
 return-from-exception-requires c κs = search needs
 
-enum-known-c-4 : tie.Need-enum-known-c-4
-enum-known-c-4 c = search needs
-
-write-requires-2 : tie.Need-write-requires-2
-write-requires-2 c κs = search needs
-
-write-requires-3 : tie.Need-write-requires-3
-write-requires-3 c κs = search needs
-
-wrapping-add-u32-requires-3 : tie.Need-wrapping-add-u32-requires-3
-wrapping-add-u32-requires-3 c κs = search needs
-
-go-requires-4 : tie.Need-go-requires-4
-go-requires-4 c κs = search needs
-
 same-length : tie.Need-same-length
 same-length c = search needs
 
@@ -92,13 +77,6 @@ returns-6 : tie.Need-returns-6
 unfolding settled
 returns-6 c = simp (c .return-from-exception .ensures, (c .before .enum-told2 .given .1))
 
-same-length-2 : tie.Need-same-length-2
-same-length-2 c = search needs
-
-returns-7 : tie.Need-returns-7
-unfolding settled
-returns-7 c = simp (c .go4 .ensures, c .before .wrapping-add-u323 .ensures, c .before .before .before .before .write3 .ensures, c .before .before .before .before .before .before .before .before .write2 .ensures, (c .before .before .before .before .before .before .before .before .before .before .before .c4 .given .1))
-
 pub settle-spec : {M : Type 1} → statement M
 settle-spec =
     tie.close
@@ -119,16 +97,9 @@ settle-spec =
     returns
     enum-told-2
     return-from-exception-requires
-    enum-known-c-4
-    write-requires-2
-    write-requires-3
-    wrapping-add-u32-requires-3
-    go-requires-4
     same-length
     returns-2
     returns-3
     returns-4
     returns-5
-    returns-6
-    same-length-2
-    returns-7)
+    returns-6)
