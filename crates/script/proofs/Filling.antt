@@ -10,7 +10,7 @@ use lib.ListN.{length, getD}
 use lib.ListN.{set}
 use lib.Seq.{ext-getD}
 use Rattle.dlx.specs.Choice.{if_then_else_}
-use Rattle.translate.proofs.Tests.{by-test}
+use Rattle.dlx.proofs.Tests.{by-test}
 use Rattle.house.specs.Lists.{listFrom}
 use Rattle.house.proofs.Searches.{length-listFrom, getD-listFrom, listFrom-same, set-listFrom}
 

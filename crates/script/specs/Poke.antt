@@ -8,8 +8,10 @@ use Rattle.dlx.specs.Choice.{if_then_else_}
 use Rattle.dlx.specs.declared.partition.Partition.{Partition}
 use Rattle.dlx.specs.declared.partition.Processor.{Processor}
 use Rattle.dlx.specs.declared.partition.Table.{Table}
+use Rattle.tickets.specs.Queues.{Queues, queues}
 use Rattle.house.specs.declared.House.{House}
 use Rattle.house.specs.House.{partition}
+use Rattle.house.specs.Tickets.{queuesOf, withQueues}
 
 -- ---- a partition
 
@@ -65,77 +67,47 @@ ownPoked h k v = record {
   regs = h .regs;
   frames = h .frames;
   shadows = h .shadows;
+  tickets = h .tickets;
+  waiting = h .waiting;
+}
+
+-- the house with other lists, and its own numbers as they were
+abbrev pub withLists : House → List Bool → List Partition → List ℕ → List ℕ → List ℕ → Queues → House
+withLists h running parts regs frames shadows t = record {
+  count = h .count;
+  q = h .q;
+  words = h .words;
+  current = h .current;
+  left = h .left;
+  running = running;
+  parts = parts;
+  regs = regs;
+  frames = frames;
+  shadows = shadows;
+  tickets = t .tickets;
+  waiting = t .waiting;
 }
 
 abbrev pub withRunning : House → List Bool → House
-withRunning h v = record {
-  count = h .count;
-  q = h .q;
-  words = h .words;
-  current = h .current;
-  left = h .left;
-  running = v;
-  parts = h .parts;
-  regs = h .regs;
-  frames = h .frames;
-  shadows = h .shadows;
-}
+withRunning h v = withLists h v (h .parts) (h .regs) (h .frames) (h .shadows) (queuesOf h)
 
 abbrev pub withParts : House → List Partition → House
-withParts h v = record {
-  count = h .count;
-  q = h .q;
-  words = h .words;
-  current = h .current;
-  left = h .left;
-  running = h .running;
-  parts = v;
-  regs = h .regs;
-  frames = h .frames;
-  shadows = h .shadows;
-}
+withParts h v = withLists h (h .running) v (h .regs) (h .frames) (h .shadows) (queuesOf h)
 
 abbrev pub withRegisters : House → List ℕ → House
-withRegisters h v = record {
-  count = h .count;
-  q = h .q;
-  words = h .words;
-  current = h .current;
-  left = h .left;
-  running = h .running;
-  parts = h .parts;
-  regs = v;
-  frames = h .frames;
-  shadows = h .shadows;
-}
+withRegisters h v = withLists h (h .running) (h .parts) v (h .frames) (h .shadows) (queuesOf h)
 
 abbrev pub withFrames : House → List ℕ → House
-withFrames h v = record {
-  count = h .count;
-  q = h .q;
-  words = h .words;
-  current = h .current;
-  left = h .left;
-  running = h .running;
-  parts = h .parts;
-  regs = h .regs;
-  frames = v;
-  shadows = h .shadows;
-}
+withFrames h v = withLists h (h .running) (h .parts) (h .regs) v (h .shadows) (queuesOf h)
 
 abbrev pub withShadows : House → List ℕ → House
-withShadows h v = record {
-  count = h .count;
-  q = h .q;
-  words = h .words;
-  current = h .current;
-  left = h .left;
-  running = h .running;
-  parts = h .parts;
-  regs = h .regs;
-  frames = h .frames;
-  shadows = v;
-}
+withShadows h v = withLists h (h .running) (h .parts) (h .regs) (h .frames) v (queuesOf h)
+
+abbrev pub withTickets : House → List ℕ → House
+withTickets h v = withQueues h (queues v (h .waiting))
+
+abbrev pub withWaiting : House → List ℕ → House
+withWaiting h v = withQueues h (queues (h .tickets) v)
 
 unfoldable pub poked : House → ℕ → ℕ → House
 poked h i v =
@@ -145,4 +117,6 @@ poked h i v =
     else if ltb i 389 then withRegisters h (set (h .regs) (i - 133) v)
     else if ltb i 2437 then withFrames h (set (h .frames) (i - 389) v)
     else if ltb i 4485 then withShadows h (set (h .shadows) (i - 2437) v)
+    else if ltb i 4741 then withTickets h (set (h .tickets) (i - 4485) v)
+    else if ltb i 4749 then withWaiting h (set (h .waiting) (i - 4741) v)
     else h

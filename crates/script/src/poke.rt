@@ -144,5 +144,17 @@ pub fn poke(h: House, index: u32, v: u32) -> House
         r.shadows = shadows;
         return r;
     }
+    if index < 4741 {
+        let mut tickets = h.tickets;
+        tickets[wide(index - 4485)] = v;
+        r.tickets = tickets;
+        return r;
+    }
+    if index < 4749 {
+        let mut waiting = h.waiting;
+        waiting[wide(index - 4741)] = v;
+        r.waiting = waiting;
+        return r;
+    }
     r
 }

@@ -82,9 +82,35 @@ returns-6 : tie.Need-returns-6
 unfolding poked
 returns-6 c = simp (c .wide5 .ensures, lt-ltb _ _ (c .before .before .if6 .taken), lt-leb _ _ (c .before .before .if6 .taken), le-leb _ _ (c .before .before .before .if5 .left), le-ltb _ _ (c .before .before .before .if5 .left), le-leb _ _ (c .before .before .before .before .if4 .left), le-ltb _ _ (c .before .before .before .before .if4 .left), le-leb _ _ (c .before .before .before .before .before .if3 .left), le-ltb _ _ (c .before .before .before .before .before .if3 .left), le-leb _ _ (c .before .before .before .before .before .before .if2 .left), le-ltb _ _ (c .before .before .before .before .before .before .if2 .left), le-leb _ _ (c .before .before .before .before .before .before .before .if1 .left), le-ltb _ _ (c .before .before .before .before .before .before .before .if1 .left))
 
+wide-requires-6 : tie.Need-wide-requires-6
+wide-requires-6 c κs = search needs
+
+mul-tickets : tie.Need-mul-tickets
+mul-tickets c = search needs
+
+array-write-tickets : tie.Need-array-write-tickets
+array-write-tickets c = search needs
+
 returns-7 : tie.Need-returns-7
 unfolding poked
-returns-7 c = simp (le-leb _ _ (c .if6 .left), le-ltb _ _ (c .if6 .left), le-leb _ _ (c .before .if5 .left), le-ltb _ _ (c .before .if5 .left), le-leb _ _ (c .before .before .if4 .left), le-ltb _ _ (c .before .before .if4 .left), le-leb _ _ (c .before .before .before .if3 .left), le-ltb _ _ (c .before .before .before .if3 .left), le-leb _ _ (c .before .before .before .before .if2 .left), le-ltb _ _ (c .before .before .before .before .if2 .left), le-leb _ _ (c .before .before .before .before .before .if1 .left), le-ltb _ _ (c .before .before .before .before .before .if1 .left))
+returns-7 c = simp (c .wide6 .ensures, lt-ltb _ _ (c .before .before .if7 .taken), lt-leb _ _ (c .before .before .if7 .taken), le-leb _ _ (c .before .before .before .if6 .left), le-ltb _ _ (c .before .before .before .if6 .left), le-leb _ _ (c .before .before .before .before .if5 .left), le-ltb _ _ (c .before .before .before .before .if5 .left), le-leb _ _ (c .before .before .before .before .before .if4 .left), le-ltb _ _ (c .before .before .before .before .before .if4 .left), le-leb _ _ (c .before .before .before .before .before .before .if3 .left), le-ltb _ _ (c .before .before .before .before .before .before .if3 .left), le-leb _ _ (c .before .before .before .before .before .before .before .if2 .left), le-ltb _ _ (c .before .before .before .before .before .before .before .if2 .left), le-leb _ _ (c .before .before .before .before .before .before .before .before .if1 .left), le-ltb _ _ (c .before .before .before .before .before .before .before .before .if1 .left))
+
+wide-requires-7 : tie.Need-wide-requires-7
+wide-requires-7 c κs = search needs
+
+mul-waiting : tie.Need-mul-waiting
+mul-waiting c = search needs
+
+array-write-waiting : tie.Need-array-write-waiting
+array-write-waiting c = search needs
+
+returns-8 : tie.Need-returns-8
+unfolding poked
+returns-8 c = simp (c .wide7 .ensures, lt-ltb _ _ (c .before .before .if8 .taken), lt-leb _ _ (c .before .before .if8 .taken), le-leb _ _ (c .before .before .before .if7 .left), le-ltb _ _ (c .before .before .before .if7 .left), le-leb _ _ (c .before .before .before .before .if6 .left), le-ltb _ _ (c .before .before .before .before .if6 .left), le-leb _ _ (c .before .before .before .before .before .if5 .left), le-ltb _ _ (c .before .before .before .before .before .if5 .left), le-leb _ _ (c .before .before .before .before .before .before .if4 .left), le-ltb _ _ (c .before .before .before .before .before .before .if4 .left), le-leb _ _ (c .before .before .before .before .before .before .before .if3 .left), le-ltb _ _ (c .before .before .before .before .before .before .before .if3 .left), le-leb _ _ (c .before .before .before .before .before .before .before .before .if2 .left), le-ltb _ _ (c .before .before .before .before .before .before .before .before .if2 .left), le-leb _ _ (c .before .before .before .before .before .before .before .before .before .if1 .left), le-ltb _ _ (c .before .before .before .before .before .before .before .before .before .if1 .left))
+
+returns-9 : tie.Need-returns-9
+unfolding poked
+returns-9 c = simp (le-leb _ _ (c .if8 .left), le-ltb _ _ (c .if8 .left), le-leb _ _ (c .before .if7 .left), le-ltb _ _ (c .before .if7 .left), le-leb _ _ (c .before .before .if6 .left), le-ltb _ _ (c .before .before .if6 .left), le-leb _ _ (c .before .before .before .if5 .left), le-ltb _ _ (c .before .before .before .if5 .left), le-leb _ _ (c .before .before .before .before .if4 .left), le-ltb _ _ (c .before .before .before .before .if4 .left), le-leb _ _ (c .before .before .before .before .before .if3 .left), le-ltb _ _ (c .before .before .before .before .before .if3 .left), le-leb _ _ (c .before .before .before .before .before .before .if2 .left), le-ltb _ _ (c .before .before .before .before .before .before .if2 .left), le-leb _ _ (c .before .before .before .before .before .before .before .if1 .left), le-ltb _ _ (c .before .before .before .before .before .before .before .if1 .left))
 
 pub poke-spec : {M : Type 1} → statement M
 poke-spec =
@@ -114,4 +140,12 @@ poke-spec =
     mul-shadows
     array-write-shadows
     returns-6
-    returns-7)
+    wide-requires-6
+    mul-tickets
+    array-write-tickets
+    returns-7
+    wide-requires-7
+    mul-waiting
+    array-write-waiting
+    returns-8
+    returns-9)
