@@ -1,12 +1,13 @@
 -- Laws of the search for the last word that is not 0.
-use mathlib.Core.Path.{_≡_, refl, sym, _∙_}
+use mathlib.Core.Path.{_≡_}
 use mathlib.Core.List.{List}
 use Prim.Native.Nat.{ℕ, zero, suc, _-_, _<_, _≤_}
 use native.Mathlib.Numerals.{sub-one}
 use native.Mathlib.Omega.{arith}
 use borrow.Author.Tests.{eq-eqb, ne-eqb}
 use lib.Dec.{eqb}
-use lib.ListN.{length, getD}
+use lib.ListN.{length, getD, take}
+use lib.Seq.{length-take-le}
 use Rattle.dlx.proofs.Kept.{either}
 use Rattle.text.specs.Partitions.{listedTo, listedOf}
 
@@ -26,11 +27,19 @@ listed-none s zero e l = e
 listed-none s (suc n) e l = absurd (omega arith)
 
 -- there are no more than there are words
-listed-most : (s : List ℕ) (n : ℕ) → listedTo s n ≤ n
+listed-below : (s : List ℕ) (n : ℕ) → listedTo s n ≤ n
 unfolding listedTo
-listed-most s zero = omega arith
-listed-most s (suc n) = either (λ x. x ≤ suc n) (eqb (getD s n 0) 0) (λ _. omega (arith, listed-most s n)) (λ _. omega arith)
+listed-below s zero = omega arith
+listed-below s (suc n) = either (λ x. x ≤ suc n) (eqb (getD s n 0) 0) (λ _. omega (arith, listed-below s n)) (λ _. omega arith)
 
 pub listed-within : (s : List ℕ) → listedOf s ≤ length s
 unfolding listedOf
-listed-within s = listed-most s (length s)
+listed-within s = listed-below s (length s)
+
+-- the words up to it, as they are lent: so many, and no more than there are
+module _ (s : List ℕ) {n : ℕ} (e : n ≡ listedOf s) where
+  pub listed-length : length (take n s) ≡ n
+  listed-length = length-take-le n s (omega (arith, e, listed-within s))
+
+  pub listed-most : length (take n s) ≤ length s
+  listed-most = omega (arith, listed-length, e, listed-within s)

@@ -4,3 +4,4 @@ pub mod Lines
 pub mod Numbers
 pub mod Partitions
 pub mod Puts
+pub mod Queues

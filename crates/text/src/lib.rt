@@ -4,3 +4,4 @@ pub mod digest;
 pub mod lines;
 pub mod numbers;
 pub mod partitions;
+pub mod queues;

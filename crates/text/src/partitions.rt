@@ -35,7 +35,7 @@ fn specials(p: Processor, t: Table) -> [u32; 12]
 }
 
 // All of them are 0.
-fn zeros(words: &[u32]) -> bool
+pub(crate) fn zeros(words: &[u32]) -> bool
     ensures { λ r. ⌜ r ≡ zerosOf (now (words .entry)) ⌝ }
 {
     let mut i = 0;
@@ -49,7 +49,7 @@ fn zeros(words: &[u32]) -> bool
 }
 
 // How many words there are up to the last that is not 0.
-fn listed(words: &[u32]) -> usize
+pub(crate) fn listed(words: &[u32]) -> usize
     ensures { λ r. ⌜ r ≡ listedOf (now (words .entry)) ⌝ }
 {
     let mut n = words.len();

@@ -1,10 +1,8 @@
-use mathlib.Core.Path.{_≡_, refl, sym, ap, _∙_}
+use mathlib.Core.Path.{sym, _∙_}
 use native.Mathlib.Omega.{arith}
-use lib.ListN.{length, take}
-use lib.Seq.{length-take-le}
-use Rattle.text.specs.Partitions.{listedOf, partitionOf}
+use Rattle.text.specs.Partitions.{partitionOf}
 use Rattle.text.proofs.Appending.{_then_, nothing, roomy}
-use Rattle.text.proofs.Listed.{listed-within}
+use Rattle.text.proofs.Listed.{listed-length, listed-most}
 use borrow.Author.Needs.{needs}
 use Rattle.text.proofs.partitions.partition.Statement.{statement}
 use Rattle.text.proofs.partitions.partition.Tie as tie
@@ -32,19 +30,13 @@ slice-aggregate-row-2 : tie.Need-slice-aggregate-row-2
 slice-aggregate-row-2 c = search needs
 
 slice-aggregate-row-3 : tie.Need-slice-aggregate-row-3
-slice-aggregate-row-3 c = sym (length-take-le (c .before .before .before .before .before .before .before .before .before .before .before .before .listed .result) (c .before .before .before .before .before .before .before .before .before .before .before .before .before .before .before .before .before .before .before .args .frames .now) (omega (arith, c .before .before .before .before .before .before .before .before .before .before .before .before .listed .ensures, listed-within (c .before .before .before .before .before .before .before .before .before .before .before .before .before .before .before .before .before .before .before .args .frames .now))))
+slice-aggregate-row-3 c = sym (listed-length (c .before .before .before .before .before .before .before .before .before .before .before .before .before .before .before .before .before .before .before .args .frames .now) (c .before .before .before .before .before .before .before .before .before .before .before .before .listed .ensures))
 
 row-requires-2 : tie.Need-row-requires-2
-row-requires-2 c κs =
-    let l = listed-within (c .before .before .before .before .before .before .before .before .before .before .before .before .before .before .before .before .before .before .before .args .frames .now) in
-    let n : length (take (c .before .before .before .before .before .before .before .before .before .before .before .before .listed .result) (c .before .before .before .before .before .before .before .before .before .before .before .before .before .before .before .before .before .before .before .args .frames .now)) ≡ c .before .before .before .before .before .before .before .before .before .before .before .before .listed .result = length-take-le _ _ (omega (arith, c .before .before .before .before .before .before .before .before .before .before .before .before .listed .ensures, l)) in
-    omega (arith, c .before .before .before .before .before .before .before .before .before .before .before .before .listed .ensures, l)
+row-requires-2 c κs = omega (arith, listed-most (c .before .before .before .before .before .before .before .before .before .before .before .before .before .before .before .before .before .before .before .args .frames .now) (c .before .before .before .before .before .before .before .before .before .before .before .before .listed .ensures))
 
 shadow-requires : tie.Need-shadow-requires
-shadow-requires c κs =
-    let l = listed-within (c .before .before .before .before .before .before .before .before .before .before .before .before .before .before .before .before .before .before .before .before .before .before .before .args .frames .now) in
-    let n : length (take (c .before .before .before .before .before .before .before .before .before .before .before .before .before .before .before .before .listed .result) (c .before .before .before .before .before .before .before .before .before .before .before .before .before .before .before .before .before .before .before .before .before .before .before .args .frames .now)) ≡ c .before .before .before .before .before .before .before .before .before .before .before .before .before .before .before .before .listed .result = length-take-le _ _ (omega (arith, c .before .before .before .before .before .before .before .before .before .before .before .before .before .before .before .before .listed .ensures, l)) in
-    omega (arith, c .before .before .before .before .before .before .before .before .before .before .before .before .before .before .before .before .before .before .before .before .before .before .before .pre, c .before .before .before .before .before .before .before .before .before .before .before .before .before .before .before .before .listed .ensures, l)
+shadow-requires c κs = omega (arith, c .before .before .before .before .before .before .before .before .before .before .before .before .before .before .before .before .before .before .before .before .before .before .before .pre, listed-most (c .before .before .before .before .before .before .before .before .before .before .before .before .before .before .before .before .before .before .before .before .before .before .before .args .frames .now) (c .before .before .before .before .before .before .before .before .before .before .before .before .before .before .before .before .listed .ensures))
 
 same-length : tie.Need-same-length
 same-length c = search needs
@@ -52,9 +44,9 @@ same-length c = search needs
 returns-2 : tie.Need-returns-2
 unfolding partitionOf
 returns-2 c =
-    let l = listed-within (c .before .before .before .before .before .before .before .before .before .before .before .before .before .before .before .before .before .before .before .before .before .before .before .before .before .before .args .frames .now) in
-    let n : length (take (c .before .before .before .before .before .before .before .before .before .before .before .before .before .before .before .before .before .before .before .listed .result) (c .before .before .before .before .before .before .before .before .before .before .before .before .before .before .before .before .before .before .before .before .before .before .before .before .before .before .args .frames .now)) ≡ c .before .before .before .before .before .before .before .before .before .before .before .before .before .before .before .before .before .before .before .listed .result = length-take-le _ _ (omega (arith, c .before .before .before .before .before .before .before .before .before .before .before .before .before .before .before .before .before .before .before .listed .ensures, l)) in
-    rw (sym (c .before .before .before .before .before .before .before .before .before .before .before .before .before .before .before .before .before .before .before .before .before .blank .ensures) ∙ c .before .before .before .before .before .before .before .before .before .before .before .before .before .before .before .before .before .before .before .before .if1 .left, ← c .before .before .before .before .before .before .before .before .before .before .before .before .before .before .before .before .before .before .before .listed .ensures) (roomy 17149 (c .before .before .before .before .before .before .before .before .before .before .before .before .before .before .before .before .before .own .ensures then c .before .before .before .before .before .before .before .before .before .before .before .before .row .ensures then c .before .before .before .before .before .before .row2 .ensures then c .before .before .shadow .ensures) (omega (arith, c .before .before .before .before .before .before .before .before .before .before .before .before .before .before .before .before .before .before .before .before .before .before .before .before .before .before .pre, c .before .before .before .before .before .before .before .before .before .before .before .before .before .before .before .before .before .before .before .listed .ensures, l)))
+    rw (sym (c .before .before .before .before .before .before .before .before .before .before .before .before .before .before .before .before .before .before .before .before .before .blank .ensures) ∙ c .before .before .before .before .before .before .before .before .before .before .before .before .before .before .before .before .before .before .before .before .if1 .left, ← c .before .before .before .before .before .before .before .before .before .before .before .before .before .before .before .before .before .before .before .listed .ensures)
+    (roomy 17149 (c .before .before .before .before .before .before .before .before .before .before .before .before .before .before .before .before .before .own .ensures then c .before .before .before .before .before .before .before .before .before .before .before .before .row .ensures then c .before .before .before .before .before .before .row2 .ensures then c .before .before .shadow .ensures)
+    (omega (arith, c .before .before .before .before .before .before .before .before .before .before .before .before .before .before .before .before .before .before .before .before .before .before .before .before .before .before .pre, listed-most (c .before .before .before .before .before .before .before .before .before .before .before .before .before .before .before .before .before .before .before .before .before .before .before .before .before .before .args .frames .now) (c .before .before .before .before .before .before .before .before .before .before .before .before .before .before .before .before .before .before .before .listed .ensures))))
 
 pub partition-spec : {M : Type 1} → statement M
 partition-spec =
