@@ -1,5 +1,5 @@
 use Rattle.script.specs.Poke.{poked}
-use borrow.Author.Tests.{lt-ltb, le-ltb, lt-leb, le-leb, eq-eqb, ne-eqb}
+use borrow.Author.Tests.{lt-ltb, le-ltb}
 use borrow.Author.Needs.{needs}
 use Rattle.script.proofs.poke.poke.Statement.{statement}
 use Rattle.script.proofs.poke.poke.Tie as tie
@@ -9,7 +9,7 @@ own-requires c κs = search needs
 
 returns : tie.Need-returns
 unfolding poked
-returns c = simp (c .own .ensures, lt-ltb _ _ (c .before .if1 .taken), lt-leb _ _ (c .before .if1 .taken))
+returns c = simp (c .own .ensures, lt-ltb _ _ (c .before .if1 .taken))
 
 wide-requires : tie.Need-wide-requires
 wide-requires c κs = search needs
@@ -19,7 +19,7 @@ array-write-running c = search needs
 
 returns-2 : tie.Need-returns-2
 unfolding poked
-returns-2 c = simp (c .wide .ensures, lt-ltb _ _ (c .before .before .if2 .taken), lt-leb _ _ (c .before .before .if2 .taken), le-leb _ _ (c .before .before .before .if1 .left), le-ltb _ _ (c .before .before .before .if1 .left))
+returns-2 c = simp (c .wide .ensures, lt-ltb _ _ (c .before .before .if2 .taken), le-ltb _ _ (c .before .before .before .if1 .left))
 
 wide-requires-2 : tie.Need-wide-requires-2
 wide-requires-2 c κs = search needs
@@ -41,7 +41,7 @@ array-set-from-parts c = search needs
 
 returns-3 : tie.Need-returns-3
 unfolding poked
-returns-3 c = simp (c .scalar .ensures, c .before .before .wide2 .ensures, lt-ltb _ _ (c .before .before .before .before .if3 .taken), lt-leb _ _ (c .before .before .before .before .if3 .taken), le-leb _ _ (c .before .before .before .before .before .if2 .left), le-ltb _ _ (c .before .before .before .before .before .if2 .left), le-leb _ _ (c .before .before .before .before .before .before .if1 .left), le-ltb _ _ (c .before .before .before .before .before .before .if1 .left))
+returns-3 c = simp (c .scalar .ensures, c .before .before .wide2 .ensures, lt-ltb _ _ (c .before .before .before .before .if3 .taken), le-ltb _ _ (c .before .before .before .before .before .if2 .left), le-ltb _ _ (c .before .before .before .before .before .before .if1 .left))
 
 wide-requires-3 : tie.Need-wide-requires-3
 wide-requires-3 c κs = search needs
@@ -54,7 +54,7 @@ array-write-regs c = search needs
 
 returns-4 : tie.Need-returns-4
 unfolding poked
-returns-4 c = simp (c .wide3 .ensures, lt-ltb _ _ (c .before .before .if4 .taken), lt-leb _ _ (c .before .before .if4 .taken), le-leb _ _ (c .before .before .before .if3 .left), le-ltb _ _ (c .before .before .before .if3 .left), le-leb _ _ (c .before .before .before .before .if2 .left), le-ltb _ _ (c .before .before .before .before .if2 .left), le-leb _ _ (c .before .before .before .before .before .if1 .left), le-ltb _ _ (c .before .before .before .before .before .if1 .left))
+returns-4 c = simp (c .wide3 .ensures, lt-ltb _ _ (c .before .before .if4 .taken), le-ltb _ _ (c .before .before .before .if3 .left), le-ltb _ _ (c .before .before .before .before .if2 .left), le-ltb _ _ (c .before .before .before .before .before .if1 .left))
 
 wide-requires-4 : tie.Need-wide-requires-4
 wide-requires-4 c κs = search needs
@@ -67,7 +67,7 @@ array-write-frames c = search needs
 
 returns-5 : tie.Need-returns-5
 unfolding poked
-returns-5 c = simp (c .wide4 .ensures, lt-ltb _ _ (c .before .before .if5 .taken), lt-leb _ _ (c .before .before .if5 .taken), le-leb _ _ (c .before .before .before .if4 .left), le-ltb _ _ (c .before .before .before .if4 .left), le-leb _ _ (c .before .before .before .before .if3 .left), le-ltb _ _ (c .before .before .before .before .if3 .left), le-leb _ _ (c .before .before .before .before .before .if2 .left), le-ltb _ _ (c .before .before .before .before .before .if2 .left), le-leb _ _ (c .before .before .before .before .before .before .if1 .left), le-ltb _ _ (c .before .before .before .before .before .before .if1 .left))
+returns-5 c = simp (c .wide4 .ensures, lt-ltb _ _ (c .before .before .if5 .taken), le-ltb _ _ (c .before .before .before .if4 .left), le-ltb _ _ (c .before .before .before .before .if3 .left), le-ltb _ _ (c .before .before .before .before .before .if2 .left), le-ltb _ _ (c .before .before .before .before .before .before .if1 .left))
 
 wide-requires-5 : tie.Need-wide-requires-5
 wide-requires-5 c κs = search needs
@@ -80,7 +80,7 @@ array-write-shadows c = search needs
 
 returns-6 : tie.Need-returns-6
 unfolding poked
-returns-6 c = simp (c .wide5 .ensures, lt-ltb _ _ (c .before .before .if6 .taken), lt-leb _ _ (c .before .before .if6 .taken), le-leb _ _ (c .before .before .before .if5 .left), le-ltb _ _ (c .before .before .before .if5 .left), le-leb _ _ (c .before .before .before .before .if4 .left), le-ltb _ _ (c .before .before .before .before .if4 .left), le-leb _ _ (c .before .before .before .before .before .if3 .left), le-ltb _ _ (c .before .before .before .before .before .if3 .left), le-leb _ _ (c .before .before .before .before .before .before .if2 .left), le-ltb _ _ (c .before .before .before .before .before .before .if2 .left), le-leb _ _ (c .before .before .before .before .before .before .before .if1 .left), le-ltb _ _ (c .before .before .before .before .before .before .before .if1 .left))
+returns-6 c = simp (c .wide5 .ensures, lt-ltb _ _ (c .before .before .if6 .taken), le-ltb _ _ (c .before .before .before .if5 .left), le-ltb _ _ (c .before .before .before .before .if4 .left), le-ltb _ _ (c .before .before .before .before .before .if3 .left), le-ltb _ _ (c .before .before .before .before .before .before .if2 .left), le-ltb _ _ (c .before .before .before .before .before .before .before .if1 .left))
 
 wide-requires-6 : tie.Need-wide-requires-6
 wide-requires-6 c κs = search needs
@@ -93,7 +93,7 @@ array-write-tickets c = search needs
 
 returns-7 : tie.Need-returns-7
 unfolding poked
-returns-7 c = simp (c .wide6 .ensures, lt-ltb _ _ (c .before .before .if7 .taken), lt-leb _ _ (c .before .before .if7 .taken), le-leb _ _ (c .before .before .before .if6 .left), le-ltb _ _ (c .before .before .before .if6 .left), le-leb _ _ (c .before .before .before .before .if5 .left), le-ltb _ _ (c .before .before .before .before .if5 .left), le-leb _ _ (c .before .before .before .before .before .if4 .left), le-ltb _ _ (c .before .before .before .before .before .if4 .left), le-leb _ _ (c .before .before .before .before .before .before .if3 .left), le-ltb _ _ (c .before .before .before .before .before .before .if3 .left), le-leb _ _ (c .before .before .before .before .before .before .before .if2 .left), le-ltb _ _ (c .before .before .before .before .before .before .before .if2 .left), le-leb _ _ (c .before .before .before .before .before .before .before .before .if1 .left), le-ltb _ _ (c .before .before .before .before .before .before .before .before .if1 .left))
+returns-7 c = simp (c .wide6 .ensures, lt-ltb _ _ (c .before .before .if7 .taken), le-ltb _ _ (c .before .before .before .if6 .left), le-ltb _ _ (c .before .before .before .before .if5 .left), le-ltb _ _ (c .before .before .before .before .before .if4 .left), le-ltb _ _ (c .before .before .before .before .before .before .if3 .left), le-ltb _ _ (c .before .before .before .before .before .before .before .if2 .left), le-ltb _ _ (c .before .before .before .before .before .before .before .before .if1 .left))
 
 wide-requires-7 : tie.Need-wide-requires-7
 wide-requires-7 c κs = search needs
@@ -106,11 +106,11 @@ array-write-waiting c = search needs
 
 returns-8 : tie.Need-returns-8
 unfolding poked
-returns-8 c = simp (c .wide7 .ensures, lt-ltb _ _ (c .before .before .if8 .taken), lt-leb _ _ (c .before .before .if8 .taken), le-leb _ _ (c .before .before .before .if7 .left), le-ltb _ _ (c .before .before .before .if7 .left), le-leb _ _ (c .before .before .before .before .if6 .left), le-ltb _ _ (c .before .before .before .before .if6 .left), le-leb _ _ (c .before .before .before .before .before .if5 .left), le-ltb _ _ (c .before .before .before .before .before .if5 .left), le-leb _ _ (c .before .before .before .before .before .before .if4 .left), le-ltb _ _ (c .before .before .before .before .before .before .if4 .left), le-leb _ _ (c .before .before .before .before .before .before .before .if3 .left), le-ltb _ _ (c .before .before .before .before .before .before .before .if3 .left), le-leb _ _ (c .before .before .before .before .before .before .before .before .if2 .left), le-ltb _ _ (c .before .before .before .before .before .before .before .before .if2 .left), le-leb _ _ (c .before .before .before .before .before .before .before .before .before .if1 .left), le-ltb _ _ (c .before .before .before .before .before .before .before .before .before .if1 .left))
+returns-8 c = simp (c .wide7 .ensures, lt-ltb _ _ (c .before .before .if8 .taken), le-ltb _ _ (c .before .before .before .if7 .left), le-ltb _ _ (c .before .before .before .before .if6 .left), le-ltb _ _ (c .before .before .before .before .before .if5 .left), le-ltb _ _ (c .before .before .before .before .before .before .if4 .left), le-ltb _ _ (c .before .before .before .before .before .before .before .if3 .left), le-ltb _ _ (c .before .before .before .before .before .before .before .before .if2 .left), le-ltb _ _ (c .before .before .before .before .before .before .before .before .before .if1 .left))
 
 returns-9 : tie.Need-returns-9
 unfolding poked
-returns-9 c = simp (le-leb _ _ (c .if8 .left), le-ltb _ _ (c .if8 .left), le-leb _ _ (c .before .if7 .left), le-ltb _ _ (c .before .if7 .left), le-leb _ _ (c .before .before .if6 .left), le-ltb _ _ (c .before .before .if6 .left), le-leb _ _ (c .before .before .before .if5 .left), le-ltb _ _ (c .before .before .before .if5 .left), le-leb _ _ (c .before .before .before .before .if4 .left), le-ltb _ _ (c .before .before .before .before .if4 .left), le-leb _ _ (c .before .before .before .before .before .if3 .left), le-ltb _ _ (c .before .before .before .before .before .if3 .left), le-leb _ _ (c .before .before .before .before .before .before .if2 .left), le-ltb _ _ (c .before .before .before .before .before .before .if2 .left), le-leb _ _ (c .before .before .before .before .before .before .before .if1 .left), le-ltb _ _ (c .before .before .before .before .before .before .before .if1 .left))
+returns-9 c = simp (le-ltb _ _ (c .if8 .left), le-ltb _ _ (c .before .if7 .left), le-ltb _ _ (c .before .before .if6 .left), le-ltb _ _ (c .before .before .before .if5 .left), le-ltb _ _ (c .before .before .before .before .if4 .left), le-ltb _ _ (c .before .before .before .before .before .if3 .left), le-ltb _ _ (c .before .before .before .before .before .before .if2 .left), le-ltb _ _ (c .before .before .before .before .before .before .before .if1 .left))
 
 pub poke-spec : {M : Type 1} → statement M
 poke-spec =
