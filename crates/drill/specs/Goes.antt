@@ -6,4 +6,4 @@ use Rattle.drill.specs.Fit.{Stands}
 pub record Goes (s : State) (bytes words : ℕ) : Type 0 where
   pub stands : Stands (s .reading) bytes (s .reading .lent)
   pub lent : s .reading .lent ≤ words
-  pub used : s .used ≤ 203308
+  pub used : s .used ≤ 209068

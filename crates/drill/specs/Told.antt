@@ -6,9 +6,11 @@ use Rattle.dlx.specs.Choice.{if_then_else_}
 use Rattle.house.specs.declared.House.{House}
 use Rattle.text.specs.Lines.{callOf, houseOf, memoryOf}
 use Rattle.text.specs.Partitions.{partitionsOf}
+use Rattle.text.specs.Queues.{queueLinesOf}
 
 unfoldable pub toldOf : ℕ → ℕ → ℕ → House → List ℕ → List ℕ
-toldOf op number detail h memory = callOf op number detail ++ (houseOf h ++ (partitionsOf h ++ memoryOf memory))
+toldOf op number detail h memory =
+    callOf op number detail ++ (houseOf h ++ (partitionsOf h ++ (queueLinesOf h ++ memoryOf memory)))
 
 -- how many words are shown of a read-out's output: those read, if the call was done and they are at most 8
 unfoldable pub shownOf : ℕ → ℕ → ℕ

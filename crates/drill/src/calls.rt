@@ -88,8 +88,8 @@ fn call(
     text: &mut [u8],
     used: usize,
 ) -> Done
-    requires { ⌜ (c .op ≡ 1 → Boots c (length (now more))) ⌝ ∗ ⌜ 16 ≤ length (now pages) ⌝ ∗ ⌜ 4096 ≤ length (now frames) ⌝ ∗ ⌜ used + 137576 ≤ length (now text) ⌝ }
-    ensures { λ r. ⌜ (world (r .house) (now (memory .exit)) ≡ calledOf c (now (more .entry)) h (now (memory .entry)) .world) × Puts (now (text .entry)) used (now (text .exit)) (r .used) (callTextOf c (now (more .entry)) h (now (memory .entry))) 137576 ⌝ }
+    requires { ⌜ (c .op ≡ 1 → Boots c (length (now more))) ⌝ ∗ ⌜ 16 ≤ length (now pages) ⌝ ∗ ⌜ 4096 ≤ length (now frames) ⌝ ∗ ⌜ used + 143336 ≤ length (now text) ⌝ }
+    ensures { λ r. ⌜ (world (r .house) (now (memory .exit)) ≡ calledOf c (now (more .entry)) h (now (memory .entry)) .world) × Puts (now (text .entry)) used (now (text .exit)) (r .used) (callTextOf c (now (more .entry)) h (now (memory .entry))) 143336 ⌝ }
 {
     let a = called(h, c, more, memory, pages, frames);
     let house = a.house;
@@ -107,8 +107,8 @@ fn read(
     text: &mut [u8],
     used: usize,
 ) -> Done
-    requires { ⌜ 8 ≤ length (now more) ⌝ ∗ ⌜ length (now output) ≤ 4096 ⌝ ∗ ⌜ used + 137772 ≤ length (now text) ⌝ }
-    ensures { λ r. ⌜ (r .house ≡ h) × Puts (now (text .entry)) used (now (text .exit)) (r .used) (readTextOf c (now (more .entry)) h (now (memory .entry)) (length (now (output .entry)))) 137772 ⌝ }
+    requires { ⌜ 8 ≤ length (now more) ⌝ ∗ ⌜ length (now output) ≤ 4096 ⌝ ∗ ⌜ used + 143532 ≤ length (now text) ⌝ }
+    ensures { λ r. ⌜ (r .house ≡ h) × Puts (now (text .entry)) used (now (text .exit)) (r .used) (readTextOf c (now (more .entry)) h (now (memory .entry)) (length (now (output .entry)))) 143532 ⌝ }
 {
     let a = read_out(h, c, more, memory, output);
     let house = a.house;
@@ -129,8 +129,8 @@ pub fn play(
     text: &mut [u8],
     used: usize,
 ) -> Played
-    requires { ⌜ Plays r (length (now input)) (length (now memory)) ⌝ ∗ ⌜ 16 ≤ length (now few) ⌝ ∗ ⌜ 4096 ≤ length (now many) ⌝ ∗ ⌜ used + 137772 ≤ length (now text) ⌝ }
-    ensures { λ p. ⌜ (record { house = p .house; memory = now (memory .exit); lent = p .lent } ≡ playedOf (r .command) (moreOf r (now (input .entry))) (record { house = h; memory = now (memory .entry); lent = r .lent })) × Puts (now (text .entry)) used (now (text .exit)) (p .used) (textOf (r .command) (moreOf r (now (input .entry))) (record { house = h; memory = now (memory .entry); lent = r .lent })) 137772 ⌝ }
+    requires { ⌜ Plays r (length (now input)) (length (now memory)) ⌝ ∗ ⌜ 16 ≤ length (now few) ⌝ ∗ ⌜ 4096 ≤ length (now many) ⌝ ∗ ⌜ used + 143532 ≤ length (now text) ⌝ }
+    ensures { λ p. ⌜ (record { house = p .house; memory = now (memory .exit); lent = p .lent } ≡ playedOf (r .command) (moreOf r (now (input .entry))) (record { house = h; memory = now (memory .entry); lent = r .lent })) × Puts (now (text .entry)) used (now (text .exit)) (p .used) (textOf (r .command) (moreOf r (now (input .entry))) (record { house = h; memory = now (memory .entry); lent = r .lent })) 143532 ⌝ }
 {
     let c = r.command;
     let lent = r.lent;

@@ -10,17 +10,19 @@ use libc::STDOUT_FILENO;
 use text::lines;
 use text::numbers;
 use text::partitions::partitions;
+use text::queues::queues;
 
 // The text of a call.
 pub fn call(text: &mut [u8], used: usize, op: u32, a: Answer, memory: &[u32]) -> usize
-    requires { ⌜ used + 137576 ≤ length (now text) ⌝ }
-    ensures { λ r. ⌜ Puts (now (text .entry)) used (now (text .exit)) r (toldOf op (a .number) (a .detail) (a .house) (now (memory .entry))) 137576 ⌝ }
+    requires { ⌜ used + 143336 ≤ length (now text) ⌝ }
+    ensures { λ r. ⌜ Puts (now (text .entry)) used (now (text .exit)) r (toldOf op (a .number) (a .detail) (a .house) (now (memory .entry))) 143336 ⌝ }
 {
     let house = a.house;
     let called = lines::call(text, used, op, a.number, a.detail);
     let housed = lines::house(text, called, house);
     let parted = partitions(text, housed, house);
-    lines::memory(text, parted, memory)
+    let queued = queues(text, parted, house);
+    lines::memory(text, queued, memory)
 }
 
 // How many words are shown of a read-out's output.

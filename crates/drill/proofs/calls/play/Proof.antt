@@ -20,7 +20,7 @@ poke-requires c κs = search needs
 
 returns : tie.Need-returns
 unfolding playedOf textOf
-returns c = (rw (eq-eqb _ _ (c .before .if1 .taken), c .poke .ensures), rw (eq-eqb _ _ (c .before .if1 .taken)) (roomy 137772 nothing (omega arith)))
+returns c = (rw (eq-eqb _ _ (c .before .if1 .taken), c .poke .ensures), rw (eq-eqb _ _ (c .before .if1 .taken)) (roomy 143532 nothing (omega arith)))
 
 fill-requires : tie.Need-fill-requires
 fill-requires c κs = search needs
@@ -36,7 +36,7 @@ unfolding playedOf textOf
 returns-2 c =
     let a = ne-eqb _ _ (c .before .before .before .before .before .before .before .if1 .left) in
     let b = eq-eqb _ _ (c .before .before .before .before .before .if2 .taken) in
-    (rw (a, b, c .none .ensures, c .before .before .before .fill .ensures), rw (a, b) (roomy 137772 nothing (omega arith)))
+    (rw (a, b, c .none .ensures, c .before .before .before .fill .ensures), rw (a, b) (roomy 143532 nothing (omega arith)))
 
 add-from : tie.Need-add-from
 add-from c = search needs
@@ -129,7 +129,7 @@ returns-4 c =
     let a = ne-eqb _ _ (c .before .before .before .before .before .before .before .before .before .before .before .before .before .before .before .before .before .before .before .before .before .before .if1 .left) in
     let b = ne-eqb _ _ (c .before .before .before .before .before .before .before .before .before .before .before .before .before .before .before .before .before .before .before .before .if2 .left) in
     let d = ne-eqb _ _ (c .before .before .before .before .before .before .before .before .before .before .before .before .before .before .before .if3 .left) in
-    (rw (a, b, d, ← c .before .before .before .before .before .before .before .before .before .call .ensures .0), rw (a, b, d) (roomy 137772 (c .before .before .before .before .before .before .before .before .before .call .ensures .1) (omega arith)))
+    (rw (a, b, d, ← c .before .before .before .before .before .before .before .before .before .call .ensures .0), rw (a, b, d) (roomy 143532 (c .before .before .before .before .before .before .before .before .before .call .ensures .1) (omega arith)))
 
 pub play-spec : {M : Type 1} → statement M
 play-spec =

@@ -31,7 +31,7 @@ returns : tie.Need-returns
 unfolding readTextOf
 returns c =
     let f = shown-few (c .before .before .before .before .before .before .before .before .before .before .before .before .before .read-out .result .number) (c .before .before .before .before .before .before .before .before .before .before .before .before .before .read-out .result .detail) in
-    (read-keeps _ _ _ _ _ _ _ _ _ (c .before .before .before .before .before .before .before .before .before .before .before .before .before .read-out .ensures), rw (← c .before .before .before .before .before .before .before .before .before .before .before .before .before .read-out .ensures, ← c .before .before .before .before .before .shown .ensures) (roomy 137772 (c .before .before .before .before .before .before .before .before .call .ensures then c .before .before .output2 .ensures) (omega (arith, f, c .before .before .before .before .before .shown .ensures))))
+    (read-keeps _ _ _ _ _ _ _ _ _ (c .before .before .before .before .before .before .before .before .before .before .before .before .before .read-out .ensures), rw (← c .before .before .before .before .before .before .before .before .before .before .before .before .before .read-out .ensures, ← c .before .before .before .before .before .shown .ensures) (roomy 143532 (c .before .before .before .before .before .before .before .before .call .ensures then c .before .before .output2 .ensures) (omega (arith, f, c .before .before .before .before .before .shown .ensures))))
 
 pub read-spec : {M : Type 1} → statement M
 read-spec =

@@ -13,6 +13,9 @@ house-requires c κs = search needs
 partitions-requires : tie.Need-partitions-requires
 partitions-requires c κs = search needs
 
+queues-requires : tie.Need-queues-requires
+queues-requires c κs = search needs
+
 memory-requires : tie.Need-memory-requires
 memory-requires c κs = search needs
 
@@ -21,9 +24,9 @@ same-length c = search needs
 
 returns : tie.Need-returns
 unfolding toldOf
-returns c = c .before .before .before .before .before .before .before .before .before .before .before .before .before .before .call .ensures then c .before .before .before .before .before .before .before .before .before .before .house2 .ensures then c .before .before .before .before .before .before .partitions .ensures then c .before .before .memory .ensures
+returns c = c .before .before .before .before .before .before .before .before .before .before .before .before .before .before .before .before .before .before .call .ensures then c .before .before .before .before .before .before .before .before .before .before .before .before .before .before .house2 .ensures then c .before .before .before .before .before .before .before .before .before .before .partitions .ensures then c .before .before .before .before .before .before .queues .ensures then c .before .before .memory .ensures
 
 pub call-spec : {M : Type 1} → statement M
 call-spec =
     tie.close
-    (tie.spec call-requires house-requires partitions-requires memory-requires same-length returns)
+    (tie.spec call-requires house-requires partitions-requires queues-requires memory-requires same-length returns)
