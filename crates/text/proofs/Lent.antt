@@ -4,8 +4,8 @@ use mathlib.Core.List.{List}
 use Prim.Native.Nat.{ℕ, _+_, _*_, _-_, _≤_}
 use native.Mathlib.Nat.{add-sub-cancel-left}
 use lib.ListN.{length, take, drop}
-use Rattle.tickets.specs.Parts.{inner}
-use Rattle.tickets.proofs.Parts.{inner-length}
+use Rattle.dlx.specs.Parts.{inner}
+use Rattle.dlx.proofs.Parts.{inner-length}
 
 pub lent-part : (i s : ℕ) (m : List ℕ) → take (i * s + s - i * s) (drop (i * s) m) ≡ inner (i * s) s m
 unfolding inner

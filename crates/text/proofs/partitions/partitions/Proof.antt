@@ -8,7 +8,7 @@ use Rattle.text.specs.Numbers.{joined}
 use Rattle.text.specs.Puts.{Puts}
 use native.Mathlib.Nat.{add-sub-cancel-left}
 use Rattle.house.specs.House.{noPartition}
-use Rattle.tickets.specs.Parts.{inner}
+use Rattle.dlx.specs.Parts.{inner}
 use Rattle.text.specs.Partitions.{partitionOf, partitionsOf}
 use Rattle.text.proofs.Appending.{parts-begin, parts-on, parts-end}
 use Rattle.text.proofs.partitions.partitions.Statement.{statement}

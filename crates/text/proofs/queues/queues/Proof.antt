@@ -3,7 +3,7 @@ use mathlib.Core.Path.{_≡_, refl}
 use native.Mathlib.Omega.{arith}
 use borrow.Author.Needs.{needs}
 use lib.ListN.{length, getD}
-use Rattle.tickets.specs.Parts.{inner}
+use Rattle.dlx.specs.Parts.{inner}
 use Rattle.text.specs.Numbers.{joined}
 use Rattle.text.specs.Puts.{Puts}
 use Rattle.text.specs.Queues.{queueLineOf, queueLinesOf}
