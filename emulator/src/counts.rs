@@ -5,7 +5,7 @@ use std::ops::AddAssign;
 
 use crate::dlx::Cause;
 
-/// Counts of steps, interrupts, shadow changes and answers.
+/// Counts of steps, interrupts, shadow changes, tickets and answers.
 #[derive(Clone, Debug, Default, PartialEq, Eq)]
 pub struct Counts {
     /// Guest steps, by MODE before the step.
@@ -22,6 +22,16 @@ pub struct Counts {
     pub emptied_by_special: u64,
     /// Valid shadow entries emptied by the call.
     pub emptied_by_call: u64,
+    /// Sends in system mode, by their answer (0 done, 1 full, 2 no such partition).
+    pub sends: [u64; 4],
+    /// Sends done to the sender itself.
+    pub sends_to_oneself: u64,
+    /// Sends done to a stopped partition.
+    pub sends_to_stopped: u64,
+    /// Takes in system mode, by their answer (0 done, 3 none waiting).
+    pub takes: [u64; 4],
+    /// Traps 256 and 257 in user mode.
+    pub user_tickets: u64,
     /// Answers, by house number.
     pub answers: [u64; 16],
 }
@@ -66,7 +76,17 @@ impl fmt::Display for Counts {
             f,
             "shadow entries emptied: by a store:{} by PTO or PTL:{} by the call:{}",
             self.emptied_by_store, self.emptied_by_special, self.emptied_by_call
-        )
+        )?;
+        let [sent, full, no_partition, _] = self.sends;
+        writeln!(f, "sends by answer: done:{sent} full:{full} no such partition:{no_partition}")?;
+        writeln!(
+            f,
+            "sends done to oneself:{} to a stopped partition:{}",
+            self.sends_to_oneself, self.sends_to_stopped
+        )?;
+        let [taken, .., none] = self.takes;
+        writeln!(f, "takes by answer: done:{taken} none waiting:{none}")?;
+        writeln!(f, "ticket traps in user mode: {}", self.user_tickets)
     }
 }
 
@@ -74,12 +94,17 @@ impl AddAssign<&Counts> for Counts {
     fn add_assign(&mut self, other: &Counts) {
         add_all(&mut self.steps, &other.steps);
         add_all(&mut self.interrupts, &other.interrupts);
+        add_all(&mut self.sends, &other.sends);
+        add_all(&mut self.takes, &other.takes);
         add_all(&mut self.answers, &other.answers);
         self.loops += other.loops;
         self.fills += other.fills;
         self.emptied_by_store += other.emptied_by_store;
         self.emptied_by_special += other.emptied_by_special;
         self.emptied_by_call += other.emptied_by_call;
+        self.sends_to_oneself += other.sends_to_oneself;
+        self.sends_to_stopped += other.sends_to_stopped;
+        self.user_tickets += other.user_tickets;
     }
 }
 

@@ -2,6 +2,7 @@
 
 use crate::counts::Counts;
 use crate::memory::{Access, Place, Space, Table};
+use crate::tickets::{number, Tickets, SEND, TAKE};
 
 /// Numbers of the special registers.
 pub mod special {
@@ -315,9 +316,14 @@ impl Guest {
     }
 
     /// One guest step; tells the interrupt's cause, if any. The counter is the host's matter.
-    pub fn step(&mut self, memory: &mut [u32], counts: &mut Counts) -> Option<Cause> {
+    pub fn step(
+        &mut self,
+        memory: &mut [u32],
+        tickets: &mut Tickets<'_>,
+        counts: &mut Counts,
+    ) -> Option<Cause> {
         counts.steps[usize::from(self.user())] += 1;
-        let interrupt = self.instruction(memory, counts).err()?;
+        let interrupt = self.instruction(memory, tickets, counts).err()?;
         counts.interrupts[interrupt.cause as usize] += 1;
         counts.loops += u64::from(self.dpc == 0 && !self.user());
         self.enter(interrupt);
@@ -325,12 +331,17 @@ impl Guest {
     }
 
     /// Fetches, decodes and executes; after an interrupt nothing remains but shadow fills.
-    fn instruction(&mut self, memory: &mut [u32], counts: &mut Counts) -> Result<(), Interrupt> {
+    fn instruction(
+        &mut self,
+        memory: &mut [u32],
+        tickets: &mut Tickets<'_>,
+        counts: &mut Counts,
+    ) -> Result<(), Interrupt> {
         let word = self.fetch(memory, counts)?;
         let instruction = decode(word)
             .filter(|instruction| !(self.user() && instruction.system_only()))
             .ok_or(Interrupt::plain(Cause::Ill))?;
-        self.execute(instruction, memory, counts)
+        self.execute(instruction, memory, tickets, counts)
     }
 
     fn fetch(&mut self, memory: &[u32], counts: &mut Counts) -> Result<u32, Interrupt> {
@@ -373,6 +384,7 @@ impl Guest {
         &mut self,
         instruction: Instruction,
         memory: &mut [u32],
+        tickets: &mut Tickets<'_>,
         counts: &mut Counts,
     ) -> Result<(), Interrupt> {
         let mut next = self.pc.wrapping_add(4);
@@ -403,7 +415,7 @@ impl Guest {
                     self.write(LINK, self.pc.wrapping_add(4));
                 }
             }
-            Instruction::Trap { imm } => return Err(Interrupt::with_data(Cause::Trap, imm)),
+            Instruction::Trap { imm } => self.trap(imm, tickets, counts)?,
             Instruction::Rfe => {
                 self.return_from_exception();
                 return Ok(());
@@ -427,6 +439,26 @@ impl Guest {
             return Err(Interrupt::plain(Cause::Ovf));
         }
         Ok(value)
+    }
+
+    /// In system mode 256 sends register 1 to the partition of register 2, and 257 takes the
+    /// oldest ticket into register 1; register 3 tells the answer. Any other trap interrupts.
+    fn trap(
+        &mut self,
+        imm: u32,
+        tickets: &mut Tickets<'_>,
+        counts: &mut Counts,
+    ) -> Result<(), Interrupt> {
+        let answer = match imm {
+            SEND if !self.user() => tickets.send(self.registers[1], self.registers[2], counts),
+            TAKE if !self.user() => tickets.take(counts).map(|ticket| self.registers[1] = ticket),
+            _ => {
+                counts.user_tickets += u64::from(imm == SEND || imm == TAKE);
+                return Err(Interrupt::with_data(Cause::Trap, imm));
+            }
+        };
+        self.registers[3] = number(answer);
+        Ok(())
     }
 
     fn jump_target(&self, target: Target) -> u32 {

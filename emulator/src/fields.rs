@@ -4,6 +4,7 @@ use crate::dlx::special;
 use crate::dlx::Guest;
 use crate::house::{House, PARTITIONS};
 use crate::memory::ENTRIES;
+use crate::tickets::PLACES;
 
 /// Scalars of a partition: pages, DPC, PC, ten specials, counter low and high.
 pub const SCALARS: u32 = 15;
@@ -17,8 +18,12 @@ pub const REGISTERS: u32 = PARTS + SCALARS * PARTITIONS as u32;
 pub const FRAMES: u32 = REGISTERS + 32 * PARTITIONS as u32;
 /// First index of the shadows, 256 entries for each partition.
 pub const SHADOWS: u32 = FRAMES + (ENTRIES * PARTITIONS) as u32;
+/// First index of the ticket queues, 32 places for each partition.
+pub const QUEUES: u32 = SHADOWS + (ENTRIES * PARTITIONS) as u32;
+/// First index of the numbers of waiting tickets, one for each partition.
+pub const WAITING: u32 = QUEUES + (PLACES * PARTITIONS) as u32;
 /// One more than the last index.
-pub const END: u32 = SHADOWS + (ENTRIES * PARTITIONS) as u32;
+pub const END: u32 = WAITING + PARTITIONS as u32;
 
 /// Index of the partition count.
 pub const COUNT: u32 = 0;
@@ -69,6 +74,11 @@ pub fn shadow(partition: u32, px: u32) -> u32 {
     SHADOWS + ENTRIES as u32 * partition + px
 }
 
+/// Index of a place of a partition's ticket queue.
+pub fn ticket(partition: u32, place: u32) -> u32 {
+    QUEUES + PLACES as u32 * partition + place
+}
+
 /// The number at an index, or none beyond the last.
 pub fn get(house: &House, index: u32) -> Option<u32> {
     let (part, place) = split(index);
@@ -82,7 +92,9 @@ pub fn get(house: &House, index: u32) -> Option<u32> {
         PARTS..REGISTERS => get_scalar(&house.guests[part], place as u32),
         REGISTERS..FRAMES => house.guests[part].registers[place],
         FRAMES..SHADOWS => house.guests[part].space.frames[place],
-        SHADOWS..END => house.guests[part].space.shadow[place],
+        SHADOWS..QUEUES => house.guests[part].space.shadow[place],
+        QUEUES..WAITING => house.queues[part].places[place],
+        WAITING..END => house.queues[place].waiting,
         _ => return None,
     })
 }
@@ -101,7 +113,9 @@ pub fn set(house: &mut House, index: u32, value: u32) {
         PARTS..REGISTERS => set_scalar(&mut house.guests[part], place as u32, value),
         REGISTERS..FRAMES => house.guests[part].registers[place] = value,
         FRAMES..SHADOWS => house.guests[part].space.frames[place] = value,
-        SHADOWS..END => house.guests[part].space.shadow[place] = value,
+        SHADOWS..QUEUES => house.guests[part].space.shadow[place] = value,
+        QUEUES..WAITING => house.queues[part].places[place] = value,
+        WAITING..END => house.queues[place].waiting = value,
         _ => {}
     }
 }
@@ -113,7 +127,9 @@ fn split(index: u32) -> (usize, usize) {
         PARTS..REGISTERS => (PARTS, SCALARS),
         REGISTERS..FRAMES => (REGISTERS, 32),
         FRAMES..SHADOWS => (FRAMES, ENTRIES as u32),
-        SHADOWS..END => (SHADOWS, ENTRIES as u32),
+        SHADOWS..QUEUES => (SHADOWS, ENTRIES as u32),
+        QUEUES..WAITING => (QUEUES, PLACES as u32),
+        WAITING..END => (WAITING, PARTITIONS as u32),
         _ => return (0, 0),
     };
     (((index - start) / size) as usize, ((index - start) % size) as usize)
@@ -132,7 +148,9 @@ pub fn name(index: u32) -> String {
         PARTS..REGISTERS => format!("partition {part} {}", SCALAR_NAMES[place]),
         REGISTERS..FRAMES => format!("partition {part} register {place}"),
         FRAMES..SHADOWS => format!("partition {part} frame {place}"),
-        SHADOWS..END => format!("partition {part} shadow {place}"),
+        SHADOWS..QUEUES => format!("partition {part} shadow {place}"),
+        QUEUES..WAITING => format!("partition {part} ticket {place}"),
+        WAITING..END => format!("waiting[{place}]"),
         _ => format!("nowhere ({index})"),
     }
 }
@@ -189,7 +207,7 @@ mod tests {
             set(&mut house, index, 1);
             assert_eq!(get(&house, index), Some(1), "index {index}");
         }
-        assert_eq!(END, 4_485);
+        assert_eq!((QUEUES, WAITING, END), (4_485, 4_741, 4_749));
         assert_eq!(get(&house, END), None);
     }
 

@@ -4,6 +4,7 @@ use crate::counts::Counts;
 use crate::dlx::special::{EMODE, MODE};
 use crate::dlx::{Cause, Guest};
 use crate::memory::{Place, Space, FRAME_WORDS, PAGE_BYTES, PROTECTED, VALID};
+use crate::tickets::{Queue, Tickets};
 
 /// The most partitions of a house.
 pub const PARTITIONS: usize = 8;
@@ -107,6 +108,8 @@ pub struct House {
     pub running: [bool; PARTITIONS],
     /// The partitions.
     pub guests: [Guest; PARTITIONS],
+    /// The tickets that wait for each partition.
+    pub queues: [Queue; PARTITIONS],
 }
 
 impl House {
@@ -119,6 +122,7 @@ impl House {
         left: 0,
         running: [false; PARTITIONS],
         guests: [Guest::ZERO; PARTITIONS],
+        queues: [Queue::EMPTY; PARTITIONS],
     };
 
     /// Boots; a refused boot returns the house of no partitions.
@@ -165,9 +169,12 @@ impl House {
 
     /// One guest step for the current partition.
     fn host_step(&mut self, memory: &mut [u32], counts: &mut Counts) {
-        let guest = &mut self.guests[self.current as usize];
+        let own = self.current as usize;
+        let queues = &mut self.queues[..self.count as usize];
+        let mut tickets = Tickets { queues, own, running: &self.running };
+        let guest = &mut self.guests[own];
         let system = !guest.user();
-        let cause = guest.step(memory, counts);
+        let cause = guest.step(memory, &mut tickets, counts);
         guest.counter = guest.counter.wrapping_add(1);
         self.left -= 1;
         if self.left == 0 || system && cause == Some(Cause::Trap) {
@@ -271,6 +278,7 @@ impl House {
             || self.lists_damaged()
             || self.turn_damaged()
             || self.used().iter().any(guest_damaged)
+            || self.queues.iter().any(Queue::damaged)
     }
 
     /// The partitions that the house has; for an undamaged count only.
@@ -290,6 +298,7 @@ impl House {
     fn unused_damaged(&self) -> bool {
         let count = self.count as usize;
         self.guests[count..].iter().any(|guest| *guest != Guest::ZERO)
+            || self.queues[count..].iter().any(|queue| *queue != Queue::EMPTY)
             || self.running[count..].contains(&true)
     }
 

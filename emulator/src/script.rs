@@ -6,8 +6,9 @@ use crate::counts::Counts;
 use crate::dlx::{decode, Guest};
 use crate::fields;
 use crate::house::{numbers, Answer, House};
+use crate::tickets::Queue;
 
-/// The most words of lent memory: 64 frames.
+/// The most words of lent memory: 256 frames.
 pub const MOST_WORDS: usize = 262_144;
 /// The most partitions that a boot command can name.
 pub const MOST_PARTITIONS: usize = 16;
@@ -300,6 +301,12 @@ impl Player {
                 describe_guest(text, partition, guest);
             }
         }
+        for (partition, queue) in house.queues.iter().enumerate() {
+            if *queue != Queue::EMPTY {
+                let places = Numbers(without_last_zeros(&queue.places));
+                line(text, format_args!("queue {partition} {}{places}", queue.waiting));
+            }
+        }
         let lent = self.lent();
         line(text, format_args!("memory {} {}", lent.len(), digest(lent)));
     }
@@ -319,8 +326,7 @@ fn describe_guest(text: &mut String, partition: usize, guest: &Guest) {
         ),
     );
     line(text, format_args!("registers{}", Numbers(&guest.registers)));
-    let used = space.frames.iter().rposition(|&frame| frame != 0).map_or(0, |last| last + 1);
-    line(text, format_args!("frames{}", Numbers(&space.frames[..used])));
+    line(text, format_args!("frames{}", Numbers(without_last_zeros(&space.frames))));
     text.push_str("shadow");
     for (px, entry) in space.shadow.iter().enumerate().filter(|(_, &entry)| entry != 0) {
         write!(text, " {px}:{entry}").expect("writing to a string");
@@ -334,6 +340,12 @@ fn describe_output(text: &mut String, output: &[u32], answer: Answer) {
         _ => &[],
     };
     line(text, format_args!("output {}{}", digest(output), Numbers(shown)));
+}
+
+/// The places up to the last one that is not 0.
+fn without_last_zeros(places: &[u32]) -> &[u32] {
+    let used = places.iter().rposition(|&place| place != 0).map_or(0, |last| last + 1);
+    &places[..used]
 }
 
 /// Numbers in decimals, a space before each.

@@ -117,7 +117,7 @@ impl Frame {
         match (name, rest) {
             ("at", [place]) => {
                 let place = number(place)? as usize;
-                if place % 4 != 0 || place >= 4 * FRAME_WORDS {
+                if !place.is_multiple_of(4) || place >= 4 * FRAME_WORDS {
                     return Err(format!("expected a multiple of 4 below 4096, was given {place}"));
                 }
                 self.next = place / 4;

@@ -110,12 +110,36 @@ fn pokes_outside_the_lent_memory_are_ignored() {
         Command::Fill { index: 2_000, count: u32::MAX, value: 1 },
         Command::Fill { index: u32::MAX, count: u32::MAX, value: 1 },
         Command::Fill { index: 5, count: 0, value: 1 },
-        Command::Field { index: 4_485, value: 1 },
+        Command::Field { index: 4_749, value: 1 },
     ];
     assert_eq!(script(&outside), script(&[]));
     let inside = [Command::Fill { index: 1_999, count: u32::MAX, value: 1 }];
     assert_eq!(script(&inside), script(&[Command::Poke { index: 1_999, value: 1 }]));
     assert_ne!(script(&inside), script(&[]));
+}
+
+#[test]
+fn queues_stand_before_the_memory() {
+    let look = Command::Run { steps: 0 };
+    let text = |pokes: &[(u32, u32)]| {
+        let pokes = pokes.iter().map(|&(index, value)| Command::Field { index, value });
+        text(&write(&pokes.chain([look.clone()]).collect::<Vec<_>>()))
+    };
+    let lines = |pokes: &[(u32, u32)]| {
+        let text = text(pokes);
+        let all = text.strip_prefix("call run -> 8 0\nhouse 0 0 0 0 0 0 0 0 0 0 0 0 0\n").unwrap();
+        all.strip_suffix("memory 0 0\n").unwrap().to_string()
+    };
+    assert_eq!(lines(&[]), "");
+    assert_eq!(lines(&[(4_517, 7), (4_519, 9), (4_742, 3)]), "queue 1 3 7 0 9\n");
+    assert_eq!(lines(&[(4_742, 2)]), "queue 1 2\n");
+    assert_eq!(lines(&[(4_485, 5), (4_748, 33)]), "queue 0 0 5\nqueue 7 33\n");
+    let last = format!("queue 7 0{} 4294967295\n", " 0".repeat(31));
+    assert_eq!(lines(&[(4_740, u32::MAX)]), last);
+    // A queue is not a number of its partition: the four lines come by themselves, before it.
+    let partition = lines(&[(134, 1), (4_741, 1)]);
+    assert!(partition.starts_with("partition 0 0 "), "{partition}");
+    assert!(partition.ends_with("frames\nshadow\nqueue 0 1\n"), "{partition}");
 }
 
 #[test]

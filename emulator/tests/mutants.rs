@@ -41,7 +41,7 @@ const MUTANTS: &[Mutant] = &[
     Mutant("interrupts empty the shadow", "dlx.rs", "self.dpc = 0;\n        self.pc = 4;", "self.dpc = 0;\n        self.pc = 4;\n        self.space.empty();"),
     Mutant("DPC's low bits are dropped", "dlx.rs", "if !self.dpc.is_multiple_of(4) {", "if self.dpc % 4 == 1 {"),
     Mutant("a load into register 0 is no access", "dlx.rs", "Instruction::Lw { rd, rs1, imm } => {", "Instruction::Lw { rd: 0, .. } => {}\n            Instruction::Lw { rd, rs1, imm } => {"),
-    Mutant("interrupts undo fills", "dlx.rs", "let interrupt = self.instruction(memory, counts).err()?;", "let shadow = self.space.shadow;\n        let interrupt = self.instruction(memory, counts).err()?;\n        self.space.shadow = shadow;"),
+    Mutant("interrupts undo fills", "dlx.rs", "let interrupt = self.instruction(memory, tickets, counts).err()?;", "let shadow = self.space.shadow;\n        let interrupt = self.instruction(memory, tickets, counts).err()?;\n        self.space.shadow = shadow;"),
     Mutant("stores in system mode empty nothing", "dlx.rs", "self.space.store(memory, self.table(), place", "let table = if self.user() { self.table() } else { Table { pto: 0, ptl: 0 } };\n                self.space.store(memory, table, place"),
     // Addresses and shadows.
     Mutant("px 255 faults", "memory.rs", "*self.shadow.get(px as usize)?", "*self.shadow.get(px as usize).filter(|_| px < 255)?"),
