@@ -1,5 +1,7 @@
 //! Instruction words for generated programs and for the examples.
 
+use crate::tickets::{SEND, TAKE};
+
 /// Opcodes of I-type and J-type instructions.
 pub mod opcode {
     #![allow(missing_docs)]
@@ -93,6 +95,16 @@ pub fn movi2s(special: usize, rs1: u32) -> u32 {
 /// trap imm.
 pub fn trap(imm: u32) -> u32 {
     j_type(opcode::TRAP, imm)
+}
+
+/// The trap that sends register 1 to the partition of register 2.
+pub fn send() -> u32 {
+    trap(SEND)
+}
+
+/// The trap that takes a ticket into register 1.
+pub fn take() -> u32 {
+    trap(TAKE)
 }
 
 /// rfe.
@@ -195,6 +207,7 @@ mod tests {
         assert_eq!(addi(1, 0, 5), 0x2001_0005);
         assert_eq!(sw(1, 0, 8), 0xAC01_0008);
         assert_eq!(trap(7), 0xF800_0007);
+        assert_eq!((send(), take()), (0xF800_0100, 0xF800_0101));
         assert_eq!(r_type(function::ADD, 3, 1, 2), 0x0022_1820);
         assert_eq!(i_type(opcode::BEQZ, 0, 0, 0xFFFC), 0x1000_FFFC);
     }

@@ -1,11 +1,14 @@
-//! Scripts and house files with a name: the examples of 01, and what follows from its rules and is
+//! Scripts and house files with a name: the examples of 01, and what follows from the rules and is
 //! easy to miss.
 
+mod tickets;
+
 use crate::assemble::{
-    addi, function, i_type, j_type, jr, lw, movi2s, movs2i, nop, opcode, r_type, rfe, sw, trap,
+    addi, function, i_type, j_type, jr, lw, movi2s, movs2i, nop, opcode, r_type, rfe, send, sw,
+    take, trap,
 };
 use crate::dlx::special::{EDPC, EMODE, EPC, ESR, MODE, PTL, PTO, SR};
-use crate::fields::{self, CURRENT, LEFT, Q, RUNNING, WORDS};
+use crate::fields::{self, CURRENT, LEFT, Q, RUNNING, WAITING, WORDS};
 use crate::generate::{File, Script};
 use crate::housefile::{record_bytes, word_bytes};
 use crate::memory::{FRAME_WORDS, PROTECTED, VALID};
@@ -77,6 +80,14 @@ impl Story {
         self.field(fields::shadow(0, px), entry)
     }
 
+    /// Tickets wait for a partition.
+    fn queue(self, partition: u32, tickets: &[u32]) -> Self {
+        let story = self.field(WAITING + partition, tickets.len() as u32);
+        (0..).zip(tickets).fold(story, |story, (place, &ticket)| {
+            story.field(fields::ticket(partition, place), ticket)
+        })
+    }
+
     fn pair(self, dpc: u32, pc: u32) -> Self {
         self.field(fields::scalar(0, fields::DPC), dpc).field(fields::scalar(0, fields::PC), pc)
     }
@@ -118,7 +129,15 @@ impl Story {
 
 /// All named scripts.
 pub fn scripts() -> Vec<Script> {
-    let groups = [instructions(), interrupts(), translation(), shadows(), turns(), calls()];
+    let groups = [
+        instructions(),
+        interrupts(),
+        translation(),
+        shadows(),
+        turns(),
+        tickets::group(),
+        calls(),
+    ];
     let named = |(name, story): (&str, Story)| Script { name: name.into(), commands: story.0 };
     groups.into_iter().flatten().map(named).collect()
 }
@@ -552,6 +571,14 @@ fn damages() -> Story {
         (fields::scalar(2, fields::COUNTER_HIGH), 1, 0),
         (fields::frame(7, 255), 1, 0),
         (fields::shadow(7, 255), PAGE_0, 0),
+        (WAITING, 33, 0),
+        (WAITING + 1, u32::MAX, 0),
+        (fields::ticket(0, 0), 1, 0),
+        (fields::ticket(1, 31), 1, 0),
+        (WAITING + 2, 1, 0),
+        (WAITING + 7, 33, 0),
+        (fields::ticket(2, 0), 1, 0),
+        (fields::ticket(7, 31), 1, 0),
     ];
     let story = damaged.into_iter().fold(two_with_one_stopped(), |story, (index, value, old)| {
         story.field(index, value).run(0).field(index, old)
@@ -562,6 +589,8 @@ fn damages() -> Story {
         .field(fields::special(0, PTO), u32::MAX)
         .field(fields::special(0, MODE), 1)
         .field(Q, 10_000)
+        .field(WAITING + 1, 32)
+        .field(fields::ticket(1, 31), 1)
         .run(0)
 }
 
@@ -618,6 +647,15 @@ pub fn files() -> Vec<File> {
         ("run of 1,000,000 steps", one(2, 1_000_000)),
         ("run of 1,000,001 steps", one(2, 1_000_001)),
         ("wrong q and too long a run", one(0, 1_000_001)),
+        ("tickets until one is refused", {
+            // The loop ends when register 3 is not 0; then the guest stands at byte 16.
+            let until = |word| {
+                let back = i_type(opcode::BEQZ, 0, 3, -8i32 as u32);
+                [addi(2, 0, 1), word, back, nop(), j_type(opcode::J, -4i32 as u32), nop()]
+            };
+            let (sender, taker) = (load(0, &until(send())), load(1, &until(take())));
+            [turn(101, 202), list(&[0]), list(&[1]), sender, taker, end()].concat()
+        }),
     ];
     let named = |(name, bytes): (&str, Vec<u8>)| File { name: name.into(), bytes };
     files.into_iter().map(named).collect()

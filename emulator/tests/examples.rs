@@ -201,6 +201,10 @@ fn house_files() {
         ("run of 0 steps", "partition pages steps mode dpc pc\n0 1 0 0 0 4\n".into()),
         ("run of 1,000,001 steps", "refused 14 0\n".into()),
         ("wrong q and too long a run", "refused 3 0\n".into()),
+        (
+            "tickets until one is refused",
+            "partition pages steps mode dpc pc\n0 1 101 0 20 16\n1 1 101 0 20 16\n".into(),
+        ),
     ];
     for (name, expected) in cases {
         assert_eq!(report(name), expected, "{name}");

@@ -35,6 +35,12 @@ impl After {
         self.guest().space.shadow[px]
     }
 
+    /// The tickets that wait for a partition, the oldest first.
+    pub fn waiting(&self, partition: usize) -> &[u32] {
+        let queue = &self.house.queues[partition];
+        &queue.places[..queue.waiting as usize]
+    }
+
     /// DPC and PC.
     pub fn pair(&self) -> (u32, u32) {
         (self.guest().dpc, self.guest().pc)
