@@ -5,6 +5,7 @@ mod files;
 mod programs;
 mod runs;
 mod states;
+mod tickets;
 mod words;
 
 use crate::counts::Counts;
@@ -12,6 +13,7 @@ use crate::house::Answer;
 use crate::memory::FRAME_WORDS;
 use crate::rng::Rng;
 use crate::script::{Command, Player};
+use tickets::Seat;
 
 /// The most frames of a random house: each call's text has a digest of them all.
 const MOST_FRAMES: u32 = 64;
@@ -117,6 +119,11 @@ impl Draft {
     fn partition(&mut self) -> u32 {
         let partitions = self.partitions();
         self.rng.below(partitions.max(1))
+    }
+
+    /// A partition among those of the house.
+    fn seat(&self, own: u32) -> Seat {
+        Seat { own, partitions: self.partitions() }
     }
 
     fn field(&mut self, index: u32, value: u32) {

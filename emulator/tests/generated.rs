@@ -1,14 +1,15 @@
 //! What the random scripts and files reach, and what must hold for each of them.
 
-use std::collections::BTreeSet;
+use std::collections::{BTreeMap, BTreeSet};
 
 use emulator::counts::Counts;
-use emulator::dlx::{decode, Instruction};
+use emulator::dlx::{decode, Guest, Instruction};
 use emulator::generate::{files, scripts, Script, ANSWERS_EACH};
 use emulator::house::House;
 use emulator::housefile::night;
 use emulator::memory::Access;
 use emulator::script::{self, Command, Player};
+use emulator::tickets::{Queue, PLACES, SEND, TAKE};
 
 /// The default run of `emulator compare`.
 const SEED: u64 = 1;
@@ -40,6 +41,27 @@ fn the_default_run_reaches_every_rule() {
     assert!(counts.fills >= 3_000);
     let emptied = [counts.emptied_by_store, counts.emptied_by_special, counts.emptied_by_call];
     assert!(emptied.iter().all(|&count| count >= 300), "{emptied:?}");
+}
+
+#[test]
+fn the_default_run_has_ticket_traffic() {
+    let scripts = scripts(SEED, STEPS);
+    let counts = counts_of(&scripts);
+    let ([sent, full, no_partition, _], [taken, .., none]) = (counts.sends, counts.takes);
+    let answers = [sent, full, no_partition, taken, none];
+    assert!(answers.iter().sum::<u64>() >= 20_000, "{answers:?}");
+    assert!(answers.iter().all(|&count| count >= 2_000), "{answers:?}");
+    assert!(counts.sends_to_oneself >= 2_000, "{}", counts.sends_to_oneself);
+    assert!(counts.sends_to_stopped >= 300, "{}", counts.sends_to_stopped);
+    assert!(counts.user_tickets >= 500, "{}", counts.user_tickets);
+    let (programs, _): (Vec<Script>, _) =
+        scripts.into_iter().partition(|one| one.name.starts_with("programs"));
+    let with_tickets = |one: &&Script| {
+        let counts = counts_of(std::slice::from_ref(one));
+        counts.sends.iter().chain(&counts.takes).sum::<u64>() > 0
+    };
+    let count = programs.iter().filter(with_tickets).count();
+    assert!(count >= programs.len() * 9 / 10, "{count} of {}", programs.len());
 }
 
 #[test]
@@ -106,29 +128,94 @@ fn row(instruction: Instruction) -> String {
             format!("jump {} {link}", kind.split('(').next().unwrap_or_default())
         }
         Instruction::Branch { on_zero, .. } => format!("branch {on_zero}"),
+        Instruction::Trap { imm: SEND } => "send".into(),
+        Instruction::Trap { imm: TAKE } => "take".into(),
         other => format!("{other:?}").split(' ').next().unwrap_or_default().to_string(),
+    }
+}
+
+/// Plays the default run, and looks at the player before each run.
+fn before_each_run(mut look: impl FnMut(&Player)) {
+    for one in scripts(SEED, STEPS) {
+        let mut player = Player::new();
+        for command in &one.commands {
+            if matches!(command, Command::Run { .. }) {
+                look(&player);
+            }
+            player.play(command, &mut String::new(), &mut Counts::default());
+        }
     }
 }
 
 #[test]
 fn every_instruction_is_met_in_both_modes() {
     let mut met = BTreeSet::new();
-    for one in scripts(SEED, STEPS) {
-        let mut player = Player::new();
-        for command in &one.commands {
-            if matches!(command, Command::Run { .. }) && !player.house.damaged() {
-                met.extend(next_instruction(&player));
-            }
-            player.play(command, &mut String::new(), &mut Counts::default());
-        }
-    }
-    // 13 operations in two forms, lhgi, lw, sw, 2 branches, 4 jumps, trap, rfe, 2 moves.
-    assert_eq!(met.len(), 2 * (26 + 3 + 2 + 4 + 2 + 2), "{met:?}");
+    before_each_run(|player| {
+        let next = next_instruction(player);
+        met.extend(next.map(|instruction| (current(player).user(), row(instruction))));
+    });
+    // 13 operations in two forms, lhgi, lw, sw, 2 branches, 4 jumps, trap, send, take, rfe, 2 moves.
+    assert_eq!(met.len(), 2 * (26 + 3 + 2 + 4 + 4 + 2), "{met:?}");
 }
 
-/// The mode and row of the instruction that the current partition does next.
-fn next_instruction(player: &Player) -> Option<(bool, String)> {
-    let guest = &player.house.guests[player.house.current as usize];
+#[test]
+fn tickets_go_to_every_kind_of_receiver() {
+    let mut met = BTreeMap::new();
+    before_each_run(|player| {
+        let send = Some(Instruction::Trap { imm: SEND });
+        if next_instruction(player) == send && !current(player).user() {
+            let house = &player.house;
+            let kind = match current(player).registers[2] {
+                to if to == house.current => "oneself",
+                to if to < house.count && !house.running[to as usize] => "a stopped one",
+                to if to < house.count => "another",
+                to if to == house.count => "the count",
+                8 => "8",
+                u32::MAX => "the largest",
+                _ => "no other",
+            };
+            *met.entry(kind).or_insert(0) += 1;
+        }
+    });
+    assert_eq!(met.len(), 7, "{met:?}");
+    assert!(met.values().all(|&times| times >= 3), "{met:?}");
+}
+
+#[test]
+fn queues_are_damaged_in_every_way() {
+    let mut met = BTreeMap::new();
+    before_each_run(|player| {
+        let house = &player.house;
+        let whole = House { queues: [Queue::EMPTY; 8], ..house.clone() };
+        if house.damaged() && !whole.damaged() {
+            let (used, unused) = house.queues.split_at(house.count as usize);
+            let too_many = |queue: &Queue| queue.waiting as usize > PLACES;
+            let ways = [
+                ("too many", used.iter().any(too_many)),
+                ("one too many", used.iter().any(|queue| queue.waiting as usize == PLACES + 1)),
+                ("stray", used.iter().any(|queue| !too_many(queue) && queue.damaged())),
+                ("unused waiting", unused.iter().any(|queue| queue.waiting > 0)),
+                ("unused place", unused.iter().any(|queue| queue.places != [0; PLACES])),
+            ];
+            for (way, _) in ways.iter().filter(|(_, damaged)| *damaged) {
+                *met.entry(*way).or_insert(0) += 1;
+            }
+        }
+    });
+    assert_eq!(met.len(), 5, "{met:?}");
+}
+
+/// The current partition.
+fn current(player: &Player) -> &Guest {
+    &player.house.guests[player.house.current as usize]
+}
+
+/// The instruction that the current partition of an undamaged house does next.
+fn next_instruction(player: &Player) -> Option<Instruction> {
+    if player.house.damaged() {
+        return None;
+    }
+    let guest = current(player);
     let table = guest.user().then(|| guest.table());
     let mut space = guest.space.clone();
     if !guest.dpc.is_multiple_of(4) || player.lent().len() != player.house.words as usize {
@@ -136,6 +223,5 @@ fn next_instruction(player: &Player) -> Option<(bool, String)> {
     }
     let counts = &mut Counts::default();
     let place = space.locate(player.lent(), table, guest.dpc, Access::Load, counts)?;
-    let word = space.load(player.lent(), place);
-    Some((guest.user(), row(decode(word)?)))
+    decode(space.load(player.lent(), place))
 }

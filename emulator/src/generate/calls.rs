@@ -1,8 +1,9 @@
 //! Calls with right and wrong arguments, on sound and damaged houses.
 
-use super::Draft;
+use super::{tickets, Draft};
+use crate::assemble::{nop, Code};
 use crate::dlx::special::{EMODE, MODE};
-use crate::fields::{self, COUNT, CURRENT, LEFT, Q, RUNNING, WORDS};
+use crate::fields::{self, COUNT, CURRENT, LEFT, Q, RUNNING, WAITING, WORDS};
 use crate::house::House;
 use crate::memory::{PROTECTED, VALID};
 use crate::rng::Rng;
@@ -19,19 +20,37 @@ pub fn compose(draft: &mut Draft) {
         }
         let pages = draft.page_counts(4);
         draft.boot(&pages);
+        load_tickets(draft);
         for _ in 0..draft.rng.between(5, 15) {
             something(draft);
         }
     }
 }
 
+/// A loop of ticket traffic for each partition.
+fn load_tickets(draft: &mut Draft) {
+    for own in 0..draft.partitions() {
+        let seat = draft.seat(own);
+        let mut code = Code::default();
+        for _ in 0..3 {
+            tickets::piece(&mut draft.rng, seat, &mut code);
+        }
+        code.jump_back(0, nop());
+        for (place, value) in (0..).zip(code.words) {
+            draft.poke_guest(own, place, value);
+        }
+    }
+}
+
 fn something(draft: &mut Draft) {
-    match draft.rng.below(8) {
+    match draft.rng.below(10) {
         0 | 1 => damage_and_repair(draft),
         2 => wrong_length(draft),
         3 => refused_run(draft),
         4 => nothing_running(draft),
         5 => read_out(draft),
+        6 => set_queue(draft),
+        7 => run_tickets(draft),
         _ => any_call(draft),
     }
 }
@@ -178,6 +197,17 @@ fn nothing_running(draft: &mut Draft) {
     }
 }
 
+fn set_queue(draft: &mut Draft) {
+    let partition = draft.partition();
+    tickets::set_queue(draft, partition);
+}
+
+/// A run that is long enough to send and take.
+fn run_tickets(draft: &mut Draft) {
+    let steps = draft.rng.between(12, 600);
+    draft.emit(Command::Run { steps });
+}
+
 /// Calls while the memory's length is another than at boot.
 pub fn wrong_length(draft: &mut Draft) {
     let words = draft.player.lent().len() as u32;
@@ -225,7 +255,7 @@ pub fn damage_and_repair(draft: &mut Draft) {
 /// One of the ways in which a house can be damaged; some values lie just inside the limits.
 fn damage(rng: &mut Rng, house: &House) -> Vec<Change> {
     let partition = rng.below(house.count);
-    match rng.below(16) {
+    match rng.below(19) {
         0 => vec![(COUNT, rng.pick(&[0, 9, u32::MAX, house.count - 1, house.count + 1]))],
         1 => vec![(Q, rng.pick(&[0, 10_000, 10_001, u32::MAX, house.left]))],
         2 => vec![(WORDS, wrong_words(rng, house.words))],
@@ -239,6 +269,7 @@ fn damage(rng: &mut Rng, house: &House) -> Vec<Change> {
         11 => vec![wrong_frame(rng, partition, house)],
         12 => vec![unused_frame(rng, partition, house)],
         13 | 14 => vec![wrong_shadow(rng, partition, house)],
+        15 | 16 => vec![wrong_queue(rng, partition, house)],
         _ => vec![unused_partition(rng, house)],
     }
 }
@@ -318,16 +349,30 @@ fn wrong_shadow(rng: &mut Rng, partition: u32, house: &House) -> Change {
     (fields::shadow(partition, rng.below(256)), value)
 }
 
+/// A number of waiting tickets or a ticket; some are no damage.
+fn wrong_queue(rng: &mut Rng, partition: u32, house: &House) -> Change {
+    let waiting = house.queues[partition as usize].waiting;
+    let last = waiting.saturating_sub(1);
+    if rng.chance(50) {
+        let value = rng.pick(&[33, 33, u32::MAX, 1 << 31, 32, 0, last, waiting + 1]);
+        return (WAITING + partition, value);
+    }
+    let place = rng.pick(&[waiting, waiting, waiting + 1, last, 31]).min(31);
+    (fields::ticket(partition, place), rng.pick(&[1, 1 << 31, u32::MAX]))
+}
+
 /// Anything in the place of a partition that the house does not have.
 fn unused_partition(rng: &mut Rng, house: &House) -> Change {
     if house.count == 8 {
         return (fields::register(7, 0), 1);
     }
     let partition = rng.between(house.count, 7);
-    let index = match rng.below(5) {
+    let index = match rng.below(8) {
         0 | 1 => fields::scalar(partition, rng.below(fields::SCALARS)),
         2 => fields::register(partition, rng.below(32)),
         3 => fields::frame(partition, rng.below(256)),
+        4 | 5 => fields::ticket(partition, rng.below(32)),
+        6 => WAITING + partition,
         _ => fields::shadow(partition, rng.below(256)),
     };
     (index, rng.pick(&[1, 4, VALID, u32::MAX]))

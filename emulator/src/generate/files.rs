@@ -1,6 +1,6 @@
 //! Random house files, whole, damaged and cut.
 
-use super::programs::program;
+use super::programs::{program, Program};
 use crate::housefile::{record_bytes, word_bytes, FRAMES, HEAD};
 use crate::memory::FRAME_WORDS;
 use crate::rng::Rng;
@@ -57,8 +57,10 @@ fn whole(rng: &mut Rng) -> Vec<Record> {
     let q = rng.pick(&[1, 2, 7, 100, 10_000]);
     let mut records = vec![Record::of_words(1, &[q, run_length(rng)])];
     records.extend(lists.iter().map(|list| Record::of_words(2, list)));
-    for list in lists.iter().take(4) {
-        records.extend(loads(rng, list));
+    let pages: Vec<u32> = lists.iter().map(|list| list.len() as u32).collect();
+    for (own, list) in lists.iter().enumerate().take(4) {
+        let program = program(rng, &pages, own);
+        records.extend(loads(rng, list, &program));
     }
     records.push(Record { kind: 4, body: Vec::new() });
     records
@@ -73,10 +75,9 @@ fn run_length(rng: &mut Rng) -> u32 {
 }
 
 /// Kind 3 records with a program's pages; now and then a frame is written twice.
-fn loads(rng: &mut Rng, list: &[u32]) -> Vec<Record> {
-    let program = program(rng, list.len() as u32);
+fn loads(rng: &mut Rng, list: &[u32], program: &Program) -> Vec<Record> {
     let mut pages = vec![vec![0; FRAME_WORDS]; list.len()];
-    for (place, value) in program.words {
+    for &(place, value) in &program.words {
         pages[place as usize / FRAME_WORDS][place as usize % FRAME_WORDS] = value;
     }
     let mut records = Vec::new();

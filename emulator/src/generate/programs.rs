@@ -1,7 +1,8 @@
 //! Random guest programs: a start-up in system mode that sets up the page table, a handler at 0
 //! that counts, repairs and returns, and loops in user mode over mapped, protected and missing
-//! pages that also change their own table.
+//! pages that also change their own table. Most of them send and take tickets.
 
+use super::tickets::{self, Seat};
 use super::words;
 use crate::assemble::{
     addi, andi, function, i_type, jr, lw, movi2s, movs2i, nop, opcode, r_type, rfe, sw, trap, Code,
@@ -9,6 +10,7 @@ use crate::assemble::{
 use crate::dlx::special::{ECA, EDATA, EDPC, EMODE, EPC, ESR, MODE, PTL, PTO, SR};
 use crate::memory::{PROTECTED, VALID};
 use crate::rng::Rng;
+use crate::tickets::{SEND, TAKE};
 
 /// Code ends before this word of a page; from here on pages hold data.
 const DATA_WORD: u32 = 768;
@@ -30,12 +32,14 @@ pub struct Program {
     pub pages: Vec<u32>,
 }
 
-/// A random program for a partition of some pages.
-pub fn program(rng: &mut Rng, pages: u32) -> Program {
+/// A random program for one of the partitions with these page counts.
+pub fn program(rng: &mut Rng, page_counts: &[u32], own: usize) -> Program {
+    let pages = page_counts[own];
     if rng.chance(4) {
         return random_words(rng, pages);
     }
-    let plan = Plan::new(rng, pages);
+    let seat = Seat { own: own as u32, partitions: page_counts.len() as u32 };
+    let plan = Plan::new(rng, pages, seat);
     let system = system_code(rng, &plan);
     let mut words = placed(0, &system);
     if plan.user {
@@ -60,6 +64,7 @@ fn placed(start: u32, words: &[u32]) -> Vec<(u32, u32)> {
 /// Where a program has its table, code and data, and how user addresses are mapped.
 struct Plan {
     pages: u32,
+    seat: Seat,
     /// Without user mode all runs in system mode.
     user: bool,
     /// Only random instructions between start-up and handler.
@@ -81,13 +86,14 @@ struct Plan {
 }
 
 impl Plan {
-    fn new(rng: &mut Rng, pages: u32) -> Plan {
-        let user = pages > 1 && rng.chance(88);
+    fn new(rng: &mut Rng, pages: u32, seat: Seat) -> Plan {
+        let user = pages > 1 && rng.chance(94);
         let page = |rng: &mut Rng| if pages > 1 { rng.between(1, pages - 1) } else { 0 };
         let data = data_pages(rng);
         let others = other_pages(rng, &data);
         let mut plan = Plan {
             pages,
+            seat,
             user,
             soup: rng.chance(20),
             table: page(rng),
@@ -194,9 +200,10 @@ fn system_code(rng: &mut Rng, plan: &Plan) -> Vec<u32> {
     code.push(&[movs2i(30, ECA)]);
     let to_handler = code.branch(opcode::BNEZ, 30, nop());
     start_up(rng, plan, &mut code);
-    let again = code.here();
-    let snippets = if plan.user { rng.below(3) } else { rng.between(4, 12) };
     let mut writer = Writer { rng, plan, user: false, base: 0 };
+    writer.tickets(&mut code);
+    let again = code.here();
+    let snippets = if plan.user { writer.rng.below(3) } else { writer.rng.between(4, 12) };
     writer.snippets(&mut code, snippets);
     if plan.user {
         go_to_user(rng, plan, &mut code);
@@ -286,7 +293,11 @@ fn from_system(code: &mut Code, again: usize) {
 /// What a trap in user mode asks for: some work in system mode.
 fn service(rng: &mut Rng, plan: &Plan, code: &mut Code) {
     let snippets = rng.below(3);
-    Writer { rng, plan, user: false, base: 0 }.snippets(code, snippets);
+    let mut writer = Writer { rng, plan, user: false, base: 0 };
+    if writer.rng.chance(40) {
+        writer.tickets(code);
+    }
+    writer.snippets(code, snippets);
 }
 
 fn leave(code: &mut Code) {
@@ -349,9 +360,12 @@ fn restart(plan: &Plan, code: &mut Code) {
 /// The loop in user mode.
 fn user_code(rng: &mut Rng, plan: &Plan) -> Vec<u32> {
     let mut code = Code::default();
-    let count = rng.between(5, 18);
+    let count = rng.between(8, 20);
     let mut writer = Writer { rng, plan, user: true, base: plan.user_entry() };
     writer.snippets(&mut code, count);
+    if writer.rng.chance(30) {
+        writer.tickets(&mut code);
+    }
     code.jump_back(0, nop());
     code.words
 }
@@ -381,7 +395,8 @@ impl Writer<'_> {
             return (0..count).for_each(|_| code.push(&[words::instruction(self.rng)]));
         }
         match self.rng.below(100) {
-            0..=17 => self.compute(code),
+            0..=14 => self.compute(code),
+            15..=17 => self.tickets(code),
             18..=25 => self.overflow(code),
             26..=42 => self.access(code),
             43..=48 => self.change_in_a_loop(code),
@@ -407,6 +422,17 @@ impl Writer<'_> {
         } else {
             (19, 24, 15)
         }
+    }
+
+    /// Sends or takes, and keeps ticket and answer; user mode asks the handler.
+    fn tickets(&mut self, code: &mut Code) {
+        let seat = self.plan.seat;
+        if self.user {
+            tickets::address(self.rng, seat, code);
+            return code.push(&[trap(self.rng.pick(&[SEND, TAKE]))]);
+        }
+        tickets::piece(self.rng, seat, code);
+        code.push(&[sw(1, 0, self.data_offset()), sw(3, 0, self.data_offset())]);
     }
 
     fn compute(&mut self, code: &mut Code) {
@@ -651,7 +677,7 @@ mod tests {
         let mut rng = Rng::new(5);
         for round in 0..500 {
             let pages = 1 + round % 8;
-            for (place, _) in program(&mut rng, pages).words {
+            for (place, _) in program(&mut rng, &[pages, 1], 0).words {
                 assert!(place < 1_024 * pages, "inside the pages");
                 assert!(place % 1_024 < COUNTER / 4, "before the data");
             }

@@ -1,7 +1,7 @@
 //! Scripts in which several partitions run programs, with other calls between the runs.
 
 use super::programs::{program, Program};
-use super::{calls, Draft};
+use super::{calls, tickets, Draft};
 use crate::fields;
 use crate::memory::shadow_entry;
 use crate::script::Command;
@@ -26,7 +26,7 @@ pub fn compose(draft: &mut Draft) {
 
 fn load_programs(draft: &mut Draft, pages: &[u32]) -> Vec<Program> {
     let programs: Vec<Program> =
-        pages.iter().map(|&count| program(&mut draft.rng, count)).collect();
+        (0..pages.len()).map(|own| program(&mut draft.rng, pages, own)).collect();
     for (partition, program) in programs.iter().enumerate() {
         for &(place, value) in &program.words {
             draft.poke_guest(partition as u32, place, value);
@@ -47,7 +47,7 @@ fn run_length(draft: &mut Draft) -> u32 {
 /// Something between two runs.
 fn between(draft: &mut Draft, programs: &[Program]) {
     let partition = draft.partition();
-    match draft.rng.below(10) {
+    match draft.rng.below(12) {
         0 => drop(draft.emit(Command::Stop { partition })),
         1 => drop(draft.emit(Command::Start { partition })),
         2 => drop(draft.emit(Command::Empty { partition })),
@@ -55,6 +55,7 @@ fn between(draft: &mut Draft, programs: &[Program]) {
         4 => calls::damage_and_repair(draft),
         5 => calls::wrong_length(draft),
         6 => calls::refused_run(draft),
+        7 | 8 => tickets::set_queue(draft, partition),
         _ => wrong_shadows(draft, partition, &programs[partition as usize].pages),
     }
 }

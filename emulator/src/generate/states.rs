@@ -1,6 +1,7 @@
 //! Scripts that set a guest's state by hand and do one or a few steps from it.
 
-use super::{words, Draft};
+use super::{tickets, words, Draft};
+use crate::assemble::trap;
 use crate::counts::Counts;
 use crate::dlx::special::{EDPC, EMODE, EPC, ESR, MODE, PTL, PTO, SR};
 use crate::dlx::{decode, Instruction};
@@ -19,7 +20,7 @@ pub fn compose(draft: &mut Draft) {
         let table = draft.rng.below(count);
         write_table(draft, partition as u32, count, table);
     }
-    for _ in 0..draft.rng.between(20, 40) {
+    for _ in 0..draft.rng.between(28, 48) {
         one_case(draft);
     }
 }
@@ -47,7 +48,11 @@ fn one_case(draft: &mut Draft) {
     if draft.rng.chance(25) {
         set_shadow(draft, partition);
     }
-    let instruction = words::instruction(&mut draft.rng);
+    let instruction = if draft.rng.chance(25) {
+        trap(words::trap_number(&mut draft.rng))
+    } else {
+        words::instruction(&mut draft.rng)
+    };
     set_registers(draft, partition, instruction);
     place_instruction(draft, partition, instruction);
     let steps = if draft.rng.chance(75) { 1 } else { draft.rng.between(2, 6) };
@@ -82,10 +87,13 @@ fn set_specials(draft: &mut Draft, partition: u32) {
     }
 }
 
-/// DPC and PC.
+/// DPC and PC. In system mode the page is mostly one of the guest's own.
 fn set_pair(draft: &mut Draft, partition: u32) {
-    let page = any_page(draft);
+    let guest = &draft.player.house.guests[partition as usize];
+    let (user, pages) = (guest.user(), guest.space.pages);
+    let any = any_page(draft);
     let rng = &mut draft.rng;
+    let page = if user || rng.chance(20) { any } else { rng.below(pages) };
     let mut dpc = 4_096 * page + 4 * rng.between(300, 1_000);
     if rng.chance(4) {
         dpc += rng.between(1, 3);
@@ -120,8 +128,12 @@ fn set_shadow(draft: &mut Draft, partition: u32) {
     draft.field(fields::shadow(partition, px), entry);
 }
 
-/// Registers that the instruction reads; RS1 gives an address where one is needed.
+/// Registers that the instruction reads; RS1 gives an address where one is needed, and a trap may
+/// send or take a ticket.
 fn set_registers(draft: &mut Draft, partition: u32, word: u32) {
+    if let Some(Instruction::Trap { .. }) = decode(word) {
+        return set_tickets(draft, partition);
+    }
     let (rs1, rs2) = (word >> 21 & 31, word >> 16 & 31);
     let value = words::value(&mut draft.rng);
     set_register(draft, partition, rs2, value);
@@ -133,6 +145,20 @@ fn set_registers(draft: &mut Draft, partition: u32, word: u32) {
         _ => words::value(&mut draft.rng),
     };
     set_register(draft, partition, rs1, value);
+}
+
+/// A ticket, its receiver, and now and then the receiver's queue or one's own.
+fn set_tickets(draft: &mut Draft, own: u32) {
+    let seat = draft.seat(own);
+    let ticket = words::value(&mut draft.rng);
+    let to = tickets::receiver(&mut draft.rng, seat);
+    set_register(draft, own, 1, ticket);
+    set_register(draft, own, 2, to);
+    for partition in [to, own] {
+        if partition < seat.partitions && draft.rng.chance(40) {
+            tickets::set_queue(draft, partition);
+        }
+    }
 }
 
 fn set_register(draft: &mut Draft, partition: u32, number: u32, value: u32) {

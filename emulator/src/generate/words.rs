@@ -2,6 +2,7 @@
 
 use crate::assemble::{function, i_type, j_type, movi2s, movs2i, opcode, r_type, rfe, trap};
 use crate::rng::Rng;
+use crate::tickets::{SEND, TAKE};
 
 /// Opcodes that work out RD from RS1 and the immediate.
 pub const IMMEDIATE: [u32; 14] = [8, 10, 12, 13, 14, 15, 24, 25, 26, 27, 28, 29, 30, 31];
@@ -63,6 +64,15 @@ pub fn ill(rng: &mut Rng) -> u32 {
     }
 }
 
+/// A trap's number: a ticket's, one that is a bit away from it, or any.
+pub fn trap_number(rng: &mut Rng) -> u32 {
+    match rng.below(5) {
+        0..=2 => rng.pick(&[SEND, TAKE]),
+        3 => rng.pick(&[SEND, TAKE]) ^ 1 << rng.below(26),
+        _ => rng.word(),
+    }
+}
+
 /// Any instruction, now and then a word that is none.
 pub fn instruction(rng: &mut Rng) -> u32 {
     let short = (4 * rng.below(24)).wrapping_sub(32);
@@ -74,7 +84,7 @@ pub fn instruction(rng: &mut Rng) -> u32 {
         70..=74 => j_type(rng.pick(&[opcode::J, opcode::JAL]), short),
         75 => j_type(rng.pick(&[opcode::J, opcode::JAL]), rng.word()),
         76..=79 => i_type(rng.pick(&[opcode::JR, opcode::JALR]), a, b, immediate(rng)),
-        80..=82 => trap(rng.word()),
+        80..=82 => trap(trap_number(rng)),
         83..=85 => rfe() | rng.word() & 0x03FF_FFFF,
         86..=89 => movs2i(a, rng.index(10)) | rng.word() & 0x03FF_0000,
         90..=94 => movi2s(rng.index(10), a) | rng.word() & 0x001F_F800,
