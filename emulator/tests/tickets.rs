@@ -3,7 +3,11 @@
 mod common;
 
 use common::{last, play, After};
+use emulator::counts::Counts;
 use emulator::dlx::special::{ECA, EDATA, EDPC, EPC, MODE};
+use emulator::house::House;
+use emulator::housefile::read;
+use emulator::source;
 
 /// So many tickets, as the scripts have them.
 fn tickets(count: u32) -> Vec<u32> {
@@ -226,4 +230,20 @@ fn a_queue_in_use_can_be_damaged() {
     let answers: Vec<u32> =
         play("damage of a queue in use")[1..].iter().map(|after| after.answer.0).collect();
     assert_eq!(answers, [8, 8, 0, 0, 8, 8, 0]);
+}
+
+/// The example of the weighbridge has the figures that are told of it.
+#[test]
+fn the_bridge_and_the_settlement() {
+    let source = include_str!("../../examples/bridge-tickets.source");
+    let mut file = read(&source::bytes(source).unwrap()).unwrap();
+    let pages: Vec<u32> = file.lists.iter().map(|list| list.len() as u32).collect();
+    let (mut house, _) = House::boot(&pages, file.q, &file.lists.concat(), file.memory.len());
+    let mut counts = Counts::default();
+    house.run(&mut file.memory, file.steps, &mut counts).unwrap();
+    let (bridge, settlement) = (&file.memory[1_024..], &file.memory[3 * 1_024..]);
+    assert_eq!(settlement[0], 11_800);
+    assert_eq!((bridge[0], settlement[1]), (35, 16));
+    assert_eq!((counts.sends, counts.takes), ([41, 35, 0, 0], [41, 0, 0, 16]));
+    assert_eq!(counts.all_interrupts(), 0);
 }
