@@ -278,7 +278,7 @@ impl House {
             || self.lists_damaged()
             || self.turn_damaged()
             || self.used().iter().any(guest_damaged)
-            || self.queues.iter().any(Queue::damaged)
+            || self.queues[..self.count as usize].iter().any(Queue::damaged)
     }
 
     /// The partitions that the house has; for an undamaged count only.

@@ -367,12 +367,12 @@ fn unused_partition(rng: &mut Rng, house: &House) -> Change {
         return (fields::register(7, 0), 1);
     }
     let partition = rng.between(house.count, 7);
-    let index = match rng.below(8) {
+    let index = match rng.below(9) {
         0 | 1 => fields::scalar(partition, rng.below(fields::SCALARS)),
         2 => fields::register(partition, rng.below(32)),
         3 => fields::frame(partition, rng.below(256)),
         4 | 5 => fields::ticket(partition, rng.below(32)),
-        6 => WAITING + partition,
+        6 | 7 => WAITING + partition,
         _ => fields::shadow(partition, rng.below(256)),
     };
     (index, rng.pick(&[1, 4, VALID, u32::MAX]))

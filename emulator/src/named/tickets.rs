@@ -125,7 +125,6 @@ fn going_on() -> Group {
         let story = numbers.into_iter().fold(two(), |story, number| story.special(number, 77));
         story.special(EMODE, 1).special(SR, u32::MAX).shadow(3, PAGE_0)
     };
-    let both = |story: Story| story.step(send(), 7, 0).step(take(), 1, 2);
     vec![
         ("a send at the first step", two().words(0, &[send()]).run(1)),
         ("a take at the first step", two().words(0, &[take()]).run(1)),
@@ -139,7 +138,10 @@ fn going_on() -> Group {
         ),
         ("PC wraps behind a send", two().words(2, &[send()]).pair(8, 0xFFFF_FFFC).run(1)),
         ("PC wraps behind a take", two().words(2, &[take()]).pair(8, 0xFFFF_FFFC).run(1)),
-        ("tickets leave the special registers alone", both(specials())),
+        (
+            "tickets leave the special registers alone",
+            specials().step(send(), 7, 0).step(take(), 1, 2),
+        ),
         (
             "refused tickets leave the special registers alone",
             specials().step(take(), 1, 2).step(send(), 7, 2).queue(1, &tickets(32)).step(
