@@ -129,20 +129,20 @@ fn privileged(p: Processor, e: Effect) -> Effect
     e
 }
 
-// A trap: in system mode 256 and 257 are the house's.
+// A trap: in system mode 256 and 257 are the house's, the two numbers whose half is 128.
 fn trap(p: Processor, v: u32, to: u32, imm: u32) -> Effect
     ensures { λ r. ⌜ r ≡ trapOf p v to imm ⌝ }
 {
     if p.mode == 1 {
         return Effect::Done(Change::Cause(Partition::TRAP, imm));
     }
+    if imm / 2 != 128 {
+        return Effect::Done(Change::Cause(Partition::TRAP, imm));
+    }
     if imm == 256 {
         return Effect::Send(v, to);
     }
-    if imm == 257 {
-        return Effect::Take;
-    }
-    Effect::Done(Change::Cause(Partition::TRAP, imm))
+    Effect::Take
 }
 
 pub fn execute(p: Processor, t: Table, regs: &[u32], i: Instruction) -> Effect
