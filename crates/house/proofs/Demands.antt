@@ -3,7 +3,7 @@ use mathlib.Core.Path.{_≡_, refl, sym, ap, subst, _∙_}
 use mathlib.Core.Bool.{false}
 use Prim.Native.Nat.{ℕ, _+_}
 use native.Mathlib.Omega.{arith}
-use borrow.Author.Tests.{ne-eqb}
+use borrow.Author.Tests.{eq-eqb, ne-eqb}
 use lib.Dec.{eqb}
 use lib.ListN.{length, getD, length-append}
 use Rattle.dlx.specs.Choice.{if_then_else_}
@@ -18,7 +18,7 @@ use Rattle.house.specs.Turns.{World, world}
 use Rattle.house.specs.Calls.{bootCall, runVerdict, runCall, oneVerdict, startCall, stopCall, emptyCall, readVerdict, readCall}
 use Rattle.house.specs.Histories.{booted, history, turnsMade, loneAtBoot, queueIn, logOf, ticketsOff, feedOf}
 use Rattle.house.specs.Tickets.{queuesOf}
-use Rattle.house.specs.Demands.{RefusedMeansUntouched, Isolation, RunIsolation, NeverDamaged, Step, WithinRuns, Reach, Histories, EqualGuests, EqualCounters, Tickets, TicketCounts, ReadsThosePages, Fairness}
+use Rattle.house.specs.Demands.{RefusedMeansUntouched, Isolation, RunIsolation, EveryBoot, NeverDamaged, Step, WithinRuns, Reach, Histories, EqualGuests, EqualCounters, Tickets, TicketCounts, ReadsThosePages, Fairness}
 use Rattle.house.proofs.Verdicts.{run-done}
 use Rattle.house.proofs.Undamaged.{sound}
 use Rattle.house.proofs.Isolated.{step-isolated}
@@ -60,6 +60,17 @@ run-isolation h m m′ k s long same =
     (same-verdict h m m′ s long same k, a .house, a .own, a .others)
 
 -- ---- demand 2
+
+unfoldable pub every-boot : EveryBoot
+unfolding bootCall
+every-boot ps q fr m e = record {
+  boot = record { pages = ps; q = q; frames = fr; memory = m; done = e };
+  pages = refl;
+  turns = refl;
+  frames = refl;
+  memory = refl;
+  left = rw (eq-eqb (bootVerdict ps q fr (length m) .number) 0 e);
+}
 
 pub never-damaged : NeverDamaged
 never-damaged b t w g =

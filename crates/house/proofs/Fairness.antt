@@ -10,14 +10,14 @@ use lib.Dec.{eqb, ltb}
 use lib.ListN.{length, getD, set}
 use Rattle.dlx.specs.Choice.{if_then_else_}
 use Rattle.dlx.proofs.Kept.{either}
-use Rattle.dlx.proofs.Tests.{either-both, by-eq, and-left, getD-set-default}
+use Rattle.dlx.proofs.Tests.{either-both, by-eq, getD-set-default}
 use Rattle.house.specs.Lists.{any}
 use Rattle.house.specs.House.{runs}
 use Rattle.house.specs.Damage.{damaged}
 use Rattle.house.specs.Boot.{bootedHouse}
 use Rattle.house.specs.Turns.{World, world, nextOf, turn, turnOf, guestStep, settledHouse, stepWith, hostStep, hostSteps}
 use Rattle.house.specs.Calls.{runVerdict, runCall, oneVerdict, started, stopped, emptiedHouse, startCall, stopCall, emptyCall, readCall}
-use Rattle.house.specs.Histories.{Boot, booted, Call, run, start, stop, empty, readOut, after, Grown, turnsIn, stepsOf, stepsMade, turnsMade, staysRunning}
+use Rattle.house.specs.Histories.{Boot, booted, Call, run, start, stop, empty, readOut, after, history, Grown, turnsIn, stepsOf, stepsMade, turnsMade, StaysRunning}
 use Rattle.house.specs.declared.House.{House}
 use Rattle.house.specs.declared.Turn.{Turn}
 use Rattle.house.proofs.Lists.{or-left, and-right, one-way, any-yes}
@@ -179,23 +179,26 @@ steps-undamaged (readOut i a k out) w n = absurd (n refl)
 
 -- ---- histories
 
-runs-first : (cs : List Call) (w : World) (i : ℕ) → staysRunning cs w i ≡ true → runs (w .house) i ≡ true
-unfolding staysRunning
-runs-first [] w i e = e
-runs-first (c ∷ cs) w i e = and-left (runs (w .house) i) (staysRunning cs (after c w) i) e
+runs-first : (cs : List Call) (w : World) (i : ℕ) → StaysRunning cs w i → runs (w .house) i ≡ true
+unfolding history
+runs-first cs w i s = s [] cs refl
+
+runs-on : (c : Call) (cs : List Call) (w : World) (i : ℕ) → StaysRunning (c ∷ cs) w i → StaysRunning cs (after c w) i
+unfolding history
+runs-on c cs w i s first rest e = s (c ∷ first) rest (ap (λ (l : List Call). c ∷ l) e)
 
 -- a bound in equal terms
 in-terms : (x n q n′ q′ : ℕ) → n ≡ n′ → q ≡ q′ → x ≤ (n - 1) * q → x ≤ (n′ - 1) * q′
 in-terms x n q n′ q′ e f l = rw (← e, ← f) l
 
 -- while only others make steps
-others-steps : (b : Boot) (cs : List Call) (w : World) → Standing b w → (i : ℕ) → i < w .house .count → staysRunning cs w i ≡ true → turnsMade cs w i ≡ 0
+others-steps : (b : Boot) (cs : List Call) (w : World) → Standing b w → (i : ℕ) → i < w .house .count → StaysRunning cs w i → turnsMade cs w i ≡ 0
     → (stepsMade cs w ≤ waiting (w .house) i) × (stepsMade cs w ≤ (booted b .house .count - 1) * booted b .house .q)
-unfolding stepsMade turnsMade staysRunning
+unfolding stepsMade turnsMade
 others-steps b [] w st i m e z = (omega arith, omega arith)
 others-steps b (c ∷ cs) w st i m e z =
-    let r = and-left (runs (w .house) i) (staysRunning cs (after c w) i) e in
-    let e′ = and-right (runs (w .house) i) (staysRunning cs (after c w) i) e in
+    let r = runs-first (c ∷ cs) w i e in
+    let e′ = runs-on c cs w i e in
     let t = standing-after b w st c in
     let h = others-steps b cs (after c w) t i (omega (arith, st .layout .count, t .layout .count)) e′ (omega arith) in
     let now = call-waits w i m r c (runs-first cs (after c w) i e′) (omega arith) in
@@ -209,7 +212,7 @@ others-steps b (c ∷ cs) w st i m e z =
           in-terms _ (w .house .count) (w .house .q) _ _ (st .layout .count) (st .layout .q) (omega arith)),
     )
 
-pub others-most : (b : Boot) (w : World) → Grown b w → (cs : List Call) (i : ℕ) → i < length (b .pages) → staysRunning cs w i ≡ true → turnsMade cs w i ≡ 0
+pub others-most : (b : Boot) (w : World) → Grown b w → (cs : List Call) (i : ℕ) → i < length (b .pages) → StaysRunning cs w i → turnsMade cs w i ≡ 0
     → stepsMade cs w ≤ (length (b .pages) - 1) * b .q
 unfolding bootedHouse
 others-most b w g cs i m e z = let st = standing b w g in others-steps b cs w st i (omega (arith, st .layout .count)) e z .1

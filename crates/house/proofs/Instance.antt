@@ -22,19 +22,26 @@ use Rattle.translate.specs.Walk.{walked, direct}
 use Rattle.translate.specs.Memory.{loneMemory, loneFound, loneRead, hosted, given, filled, looked, served, hostRead, emptied, hostWritten, hostReads, hostWrites}
 use Rattle.dlx.proofs.Tests.{and-left}
 use Rattle.dlx.specs.Parts.{inner, outer}
+use Rattle.dlx.proofs.Parts.{part-at}
+use Rattle.dlx.proofs.Kept.{getD-set-elim}
+use Rattle.translate.specs.Premises.{Own}
 use Rattle.house.specs.Lists.{listFrom, any, firstFrom}
-use Rattle.house.specs.House.{noHouse, pagesOf, runs, framesOf, shadowOf}
+use Rattle.house.specs.House.{noHouse, partition, pagesOf, runs, framesOf, shadowOf}
 use Rattle.tickets.specs.Queues.{sending, taking, desk, queueOf, oldest, ruled}
 use Rattle.house.specs.Damage.{damaged}
 use Rattle.house.specs.Boot.{Verdict, verdict, sum, firstOf, bootVerdict, laid, offset, bootedHouse}
-use Rattle.house.specs.Turns.{World, world, nextFrom, turnOf, requestNow, replyNow, queuesNext, guestStep, settledHouse, stepWith, hostStep, hostSteps}
+use Rattle.house.specs.Turns.{World, world, turn, nextFrom, turnOf, requestNow, replyNow, queuesNext, guestStep, settledHouse, stepWith, hostStep, hostSteps}
 use Rattle.house.specs.Calls.{bootCall, runVerdict, runCall, oneVerdict, started, stopped, emptiedHouse, startCall, stopCall, emptyCall, readVerdict, readCall}
-use Rattle.house.specs.Sound.{Typed, Ready}
-use Rattle.house.specs.Histories.{Boot, booted, Call, run, start, stop, empty, readOut, after, history, Grown, turnsIn, stepsOf, stepsMade, turnsMade, staysRunning, loneOf, loneAtBoot, loneAsks, loneAnswer, eventOf, logIn, logOf, each, answersTo, feedOf}
+use Rattle.house.specs.Sound.{Proper, Stays, Ready}
+use Rattle.house.specs.Histories.{Boot, booted, Call, run, start, stop, empty, readOut, after, history, Grown, turnsIn, stepsOf, stepsMade, turnsMade, StaysRunning, loneOf, loneAtBoot, loneAsks, loneAnswer, eventOf, logIn, logOf, each, answersTo, feedOf}
 use Rattle.house.specs.Demands.{AgreeOn, OwnFramesAlone, StepOf, SameAnswers, nowhere, word, byShadow, listed, byTable}
-use Rattle.house.proofs.Lists.{and-right, one-way}
+use Rattle.house.specs.declared.House.{House}
+use Rattle.house.proofs.Lists.{one-way}
+use Rattle.house.proofs.ClosedCalls.{below, below-at, Fit, fit-after, run-verdict, no-verdict, after-run, after-start, after-stop, after-empty, after-refused, runs-at-end, runs-onward}
 use Rattle.house.proofs.FreshHouse.{booted-whole, booted-ready}
-use Rattle.house.proofs.Stays.{after-stays}
+use Rattle.house.proofs.SameLayout.{changed}
+use Rattle.house.proofs.HouseChanged.{ShadowsRight, same-flags, changed-stays}
+use Rattle.house.proofs.Undamaged.{undamaged-gives}
 use Rattle.house.proofs.Demands.{refused-means-untouched, isolation-demand, run-isolation, never-damaged, step-demand, within-runs, reach-demand, histories-demand, equal-guests, equal-counters, reads-those-pages, fairness-demand}
 
 -- ---- the boot
@@ -62,69 +69,12 @@ pub two-guests : Boot
 unfolding bootVerdict firstOf any firstFrom sum
 two-guests = record { pages = 2 ∷ 1 ∷ []; q = 3; frames = 3 ∷ 0 ∷ 2 ∷ []; memory = memory; done = refl }
 
-below : List ℕ → Bool
-below [] = true
-below (x ∷ xs) = ltb x (2 ^ 32) && below xs
-
-below-at : (l : List ℕ) → below l ≡ true → (i : ℕ) → getD l i 0 < 2 ^ 32
-unfolding below
-below-at [] e i = omega arith
-below-at (x ∷ xs) e zero = ltb-true x (2 ^ 32) (and-left (ltb x (2 ^ 32)) (below xs) e)
-below-at (x ∷ xs) e (suc i) = below-at xs (and-right (ltb x (2 ^ 32)) (below xs) e) i
-
 pub memory-words : (i : ℕ) → getD (two-guests .memory) i 0 < 2 ^ 32
 unfolding two-guests below
 memory-words = below-at memory refl
 
 pub ready : Ready (booted two-guests)
 ready = booted-ready two-guests memory-words
-
--- ---- what a call comes to
-
--- a house of two partitions that is not damaged, in a memory of its size
-record Fit (w : World) : Type 0 where
-  typed : Typed w
-  whole : damaged (w .house) ≡ false
-  size : length (w .memory) ≡ w .house .words
-  count : w .house .count ≡ 2
-
-module _ (w : World) (f : Fit w) where
-  fit-after : (c : Call) {v : World} → after c w ≡ v → Fit v
-  fit-after c e =
-      let s = after-stays w (f .typed) (f .whole) c in
-      subst Fit e (record { typed = s .typed; whole = s .whole; size = s .size ∙ f .size ∙ sym (s .layout .words); count = s .layout .count ∙ f .count })
-
-  run-verdict : (k : ℕ) → k ≤ 1000000 → (w .house .left ≡ 0 → ⊥) → runVerdict w k ≡ verdict 0 k
-  unfolding runVerdict firstOf
-  run-verdict k l n = simp (f .whole, eq-eqb (length (w .memory)) (w .house .words) (f .size), le-ltb 1000000 k l, ne-eqb (w .house .left) 0 n, and-false)
-
-  one-verdict : (i : ℕ) → i < 2 → oneVerdict (w .house) i ≡ verdict 0 0
-  unfolding oneVerdict firstOf
-  one-verdict i l = simp (f .whole, f .count, lt-leb 2 i l)
-
-  no-verdict : (i : ℕ) → 2 ≤ i → oneVerdict (w .house) i ≡ verdict 10 0
-  unfolding oneVerdict firstOf
-  no-verdict i l = simp (f .whole, f .count, le-leb 2 i l)
-
-  after-run : (k : ℕ) → k ≤ 1000000 → (w .house .left ≡ 0 → ⊥) → (after (run k) w ≡ hostSteps k w) × (stepsOf (run k) w ≡ k)
-  unfolding after runCall stepsOf
-  after-run k l n = let v = run-verdict k l n in (rw v, rw v)
-
-  after-start : (i : ℕ) → i < 2 → after (start i) w ≡ world (started (w .house) i) (w .memory)
-  unfolding after startCall
-  after-start i l = rw (one-verdict i l)
-
-  after-stop : (i : ℕ) → i < 2 → after (stop i) w ≡ world (stopped (w .house) i) (w .memory)
-  unfolding after stopCall
-  after-stop i l = rw (one-verdict i l)
-
-  after-empty : (i : ℕ) → i < 2 → after (empty i) w ≡ world (emptiedHouse (w .house) i) (w .memory)
-  unfolding after emptyCall
-  after-empty i l = rw (one-verdict i l)
-
-  after-refused : (i : ℕ) → 2 ≤ i → after (start i) w ≡ w
-  unfolding after startCall
-  after-refused i l = rw (no-verdict i l)
 
 -- ---- the history
 
@@ -201,44 +151,44 @@ cleared-left = unfold computing in refl
 ended-left : ended .house .left ≡ 2
 ended-left = unfold computing in refl
 
-fit-begun : Fit begun
+fit-begun : Fit 2 begun
 unfolding bootedHouse two-guests
 fit-begun = record { typed = ready .typed; whole = booted-whole two-guests; size = refl; count = refl }
 
 to-ran : (after (run 4) begun ≡ ran) × (stepsOf (run 4) begun ≡ 4)
 to-ran = after-run begun fit-begun 4 (omega arith) (some 2 begun-left)
 
-fit-ran : Fit ran
+fit-ran : Fit 2 ran
 fit-ran = fit-after begun fit-begun (run 4) (to-ran .0)
 
 to-alone : after (stop 1) ran ≡ alone
 to-alone = after-stop ran fit-ran 1 (omega arith)
 
-fit-alone : Fit alone
+fit-alone : Fit 2 alone
 fit-alone = fit-after ran fit-ran (stop 1) to-alone
 
 to-full : (after (run 3) alone ≡ full) × (stepsOf (run 3) alone ≡ 3)
 to-full = after-run alone fit-alone 3 (omega arith) (some 2 alone-left)
 
-fit-full : Fit full
+fit-full : Fit 2 full
 fit-full = fit-after alone fit-alone (run 3) (to-full .0)
 
 to-bare : (after (run 1) full ≡ bare) × (stepsOf (run 1) full ≡ 1)
 to-bare = after-run full fit-full 1 (omega arith) (some 2 full-left)
 
-fit-bare : Fit bare
+fit-bare : Fit 2 bare
 fit-bare = fit-after full fit-full (run 1) (to-bare .0)
 
 to-joined : after (start 1) bare ≡ joined
 to-joined = after-start bare fit-bare 1 (omega arith)
 
-fit-joined : Fit joined
+fit-joined : Fit 2 joined
 fit-joined = fit-after bare fit-bare (start 1) to-joined
 
 to-cleared : after (empty 0) joined ≡ cleared
 to-cleared = after-empty joined fit-joined 0 (omega arith)
 
-fit-cleared : Fit cleared
+fit-cleared : Fit 2 cleared
 fit-cleared = fit-after joined fit-joined (empty 0) to-cleared
 
 to-none : after (start 9) cleared ≡ cleared
@@ -324,6 +274,12 @@ pub untouched-empty : emptyCall full 9 .world ≡ full
 unfolding emptyCall
 untouched-empty = refused-means-untouched .empty full 9 (some 9 (numbered 10 0 (no-verdict full fit-full 9 (omega arith))))
 
+pub untouched-house : readCall full 0 8192 1 (0 ∷ []) .house ≡ full .house
+unfolding readCall readVerdict firstOf
+untouched-house =
+    refused-means-untouched .read full 0 8192 1 (0 ∷ [])
+    (some 11 (simp (fit-full .whole, eq-eqb (length (full .memory)) (full .house .words) (fit-full .size), fit-full .count) (unfold computing in refl))) .0
+
 pub untouched-read : readCall full 0 8192 1 (0 ∷ []) .output ≡ 0 ∷ []
 unfolding readCall readVerdict firstOf
 untouched-read =
@@ -371,6 +327,69 @@ isolated =
     (length-set (full .memory) 2048 7 ∙ fit-full .size)
     (rw full-current agree)
 
+-- the one part and the other: own frames agree after it, frame 2 is kept in each, and partition 1's record, registers, shadow and queue stay
+pub isolated-words : (getD (hostStep (world (full .house) (elsewhere 2048)) .memory) 2048 0 ≡ 7)
+    × (getD (hostStep full .memory) 1 0 ≡ getD (hostStep (world (full .house) (elsewhere 2048)) .memory) 1 0)
+isolated-words = (
+  isolated .3 2 0 (foreign 2 (λ e. omega arith) (λ e. omega arith)) (omega arith) ∙ (unfold computing in refl),
+  subst (λ (x : ℕ). getD (hostStep full .memory) x 0 ≡ getD (hostStep (world (full .house) (elsewhere 2048)) .memory) x 0) place
+      (subst (λ (x : ℕ). AgreeOn (full .house) x (hostStep full .memory) (hostStep (world (full .house) (elsewhere 2048)) .memory)) full-current (isolated .1) 1 1 (unfold computing in omega arith) (omega arith)),
+)
+  where
+    place : getD (framesOf (full .house) 0) 1 0 * 1024 + 1 ≡ 1
+    place = unfold computing in refl
+
+    foreign : (f : ℕ) → (f ≡ 3 → ⊥) → (f ≡ 0 → ⊥) → Own (framesOf (full .house) (full .house .current)) (pagesOf (full .house) (full .house .current)) f → ⊥
+    foreign f a b o = both (λ (x : ℕ). x ≡ f → ⊥) (λ e. a (sym e)) (λ e. b (sym e)) (o .0)
+        (subst (λ (x : ℕ). o .0 < pagesOf (full .house) x) full-current (o .1))
+        (subst (λ (x : ℕ). getD (framesOf (full .house) x) (o .0) 0 ≡ f) full-current (o .2))
+
+-- ---- a shadow that is wrong: entry 0 of partition 0 names its frame 0, and the table gives frame 3
+
+abbrev astray : List ℕ
+astray = set (full .house .shadows) 0 (entryOf 0 0)
+
+abbrev misled : House
+misled = changed (full .house) (full .house .running) (turn (full .house .current) (full .house .left)) astray
+
+pub misled-wrong : (byShadow (world misled (full .memory)) 0 false true 4 ≡ word 1) × (byTable (world misled (full .memory)) 0 false true 4 ≡ word 3073)
+unfolding listed loneFound loneOf
+misled-wrong = unfold computing in (refl, refl)
+
+misled-right : ShadowsRight (full .house) astray
+misled-right =
+    let h = full .house in
+    let u = undamaged-gives h (fit-full .whole) in
+    record {
+      long = length-set (h .shadows) 0 (entryOf 0 0) ∙ fit-full .typed .shaped .shadows;
+      proper = λ i px l m.
+          subst (Proper (framesOf h i) (pagesOf h i)) (sym (part-at astray (i * 256) 256 px m))
+          (getD-set-elim (Proper (framesOf h i) (pagesOf h i)) (h .shadows) 0 (i * 256 + px) (entryOf 0 0) 0
+          (λ z. let e : i ≡ 0 = omega arith in subst (λ (x : ℕ). Proper (framesOf h x) (pagesOf h x) (entryOf 0 0)) (sym e) other-frame)
+          (subst (Proper (framesOf h i) (pagesOf h i)) (part-at (h .shadows) (i * 256) 256 px m) (u .proper i px l m)));
+      none = λ i k l b m.
+          part-at astray (i * 256) 256 k m
+          ∙ getD-set-other (h .shadows) 0 (i * 256 + k) (entryOf 0 0) 0 (λ z. omega (arith, fit-full .count))
+          ∙ sym (part-at (h .shadows) (i * 256) 256 k m)
+          ∙ u .unused i l b .shadows k m;
+      words = λ k. getD-set-elim (λ (x : ℕ). x < 2 ^ 32) (h .shadows) 0 k (entryOf 0 0) 0 (λ _. omega arith) (fit-full .typed .shadows k);
+    }
+  where
+    other-frame : Proper (framesOf (full .house) 0) (pagesOf (full .house) 0) (entryOf 0 0)
+    other-frame = unfold computing in record { own = λ _. (1, omega arith, refl); bits = λ _. refl; empty = λ e. one-way true refl e }
+
+misled-stays : Stays full (world misled (full .memory))
+misled-stays =
+    let u = undamaged-gives (full .house) (fit-full .whole) in
+    changed-stays (full .house) (full .memory) u (fit-full .typed) (full .house .running) (turn (full .house .current) (full .house .left)) astray
+    (same-flags (full .house) (full .memory) u (fit-full .typed)) (record { idle = u .idle; busy = u .busy }) misled-right
+
+pub isolated-misled : hostStep (world misled (full .memory)) .house ≡ hostStep (world misled (elsewhere 2048)) .house
+isolated-misled =
+    isolation-demand misled (full .memory) (elsewhere 2048) (misled-stays .typed .shaped) (misled-stays .whole) (some 2 full-left) (fit-full .size)
+    (length-set (full .memory) 2048 7 ∙ fit-full .size)
+    (rw full-current agree) .0
+
 agree-all : (i : ℕ) → i < full .house .count → AgreeOn (full .house) i (full .memory) (elsewhere 1024)
 agree-all zero n k j l m = both (Same 1024 j) (same 1024 j 3 (λ e. omega arith)) (same 1024 j 0 (λ e. omega arith)) k l
 agree-all (suc zero) n k j l m = only (Same 1024 j) (same 1024 j 2 (λ e. omega arith)) k l
@@ -386,6 +405,28 @@ ended-whole = never-damaged two-guests memory-words ended grown-ended
 
 pub stepped : StepOf ended (hostStep ended) (ended .house .current)
 stepped = step-demand two-guests ended grown-ended (some 1 ended-left)
+
+-- each part of it: partition 0 makes its eleventh step and keeps the turn, and nothing of partition 1's changes
+ended-current : ended .house .current ≡ 0
+ended-current = unfold computing in refl
+
+pub stepped-own : loneOf (hostStep ended) (ended .house .current) ≡ (let i = ended .house .current in let o = step (loneMemory (pagesOf (ended .house) i)) (loneAnswer ended i) (loneOf ended i) in (o .0 .core, o .1))
+stepped-own = stepped .own
+
+pub stepped-other : loneOf (hostStep ended) 1 ≡ loneOf ended 1
+stepped-other = stepped .others 1 (unfold computing in omega arith) (λ e. omega (arith, ended-current))
+
+pub stepped-counters : (partition (hostStep ended .house) 0 .counter ≡ 11) × (partition (hostStep ended .house) 1 .counter ≡ 2)
+stepped-counters = (
+  stepped .counters 0 (unfold computing in omega arith) ∙ (unfold computing in refl),
+  stepped .counters 1 (unfold computing in omega arith) ∙ (unfold computing in refl),
+)
+
+pub stepped-turn : turn (hostStep ended .house .current) (hostStep ended .house .left) ≡ turn 0 1
+stepped-turn = stepped .turns ∙ (unfold computing loneAnswer loneAsks loneOf loneRead loneFound ruled in refl)
+
+pub stepped-running : hostStep ended .house .running ≡ ended .house .running
+stepped-running = stepped .running
 
 pub within : Grown two-guests (hostSteps 3 begun) × (hostSteps 3 begun .house .left ≡ 0 → ⊥)
 unfolding runCall
@@ -436,6 +477,12 @@ equal-by-counter =
     equal-counters two-guests (filling ++ emptying) aside 0 l (omega (arith, ten-turns)) (omega (arith, ten-aside)) same-answers
     (histories-demand two-guests (filling ++ emptying) 0 l .1 ∙ ap (λ (n : ℕ). n % 2 ^ 64) (ten-turns ∙ sym ten-aside) ∙ sym (histories-demand two-guests aside 0 l .1))
 
+-- the counters tell for as long as a house can run: a million million calls of a million steps
+pub counters-tell : (cs cs′ : List Call) → turnsMade cs begun 0 ≤ 10 ^ 18 → turnsMade cs′ begun 0 ≤ 10 ^ 18 → SameAnswers two-guests cs cs′ 0
+    → partition (history cs begun .house) 0 .counter ≡ partition (history cs′ begun .house) 0 .counter
+    → loneOf (history cs begun) 0 ≡ loneOf (history cs′ begun) 0
+counters-tell cs cs′ l l′ s e = equal-counters two-guests cs cs′ 0 (below-two 0 (omega arith)) (omega arith) (omega arith) s e
+
 pub unequal : ended ≡ far → ⊥
 unequal e = one-way (runs (far .house) 1) (ap (λ (w : World). runs (w .house) 1) (sym e) ∙ again) never
   where
@@ -460,9 +507,21 @@ enough : stepsMade emptying full ≡ 5
 unfolding stepsMade
 enough = simp (to-read, to-bare .0, to-joined, to-cleared, to-none, to-bare .1, to-ended .1) (unfold stepsOf in refl)
 
-stays : staysRunning emptying full 0 ≡ true
-unfolding staysRunning
-stays = simp (to-read, to-bare .0, to-joined, to-cleared, to-none, to-ended .0) (unfold computing in refl)
+stays : StaysRunning emptying full 0
+stays =
+    runs-onward _ _ full full 0 at-full (to-read 0 4096 2 (0 ∷ 0 ∷ []) full)
+    (runs-onward _ _ full bare 0 at-full (to-bare .0)
+    (runs-onward _ _ bare joined 0 (unfold computing in refl) to-joined
+    (runs-onward _ _ joined cleared 0 (unfold computing in refl) to-cleared
+    (runs-onward _ _ cleared cleared 0 at-cleared to-none
+    (runs-onward _ _ cleared ended 0 at-cleared (to-ended .0)
+    (runs-at-end ended 0 (unfold computing in refl)))))))
+  where
+    at-full : runs (full .house) 0 ≡ true
+    at-full = unfold computing in refl
+
+    at-cleared : runs (cleared .house) 0 ≡ true
+    at-cleared = unfold computing in refl
 
 bound : (length (two-guests .pages) - 1) * two-guests .q + 1 ≡ 4
 unfolding two-guests
@@ -474,8 +533,8 @@ fair = fairness-demand two-guests full grown-full emptying 0 (below-two 0 (omega
 pub just-fair : 0 < turnsMade (run 4 ∷ []) begun 1
 just-fair = fairness-demand two-guests begun grown-begun (run 4 ∷ []) 1 (below-two 1 (omega arith)) runs-on (omega (arith, bound, four))
   where
-    runs-on : staysRunning (run 4 ∷ []) begun 1 ≡ true
-    runs-on = unfold staysRunning in simp (to-ran .0) (unfold computing in refl)
+    runs-on : StaysRunning (run 4 ∷ []) begun 1
+    runs-on = runs-onward _ _ begun ran 1 (unfold computing in refl) (to-ran .0) (runs-at-end ran 1 (unfold computing in refl))
 
     four : stepsMade (run 4 ∷ []) begun ≡ 4
     four = unfold stepsMade in simp (to-ran .1) (unfold stepsOf in refl)

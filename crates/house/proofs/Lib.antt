@@ -1,9 +1,11 @@
 pub mod Checked
+pub mod ClosedCalls
 pub mod Conditions
 pub mod Counted
 pub mod Damage
 pub mod Demands
 pub mod Emptied
+pub mod FairInstance
 pub mod Fairness
 pub mod FreshGuests
 pub mod FreshHouse

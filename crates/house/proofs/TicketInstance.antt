@@ -1,7 +1,7 @@
 -- Tickets are sent, refused and taken in a history from a boot, and the demand on them says so: nothing is proved of nothing.
 use mathlib.Core.Path.{_≡_, refl, sym, ap, _∙_}
 use mathlib.Core.List.{List, [], _∷_, _++_}
-use Prim.Native.Nat.{ℕ}
+use Prim.Native.Nat.{ℕ, _+_}
 use native.Mathlib.Omega.{arith}
 use borrow.Author.Tests.{eq-eqb, ne-eqb}
 use lib.Count.{trailingZeros}
@@ -17,13 +17,14 @@ use Rattle.translate.specs.Walk.{walked, direct}
 use Rattle.translate.specs.Memory.{loneFound, loneRead, hosted, given, filled, looked, served, hostRead, emptied, hostWritten, hostReads, hostWrites}
 use Rattle.dlx.specs.Parts.{inner, outer}
 use Rattle.house.specs.Lists.{listFrom, any, firstFrom}
-use Rattle.tickets.specs.Queues.{sending, taking, desk, queueOf, oldest, ruled, sentTo, takenBy}
+use Rattle.tickets.specs.Queues.{waitingOf, sending, taking, desk, queueOf, oldest, ruled, sentTo, takenBy}
+use Rattle.house.specs.Tickets.{queuesOf}
 use Rattle.house.specs.Boot.{sum, firstOf, bootVerdict, laid, offset, bootedHouse}
 use Rattle.house.specs.Turns.{World, nextFrom, turnOf, requestNow, replyNow, queuesNext, guestStep, settledHouse, stepWith, hostStep, hostSteps}
 use Rattle.house.specs.Calls.{runVerdict, runCall}
 use Rattle.house.specs.Histories.{Boot, booted, Call, run, history, stepsOf, loneOf, loneAsks, loneAnswer, eventOf, logIn, logOf, each, answersTo, ticketsTo, ticketsOff, queueIn}
 use Rattle.house.proofs.FreshHouse.{booted-whole}
-use Rattle.house.proofs.Demands.{tickets-demand}
+use Rattle.house.proofs.Demands.{tickets-demand, ticket-counts}
 
 -- partition 0: register 1 = 7, register 2 = 1, three sends to partition 1, each of one more
 abbrev sender : List ℕ
@@ -85,6 +86,10 @@ answered = simp steps-made (unfold logging in refl)
 -- so one waits: by the demand, and by computing
 pub waits : 7 ∷ 8 ∷ 9 ∷ [] ≡ (7 ∷ 8 ∷ []) ++ queueIn (history calls begun) 1
 waits = sym sent ∙ tickets-demand ticket-guests calls 1 (unfold ticket-guests in omega arith) ∙ ap (λ l. l ++ queueIn (history calls begun) 1) took
+
+-- three sent are two taken and one waiting
+pub counts : 3 ≡ 2 + waitingOf (queuesOf (history calls begun .house)) 1
+counts = sym (ap length sent) ∙ ticket-counts ticket-guests calls 1 (unfold ticket-guests in omega arith) ∙ ap (λ (l : List ℕ). length l + waitingOf (queuesOf (history calls begun .house)) 1) took
 
 pub waits-there : queueIn (hostSteps 13 begun) 1 ≡ 9 ∷ []
 waits-there = unfold logging in refl

@@ -16,7 +16,7 @@ use Rattle.house.specs.Damage.{damaged}
 use Rattle.house.specs.Turns.{World, world, turn, turnOf, guest, hostStep, hostSteps}
 use Rattle.house.specs.Sound.{Shaped, LaidOut}
 use Rattle.house.specs.Calls.{Answered, bootCall, runCall, startCall, stopCall, emptyCall, readCall}
-use Rattle.house.specs.Histories.{Boot, booted, Call, history, Grown, turnsMade, stepsMade, staysRunning, loneOf, loneAtBoot, queueIn, loneAsks, loneAnswer, logOf, ticketsTo, ticketsOff, feedOf}
+use Rattle.house.specs.Histories.{Boot, booted, Call, history, Grown, turnsMade, stepsMade, StaysRunning, loneOf, loneAtBoot, queueIn, loneAsks, loneAnswer, logOf, ticketsTo, ticketsOff, feedOf}
 use Rattle.tickets.specs.Queues.{waitingOf, queueOf, lined, Moved}
 use Rattle.house.specs.Tickets.{queuesOf}
 use Rattle.house.specs.declared.House.{House}
@@ -83,6 +83,18 @@ RunIsolation = (h : House) (m m′ : List ℕ) (k : ℕ) → Shaped h → length
     getD (a .world .memory) (f * 1024 + j) 0 ≡ getD m (f * 1024 + j) 0)
 
 -- ---- demand 2: w is any house and memory grown from a boot by calls, done or refused
+
+-- Every boot that is done is a `Boot` of those very arguments, and what it left is what all histories begin with.
+pub record BootOf (ps : List ℕ) (q : ℕ) (fr m : List ℕ) : Type 0 where
+  pub boot : Boot
+  pub pages : boot .pages ≡ ps
+  pub turns : boot .q ≡ q
+  pub frames : boot .frames ≡ fr
+  pub memory : boot .memory ≡ m
+  pub left : bootCall ps q fr m .world ≡ booted boot
+
+abbrev pub EveryBoot : Type 0
+EveryBoot = (ps : List ℕ) (q : ℕ) (fr m : List ℕ) → bootCall ps q fr m .verdict .number ≡ 0 → BootOf ps q fr m
 
 -- Never damaged, the memory's words being what their type gives: no call is refused with 8, so that refusing all is no answer.
 abbrev pub NeverDamaged : Type 0
@@ -179,5 +191,5 @@ ReadsThosePages = (b : Boot) (w : World) → Grown b w → (i a n : ℕ) (out : 
 
 -- Fairness: over any stretch of a history in which a partition stays running and (n-1)q+1 host steps are made, it makes a step.
 abbrev pub Fairness : Type 0
-Fairness = (b : Boot) (w : World) → Grown b w → (cs : List Call) (i : ℕ) → i < length (b .pages) → staysRunning cs w i ≡ true →
+Fairness = (b : Boot) (w : World) → Grown b w → (cs : List Call) (i : ℕ) → i < length (b .pages) → StaysRunning cs w i →
     (length (b .pages) - 1) * b .q + 1 ≤ stepsMade cs w → 0 < turnsMade cs w i

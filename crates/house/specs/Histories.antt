@@ -1,6 +1,6 @@
 -- Histories: a boot that is done, then any calls, house and memory handed on untouched; and the lone machine of each partition.
 use mathlib.Core.Path.{_≡_}
-use mathlib.Core.Bool.{Bool, _&&_}
+use mathlib.Core.Bool.{true}
 use mathlib.Core.List.{List, [], _∷_, _++_}
 use Prim.Native.Nat.{ℕ, zero, suc, _+_, _*_, _/_, _%_}
 use lib.Dec.{eqb}
@@ -78,10 +78,9 @@ unfoldable pub turnsMade : List Call → World → ℕ → ℕ
 turnsMade [] w i = 0
 turnsMade (c ∷ cs) w i = turnsIn (stepsOf c w) w i + turnsMade cs (after c w) i
 
--- partition i is running before and after each call
-unfoldable pub staysRunning : List Call → World → ℕ → Bool
-staysRunning [] w i = runs (w .house) i
-staysRunning (c ∷ cs) w i = runs (w .house) i && staysRunning cs (after c w) i
+-- partition i stays running: it runs after every prefix of the calls
+abbrev pub StaysRunning : List Call → World → ℕ → Type 0
+StaysRunning cs w i = (first rest : List Call) → cs ≡ first ++ rest → runs (history first w .house) i ≡ true
 
 -- ---- the lone machine of partition i: its registers and special registers, its table, and the words of its pages
 
