@@ -1,7 +1,7 @@
 -- Which text each answer gives.
 use mathlib.Core.Path.{_≡_, refl, ap, sym, _∙_}
 use mathlib.Core.Bool.{Bool, true, false, not, _&&_}
-use mathlib.Core.List.{List, _++_}
+use mathlib.Core.List.{List, [], _++_}
 use Prim.Native.Nat.{ℕ, min, _^_, _<_}
 use native.Mathlib.Omega.{arith}
 use borrow.Author.Tests.{eq-eqb, ne-eqb}
@@ -12,11 +12,14 @@ use Rattle.house.specs.Boot.{Verdict, verdict}
 use Rattle.house.specs.Turns.{World}
 use Rattle.house.specs.Calls.{Answered, answered, bootCall, runCall}
 use Rattle.housefile.specs.Records.{Reading, wrong, right, File, verdictOf, readingOf}
-use Rattle.housefile.specs.Reader.{Read, noRead, fed, answerOf}
+use Rattle.housefile.specs.Reader.{Read, read, noRead, fed, answerOf}
+use Rattle.housefile.specs.declared.Reader.{Reader}
 use Rattle.housefile.proofs.WholeFile.{reads}
 use Rattle.housefile.proofs.Parts.{take-there}
 use Rattle.report.specs.Report.{reportOf, refusedText}
-use Rattle.night.specs.Printed.{put, afterRun, afterBoot, printed}
+use Rattle.night.specs.Pieces.{AllOf}
+use Rattle.night.specs.Printed.{put, afterRun, afterBoot, printed, told}
+use Rattle.night.specs.declared.input.Taken.{Taken}
 
 -- the text t, put as it is, is the text t′
 pub put-as : (t t′ out : List ℕ) (n : ℕ) (now : List ℕ) → n ≡ length t → now ≡ t ++ drop (length t) out → t ≡ t′ → (n, now) ≡ put t′ out
@@ -32,6 +35,12 @@ run-refused n d w a e z = sym (ap afterRun (sym e) ∙ rw (ne-eqb n 0 z))
 pub run-done : (n d : ℕ) (w : World) (a : Answered) → answered (verdict n d) w ≡ a → n ≡ 0 → reportOf (w .house) ≡ afterRun a
 unfolding afterRun
 run-done n d w a e z = sym (ap afterRun (sym e) ∙ rw (eq-eqb n 0 z))
+
+-- the lists, taken as far as they go, are the file's
+pub lists-taken : (lists total : ℕ) (pages frames memory : List ℕ) (q n k : ℕ) → n ≡ min lists (length pages) → k ≡ min total (length frames) →
+    bootCall (take n pages) q (take k frames) memory ≡ bootCall (take lists pages) q (take total frames) memory
+lists-taken lists total pages frames memory q n k l t =
+    rw (ap (λ (i : ℕ). take i pages) l ∙ take-there lists pages, ap (λ (i : ℕ). take i frames) t ∙ take-there total frames)
 
 pub boot-refused : (n d : ℕ) (w : World) (steps : ℕ) (a : Answered) → answered (verdict n d) w ≡ a → (n ≡ 0 → ⊥) → refusedText n d ≡ afterBoot a steps
 unfolding afterBoot
@@ -56,13 +65,19 @@ pub file-done : (n d : ℕ) (s : Read) → verdict n d ≡ verdictOf (answerOf s
 unfolding printed answerOf
 file-done n d s e z = chosen (not (s .reader .wrong) && eqb (s .reader .last) 4) _ (s .reader .start) n d e z
 
--- the same, with the lists taken as far as they go
-pub file-taken : (n d : ℕ) (s : Read) (lists total : ℕ) → verdict n d ≡ verdictOf (answerOf s) → n ≡ 0 →
-    lists ≡ min (s .reader .lists) (length (s .pages)) → total ≡ min (s .reader .total) (length (s .frames)) →
-    afterBoot (bootCall (take lists (s .pages)) (getD (s .turns) 0 0) (take total (s .frames)) (s .memory)) (getD (s .turns) 1 0) ≡ printed (answerOf s)
-file-taken n d s lists total e z l t =
-    rw (ap (λ (k : ℕ). take k (s .pages)) l ∙ take-there (s .reader .lists) (s .pages)) (rw (ap (λ (k : ℕ). take k (s .frames)) t ∙ take-there (s .reader .total) (s .frames)) (file-done n d s e z))
-
 -- what is printed, once the whole file is read, is what the file says
 pub night-prints : (bs : List ℕ) → ((i : ℕ) → getD bs i 0 < 256) → length bs < 2 ^ 64 → printed (answerOf (fed noRead bs)) ≡ printed (readingOf bs)
 night-prints bs b l = ap printed (reads bs b l)
+
+-- so it is with the text for what was read
+pub told-nothing : (t : Taken) (bs out : List ℕ) → t .failed ≡ true → (0, out) ≡ put (told t bs) out
+told-nothing t bs out e = ap (λ (b : Bool). put (if b then [] else printed (readingOf bs)) out) (sym e)
+
+pub told-text : (t : Taken) (r : Reader) (turns pages frames memory bs out : List ℕ) (g : ℕ × List ℕ) → t .failed ≡ false → AllOf t bs → r ≡ t .reader →
+    read (t .reader) turns pages frames memory ≡ fed noRead bs → g ≡ put (printed (answerOf (read r turns pages frames memory))) out → g ≡ put (told t bs) out
+told-text t r turns pages frames memory bs out g f all same e h =
+    h
+    ∙ ap (λ (x : Reader). put (printed (answerOf (read x turns pages frames memory))) out) same
+    ∙ ap (λ (x : Read). put (printed (answerOf x)) out) e
+    ∙ ap (λ (x : List ℕ). put x out) (night-prints bs (all .bytes) (all .fits))
+    ∙ ap (λ (b : Bool). put (if b then [] else printed (readingOf bs)) out) (sym f)

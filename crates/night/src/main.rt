@@ -1,19 +1,28 @@
 // night FILE: reads a house file, or standard input where no file is named, boots its house over a memory of 16 zero frames, runs it and
 // prints the report, or `refused N D`.
+mod input;
+mod system;
+
 ghost use mathlib.Core.Path.{_≡_};
+ghost use mathlib.Core.List.{List};
+ghost use Prim.Native.Nat.{ℕ};
+ghost use lib.IntN.{ℤ};
+ghost use lib.ListN.{take};
 ghost use Rattle.house.specs.Turns.{world};
 ghost use Rattle.house.specs.Calls.{runCall, bootCall};
-ghost use Rattle.housefile.specs.Reader.{read, answerOf};
+ghost use Rattle.housefile.specs.Reader.{read, noReader, fed, answerOf};
 ghost use Rattle.report.specs.Put.{Counts};
-ghost use Rattle.night.specs.Printed.{put, afterRun, afterBoot, printed};
+ghost use Rattle.night.specs.Pieces.{input, afterRead, Brought, AllOf};
+ghost use Rattle.night.specs.Printed.{put, afterRun, afterBoot, printed, told};
 use boot::boot;
 use house::House;
 use housefile::Reader;
-use housefile::feed;
 use housefile::finished;
 use housefile::lists;
 use housefile::total;
 use hypervisor::calls::run;
+use input::Taken;
+use input::after_read;
 use libc::STDIN_FILENO;
 use libc::STDOUT_FILENO;
 use report::refused;
@@ -33,8 +42,9 @@ fn after_run(house: House, memory: &mut [u32], steps: u32, out: &mut [u8; 1024])
     report(a.house, out)
 }
 
-// After a boot, and the run where it is done.
+// After a boot of the file's lists, and the run where it is done.
 fn after_boot(
+    r: Reader,
     pages: &[u32],
     q: u32,
     frames: &[u32],
@@ -42,34 +52,16 @@ fn after_boot(
     steps: u32,
     out: &mut [u8; 1024],
 ) -> usize
-    ensures { λ r. ⌜ (r, now (out .exit)) ≡ put (afterBoot (bootCall (now (pages .entry)) q (now (frames .entry)) (now (memory .entry))) steps) (now (out .entry)) ⌝ }
-    ensures { λ r. ⌜ Counts r (now (out .exit)) ⌝ }
+    ensures { λ x. ⌜ (x, now (out .exit)) ≡ put (afterBoot (bootCall (take (r .lists) (now (pages .entry))) q (take (r .total) (now (frames .entry))) (now (memory .entry))) steps) (now (out .entry)) ⌝ }
+    ensures { λ x. ⌜ Counts x (now (out .exit)) ⌝ }
 {
-    let b = boot(pages, q, frames, memory);
+    let n = lists(r, pages);
+    let k = total(r, frames);
+    let b = boot(&pages[..n], q, &frames[..k], memory);
     if b.number != 0 {
         return refused(b.number, b.detail, out);
     }
     after_run(b.house, memory, steps, out)
-}
-
-fn after_lists(
-    r: Reader,
-    turns: &[u32; 2],
-    pages: &[u32],
-    frames: &[u32],
-    memory: &mut [u32],
-    out: &mut [u8; 1024],
-) -> usize
-    ensures { λ x. ⌜ (x, now (out .exit)) ≡ put (printed (answerOf (read r (now (turns .entry)) (now (pages .entry)) (now (frames .entry)) (now (memory .entry))))) (now (out .entry)) ⌝ }
-    ensures { λ r. ⌜ Counts r (now (out .exit)) ⌝ }
-{
-    let f = finished(r);
-    if f.number != 0 {
-        return refused(f.number, f.detail, out);
-    }
-    let n = lists(r, pages);
-    let k = total(r, frames);
-    after_boot(&pages[..n], turns[0], &frames[..k], memory, turns[1], out)
 }
 
 // For the file that the reader has read.
@@ -82,91 +74,82 @@ fn after_file(
     out: &mut [u8; 1024],
 ) -> usize
     ensures { λ x. ⌜ (x, now (out .exit)) ≡ put (printed (answerOf (read r (now (turns .entry)) (now (pages .entry)) (now (frames .entry)) (now (memory .entry))))) (now (out .entry)) ⌝ }
-    ensures { λ r. ⌜ Counts r (now (out .exit)) ⌝ }
+    ensures { λ x. ⌜ Counts x (now (out .exit)) ⌝ }
 {
-    after_lists(r, turns, pages, frames, memory, out)
+    let f = finished(r);
+    if f.number != 0 {
+        return refused(f.number, f.detail, out);
+    }
+    after_boot(r, pages, turns[0], frames, memory, turns[1], out)
 }
 
 // ---- the file
 
-// What one read brought: the reader after it, whether to go on, and whether the read failed.
-struct Piece {
-    reader: Reader,
-    more: bool,
-    failed: bool,
-}
-
+// One read more. What it answers and leaves in the buffer is the system's.
 fn take_piece(
+    t: Taken,
     fd: i32,
-    r: Reader,
     turns: &mut [u32; 2],
     pages: &mut [u32; 8],
     frames: &mut [u32; 2048],
     memory: &mut [u32; 16384],
-) -> Piece {
-    let mut buf = io::large_buffer();
-    let got = libc::read(fd, &mut buf);
-    if got < 0 {
-        return Piece {
-            reader: r,
-            more: false,
-            failed: true,
-        };
-    }
-    if got == 0 {
-        return Piece {
-            reader: r,
-            more: false,
-            failed: false,
-        };
-    }
-    let n = io::count(got, &buf);
-    let reader = feed(r, &buf[..n], turns, pages, frames, memory);
-    Piece {
-        reader,
-        more: true,
-        failed: false,
-    }
+) -> Taken
+    ensures { λ x. ⌜ ((got : ℤ) × (buffer : List ℕ) × Brought got buffer × (input x (now (turns .exit)) (now (pages .exit)) (now (frames .exit)) (now (memory .exit)) ≡ afterRead (input t (now (turns .entry)) (now (pages .entry)) (now (frames .entry)) (now (memory .entry))) got buffer)) ⌝ }
+{
+    let mut buffer = io::large_buffer();
+    let answer = system::read(fd, &mut buffer);
+    after_read(t, answer, &buffer, turns, pages, frames, memory)
 }
 
-// A proved loop has to end, and nothing says that a file does: it counts its turns down, from a number that no run uses up.
+// Reads what is open as fd to its end.
 fn take_file(
     fd: i32,
     turns: &mut [u32; 2],
     pages: &mut [u32; 8],
     frames: &mut [u32; 2048],
     memory: &mut [u32; 16384],
-) -> Piece {
-    let mut left = u64::MAX;
-    let mut reader = Reader::none();
-    while left > 0 {
-        let p = take_piece(fd, reader, turns, pages, frames, memory);
-        if !p.more {
-            return p;
-        }
-        reader = p.reader;
-        left -= 1;
+) -> Taken
+    ensures { λ x. ⌜ ((bs : List ℕ) × AllOf x bs × (read (x .reader) (now (turns .exit)) (now (pages .exit)) (now (frames .exit)) (now (memory .exit)) ≡ fed (read noReader (now (turns .entry)) (now (pages .entry)) (now (frames .entry)) (now (memory .entry))) bs)) ⌝ }
+{
+    let mut t = Taken::none();
+    while t.more() {
+        t = take_piece(t, fd, turns, pages, frames, memory);
     }
-    Piece {
-        reader,
-        more: false,
-        failed: true,
-    }
+    t
 }
 
-// Reads what is open as fd, and prints. A read that fails prints nothing and says why.
-fn night(fd: i32, name: &[u8]) {
+// What was read, and the length of the text for it.
+struct Text {
+    taken: Taken,
+    length: usize,
+}
+
+// Reads what is open as fd, over 16 zero frames, and puts the text for it at the buffer's start; none where a read failed.
+fn text_for(fd: i32, out: &mut [u8; 1024]) -> Text
+    ensures { λ x. ⌜ ((bs : List ℕ) × AllOf (x .taken) bs × ((x .length, now (out .exit)) ≡ put (told (x .taken) bs) (now (out .entry)))) ⌝ }
+    ensures { λ x. ⌜ Counts (x .length) (now (out .exit)) ⌝ }
+{
     let mut turns = [0u32; 2];
     let mut pages = [0u32; 8];
     let mut frames = [0u32; 2048];
     let mut memory = [0u32; 16384];
-    let p = take_file(fd, &mut turns, &mut pages, &mut frames, &mut memory);
-    if p.failed {
+    let taken = take_file(fd, &mut turns, &mut pages, &mut frames, &mut memory);
+    if taken.failed() {
+        return Text { taken, length: 0 };
+    }
+    let length = after_file(taken.reader(), &turns, &pages, &frames, &mut memory, out);
+    Text { taken, length }
+}
+
+// Reads what is open as fd, and prints. A read that fails prints nothing and says why.
+fn night(fd: i32, name: &[u8]) {
+    let mut out = [0u8; 1024];
+    let x = text_for(fd, &mut out);
+    if x.taken.failed() {
         os::fail(name);
         return;
     }
-    let mut out = [0u8; 1024];
-    let n = after_file(p.reader, &turns, &pages, &frames, &mut memory, &mut out);
+    let n = x.length;
     if !io::write_all(STDOUT_FILENO, &out[..n]) {
         os::fail(b"standard output");
     }

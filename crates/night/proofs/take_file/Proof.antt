@@ -1,36 +1,47 @@
+use mathlib.Core.Path.{sym, subst, _∙_}
+use Prim.Native.Nat.{_<_}
 use native.Mathlib.Omega.{arith}
+use borrow.Author.Tests.{not-true, not-false}
+use Rattle.housefile.specs.Reader.{read, noReader}
+use Rattle.night.specs.Pieces.{Input, input}
+use Rattle.night.proofs.Pieces.{Held, held-none, held-more, left, falls}
 use Rattle.night.proofs.take_file.Statement.{statement}
 use Rattle.night.proofs.take_file.Tie as tie
 
 abbrev Inv-loop : tie.InvT-loop
-Inv-loop fd turns₀ pages₀ frames₀ memory₀ left₀ reader₀ turns pages frames memory left reader = Unit {0}
+Inv-loop fd turns₀ pages₀ frames₀ memory₀ t₀ turns pages frames memory t = Held (read noReader turns₀ pages₀ frames₀ memory₀) (input t turns pages frames memory)
 
 abbrev μ-loop : tie.MeasureT-loop
-μ-loop fd turns₀ pages₀ frames₀ memory₀ left₀ reader₀ turns pages frames memory left reader = left
+μ-loop fd turns₀ pages₀ frames₀ memory₀ t₀ turns pages frames memory t = left (input t turns pages frames memory)
 
 none-requires : tie.Need-none-requires Inv-loop μ-loop
 none-requires c κs = tt
 
 loop-holds : tie.Need-loop-holds Inv-loop μ-loop
-loop-holds c = tt
+loop-holds c = held-none _ _ _ _ _ (c .none .ensures)
+
+more-requires : tie.Need-more-requires Inv-loop μ-loop
+more-requires c κs = tt
 
 take-piece-requires : tie.Need-take-piece-requires Inv-loop μ-loop
 take-piece-requires c κs = tt
 
-returns : tie.Need-returns Inv-loop μ-loop
-returns c = tt
-
-sub-left : tie.Need-sub-left Inv-loop μ-loop
-sub-left c = omega arith
-
 loop-less : tie.Need-loop-less Inv-loop μ-loop
-loop-less c = omega arith
+loop-less c =
+    let h = c .before .before .before .before .before .before .before .loop .inv .1 in
+    let e = c .take-piece .ensures in
+    falls _ _ (e .0) (e .1) (e .3) (not-true _ (sym (c .before .before .before .before .before .before .more .ensures) ∙ c .before .before .before .before .before .if1 .taken)) (omega (arith, h .fits, h .count))
 
 loop-again : tie.Need-loop-again Inv-loop μ-loop
-loop-again c = tt
+loop-again c =
+    let e = c .take-piece .ensures in
+    subst (Held _) (sym (e .3)) (held-more _ _ (e .0) (e .1) (e .2) (c .before .before .before .before .before .before .before .loop .inv))
 
-returns-2 : tie.Need-returns-2 Inv-loop μ-loop
-returns-2 c = tt
+returns : tie.Need-returns Inv-loop μ-loop
+returns c =
+    let h = c .before .before .loop .inv .1 in
+    let done = not-false _ (sym (c .before .more .ensures) ∙ c .if1 .left) in
+    (c .before .before .loop .inv .0, record { bytes = h .bytes; count = h .count; fits = h .fits; ended = done }, h .stands)
 
 pub take-file-spec : {M : Type 1} → statement M
 take-file-spec =
@@ -40,9 +51,8 @@ take-file-spec =
     μ-loop
     none-requires
     loop-holds
+    more-requires
     take-piece-requires
-    returns
-    sub-left
     loop-less
     loop-again
-    returns-2)
+    returns)

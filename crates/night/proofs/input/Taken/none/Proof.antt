@@ -1,0 +1,13 @@
+use mathlib.Core.Path.{ap}
+use borrow.Author.Needs.{needs}
+use Rattle.night.proofs.input.Taken.none.Statement.{statement}
+use Rattle.night.proofs.input.Taken.none.Tie as tie
+
+none-requires : tie.Need-none-requires
+none-requires c κs = search needs
+
+returns : tie.Need-returns
+returns c = simp (c .none .ensures)
+
+pub none-spec : {M : Type 1} → statement M
+none-spec = tie.close (tie.spec none-requires returns)
