@@ -7,6 +7,7 @@ use native.Mathlib.Omega.{arith}
 use borrow.Author.Tests.{eq-eqb, ne-eqb}
 use lib.Dec.{eqb}
 use lib.ListN.{length, getD, drop, take}
+use lib.Seq.{take-at}
 use Rattle.dlx.specs.Choice.{if_then_else_}
 use Rattle.house.specs.Boot.{Verdict, verdict}
 use Rattle.house.specs.Turns.{World}
@@ -27,6 +28,10 @@ put-as t t′ out n now l h e = ap (λ (x : ℕ). (x, now)) l ∙ ap (λ (x : Li
 
 pub put-same : (t t′ out : List ℕ) (g : ℕ × List ℕ) → g ≡ put t out → t ≡ t′ → g ≡ put t′ out
 put-same t t′ out g h e = h ∙ ap (λ (x : List ℕ). put x out) e
+
+-- and stands there
+pub put-there : (t out now : List ℕ) (n : ℕ) → (n, now) ≡ put t out → take n now ≡ t
+put-there t out now n e = ap (λ (g : ℕ × List ℕ). take (g .0) (g .1)) e ∙ take-at t (drop (length t) out) (length t) refl
 
 pub run-refused : (n d : ℕ) (w : World) (a : Answered) → answered (verdict n d) w ≡ a → (n ≡ 0 → ⊥) → refusedText n d ≡ afterRun a
 unfolding afterRun

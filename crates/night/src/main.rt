@@ -141,6 +141,15 @@ fn text_for(fd: i32, out: &mut [u8; 1024]) -> Text
     Text { taken, length }
 }
 
+// Prints a text: the one for all bytes that were read.
+fn show(t: Taken, text: &[u8])
+    requires { ⌜ ((bs : List ℕ) × AllOf t bs × (now text ≡ told t bs)) ⌝ }
+{
+    if !io::write_all(STDOUT_FILENO, text) {
+        os::fail(b"standard output");
+    }
+}
+
 // Reads what is open as fd, and prints. A read that fails prints nothing and says why.
 fn night(fd: i32, name: &[u8]) {
     let mut out = [0u8; 1024];
@@ -150,9 +159,7 @@ fn night(fd: i32, name: &[u8]) {
         return;
     }
     let n = x.length;
-    if !io::write_all(STDOUT_FILENO, &out[..n]) {
-        os::fail(b"standard output");
-    }
+    show(x.taken, &out[..n]);
 }
 
 fn is_help(word: &[u8]) -> bool {

@@ -1,0 +1,43 @@
+use Rattle.night.proofs.Texts.{put-there}
+use borrow.Author.Needs.{needs}
+use Rattle.night.proofs.night.Statement.{statement}
+use Rattle.night.proofs.night.Tie as tie
+
+text-for-requires : tie.Need-text-for-requires
+text-for-requires c κs = search needs
+
+failed-requires : tie.Need-failed-requires
+failed-requires c κs = search needs
+
+fail-requires : tie.Need-fail-requires
+fail-requires c κs = search needs
+
+returns : tie.Need-returns
+returns c = search needs
+
+array-share-prefix-out : tie.Need-array-share-prefix-out
+array-share-prefix-out c = search needs
+
+slice-aggregate-show : tie.Need-slice-aggregate-show
+slice-aggregate-show c = search needs
+
+show-requires : tie.Need-show-requires
+show-requires c κs =
+    let e = c .before .before .before .text-for .ensures .0 in
+    (e .0, e .1, put-there _ _ _ _ (e .2))
+
+returns-2 : tie.Need-returns-2
+returns-2 c = search needs
+
+pub night-spec : {M : Type 1} → statement M
+night-spec =
+    tie.close
+    (tie.spec
+    text-for-requires
+    failed-requires
+    fail-requires
+    returns
+    array-share-prefix-out
+    slice-aggregate-show
+    show-requires
+    returns-2)
