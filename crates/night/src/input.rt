@@ -85,9 +85,10 @@ pub fn after_read(
         return over(t, true);
     }
     let reader = feed(t.reader, &buffer[..n], turns, pages, frames, memory);
+    let bytes = t.bytes + size;
     Taken {
         reader,
-        bytes: t.bytes + size,
+        bytes,
         ended: false,
         failed: false,
     }

@@ -31,8 +31,8 @@ slice-aggregate-feed c = search needs
 feed-requires : tie.Need-feed-requires
 feed-requires c κs = search needs
 
-add-t13 : tie.Need-add-t13
-add-t13 c = search needs
+add-bytes : tie.Need-add-bytes
+add-bytes c = search needs
 
 returns-3 : tie.Need-returns-3
 returns-3 c = (read-some _ _ _ _ (c .before .before .before .before .before .before .before .before .before .before .count .ensures .0) (c .before .before .before .before .before .before .before .before .before .before .count .ensures .1) (c .before .before .before .before .before .before .before .before .before .if1 .left) _ (omega (arith, c .before .before .before .before .before .before .before .before .before .if1 .left, c .before .before .before .before .before .before .before .if2 .left)) (c .before .feed .ensures), λ i. omega (arith, c .before .before .before .before .before .before .before .before .before .before .before .shared-slice-known .given i))
@@ -50,5 +50,5 @@ after-read-spec =
     returns-2
     slice-aggregate-feed
     feed-requires
-    add-t13
+    add-bytes
     returns-3)
