@@ -7,7 +7,7 @@ use std::thread;
 
 use crate::counts::Counts;
 use crate::generate::{self, File, Script};
-use crate::housefile;
+use crate::housefile::{self, PIECE};
 use crate::named;
 use crate::process::{Program, Reply};
 use crate::script::{self, Command, Player};
@@ -384,8 +384,7 @@ fn compare_files(
     let results = in_parallel(files.len(), jobs, |at| {
         let mut counts = Counts::default();
         let ours = housefile::night(&files[at].bytes, &mut counts);
-        let reply = night.run(&files[at].bytes);
-        reply.map(|reply| (counts, ours, file_text(reply)))
+        told(night, &files[at].bytes).map(|theirs| (counts, ours, theirs))
     });
     let mut total = Counts::default();
     let mut differences = Vec::new();
@@ -399,6 +398,17 @@ fn compare_files(
     Ok((total, differences))
 }
 
+/// What the program says of a file. One that takes more than a piece is also given slowly, and what
+/// is then said counts too where it is something else.
+fn told(night: &Program, bytes: &[u8]) -> Result<String, String> {
+    let text = file_text(night.run(bytes)?);
+    if bytes.len() <= PIECE {
+        return Ok(text);
+    }
+    let slowly = file_text(night.run_slowly(bytes)?);
+    Ok(if slowly == text { text } else { format!("{text}slowly: {slowly}") })
+}
+
 /// The program's text; how it ended is told only where it said nothing.
 fn file_text(reply: Reply) -> String {
     match reply.trouble {
@@ -409,7 +419,7 @@ fn file_text(reply: Reply) -> String {
 
 fn file_differs(night: &Program, bytes: &[u8]) -> bool {
     let ours = housefile::night(bytes, &mut Counts::default());
-    night.run(bytes).is_ok_and(|reply| file_text(reply) != ours)
+    told(night, bytes).is_ok_and(|theirs| theirs != ours)
 }
 
 fn explain_file(night: &Program, file: &File, first: &FileDifference) -> String {

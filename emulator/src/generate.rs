@@ -80,12 +80,13 @@ fn compose(draft: &mut Draft, number: u64) -> &'static str {
     }
 }
 
-/// Random house files: `count` that are damaged or cut, and a tenth as many that are whole.
+/// Random house files: `count` that are damaged or cut, and a tenth as many that are whole. Every
+/// fiftieth is longer than a piece.
 pub fn files(seed: u64, count: usize) -> Vec<File> {
     (0..count + count.div_ceil(10))
         .map(|number| {
             let mut rng = Rng::new(!seed ^ (number as u64) << 32);
-            let (kind, bytes) = files::compose(&mut rng, number < count);
+            let (kind, bytes) = files::compose(&mut rng, number < count, number.is_multiple_of(50));
             File { name: format!("{kind} file {number} of seed {seed}"), bytes }
         })
         .collect()

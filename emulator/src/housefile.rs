@@ -9,6 +9,8 @@ use crate::memory::FRAME_WORDS;
 
 /// Frames of the program's memory.
 pub const FRAMES: usize = 16;
+/// Bytes that a program may read at once: a longer file takes several reads.
+pub const PIECE: usize = 1 << 16;
 /// Bytes of a record's head: body length and kind.
 pub const HEAD: usize = 6;
 /// Bytes of a kind 1 body: q and run length.

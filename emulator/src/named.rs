@@ -10,7 +10,7 @@ use crate::assemble::{
 use crate::dlx::special::{EDPC, EMODE, EPC, ESR, MODE, PTL, PTO, SR};
 use crate::fields::{self, CURRENT, LEFT, Q, RUNNING, WAITING, WORDS};
 use crate::generate::{File, Script};
-use crate::housefile::{record_bytes, word_bytes};
+use crate::housefile::{record_bytes, word_bytes, PIECE};
 use crate::memory::{FRAME_WORDS, PROTECTED, VALID};
 use crate::script::Command;
 
@@ -617,6 +617,11 @@ pub fn files() -> Vec<File> {
         bytes.extend(end());
         bytes
     };
+    // Each frame again and again, and the first example behind them all.
+    let long = |loads: u32| {
+        let again = (0..loads).flat_map(|at| load(at % 16, &[at + 1; 3]));
+        [turn(2, 3), list(&[0]), again.collect(), load(0, &first), end()].concat()
+    };
     let files = vec![
         ("first example", one(2, 3)),
         ("empty file", Vec::new()),
@@ -656,6 +661,10 @@ pub fn files() -> Vec<File> {
             let (sender, taker) = (load(0, &until(send())), load(1, &until(take())));
             [turn(101, 202), list(&[0]), list(&[1]), sender, taker, end()].concat()
         }),
+        ("above 64 KiB", long(16)),
+        ("above 128 KiB", long(32)),
+        ("cut above 128 KiB", long(32)[..2 * PIECE + 9].to_vec()),
+        ("extra byte above 128 KiB", [long(32), vec![0]].concat()),
     ];
     let named = |(name, bytes): (&str, Vec<u8>)| File { name: name.into(), bytes };
     files.into_iter().map(named).collect()

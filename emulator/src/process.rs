@@ -35,6 +35,15 @@ impl Program {
 
     /// Runs the program to its end. An error tells that it could not be started.
     pub fn run(&self, input: &[u8]) -> Result<Reply, String> {
+        self.run_on(input, input.len().max(1), Duration::ZERO)
+    }
+
+    /// The same, with an input that comes few bytes at a time.
+    pub fn run_slowly(&self, input: &[u8]) -> Result<Reply, String> {
+        self.run_on(input, 997, Duration::from_millis(1))
+    }
+
+    fn run_on(&self, input: &[u8], piece: usize, pause: Duration) -> Result<Reply, String> {
         let mut child = Command::new(&self.parts[0])
             .args(&self.parts[1..])
             .stdin(Stdio::piped())
@@ -43,11 +52,12 @@ impl Program {
             .process_group(0)
             .spawn()
             .map_err(|error| format!("cannot start {}: {error}", self.parts[0]))?;
-        Ok(self.converse(&mut child, input))
+        Ok(self.converse(&mut child, input, piece, pause))
     }
 
-    /// Writes the input, reads both outputs, and ends the program if it takes too long.
-    fn converse(&self, child: &mut Child, input: &[u8]) -> Reply {
+    /// Writes the input piece by piece, reads both outputs, and ends the program if it takes too
+    /// long.
+    fn converse(&self, child: &mut Child, input: &[u8], piece: usize, pause: Duration) -> Reply {
         let group = child.id();
         let mut stdin = child.stdin.take().expect("piped");
         let mut stdout = child.stdout.take().expect("piped");
@@ -56,7 +66,12 @@ impl Program {
         let (ended, end) = mpsc::channel::<()>();
         let late = thread::scope(|scope| {
             // A program that ends early closes its input: its text tells what is missing.
-            scope.spawn(move || stdin.write_all(input));
+            scope.spawn(move || {
+                input.chunks(piece).try_for_each(|some| {
+                    thread::sleep(pause);
+                    stdin.write_all(some)
+                })
+            });
             scope.spawn(|| stderr.read_to_end(&mut errors));
             let watch = scope.spawn(move || {
                 let late = end.recv_timeout(self.limit) == Err(RecvTimeoutError::Timeout);
@@ -138,6 +153,8 @@ mod tests {
         let reply = program.run(b"some text").unwrap();
         assert_eq!(reply.text, "some text");
         assert!(reply.trouble.is_none());
+        let long = "some text, ".repeat(500);
+        assert_eq!(program.run_slowly(long.as_bytes()).unwrap().text, long);
     }
 
     #[test]

@@ -1,7 +1,7 @@
 //! Random house files, whole, damaged and cut.
 
 use super::programs::{program, Program};
-use crate::housefile::{record_bytes, word_bytes, FRAMES, HEAD};
+use crate::housefile::{record_bytes, word_bytes, FRAMES, HEAD, PIECE};
 use crate::memory::FRAME_WORDS;
 use crate::rng::Rng;
 
@@ -19,8 +19,11 @@ impl Record {
 }
 
 /// A house file and the name of its kind.
-pub fn compose(rng: &mut Rng, damaged: bool) -> (&'static str, Vec<u8>) {
+pub fn compose(rng: &mut Rng, damaged: bool, long: bool) -> (&'static str, Vec<u8>) {
     let mut records = whole(rng);
+    if long {
+        lengthen(rng, &mut records);
+    }
     if !damaged {
         return ("whole", bytes(&records));
     }
@@ -91,6 +94,16 @@ fn loads(rng: &mut Rng, list: &[u32], program: &Program) -> Vec<Record> {
         }
     }
     records
+}
+
+/// More kind 3 records in front of the others, until the file takes two to four pieces.
+fn lengthen(rng: &mut Rng, records: &mut Vec<Record>) {
+    let least = PIECE * rng.between(1, 3) as usize;
+    let behind = 1 + lists(records);
+    while bytes(records).len() <= least {
+        let page: Vec<u32> = (0..FRAME_WORDS).map(|_| rng.word()).collect();
+        records.insert(behind, load(rng.below(FRAMES as u32), &page));
+    }
 }
 
 fn load(frame: u32, page: &[u32]) -> Record {
