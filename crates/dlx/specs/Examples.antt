@@ -1,18 +1,19 @@
 -- Worked examples, as one list that proofs/Checked.antt checks by a single claim: first 01's that need no house, then what is easy to get wrong.
 use mathlib.Core.Bool.{Bool, true, false, not, _&&_}
-use mathlib.Core.List.{List, [], _∷_}
-use Prim.Native.Nat.{ℕ, _-_, _/_}
+use mathlib.Core.List.{List, [], _∷_, _++_}
+use Prim.Native.Nat.{ℕ, _+_, _-_, _*_, _/_, _^_}
 use lib.Dec.{ltb, eqb}
 use lib.ListN.{length, getD, set, replicate}
 use mir.Val.{boolByte}
 use Rattle.dlx.specs.Choice.{if_then_else_}
-use Rattle.dlx.specs.Processor.{freshProcessor}
+use Rattle.dlx.specs.Processor.{freshProcessor, freshOf}
 use Rattle.dlx.specs.Interrupts.{levelOf}
 use Rattle.dlx.specs.Execute.{reg}
-use Rattle.dlx.specs.Machine.{Ops, Core, core, Outcome, Request, nothing, sends, takes, asked, reply, step, steps}
+use Rattle.dlx.specs.Machine.{Ops, Core, core, Outcome, Request, nothing, sends, takes, asked, reply, Desk, step, steps, Stretch, stretchFrom}
 use Rattle.dlx.specs.declared.execute.Access.the-variants.{Fault, Word}
 use Rattle.dlx.specs.declared.partition.Table.{Table}
 use Rattle.dlx.specs.declared.partition.Processor.{Processor}
+use Rattle.dlx.specs.declared.partition.Partition.{Partition}
 
 -- ---- a memory for examples: a list of words, with no table
 
@@ -40,10 +41,13 @@ zeros = replicate 32 0
 abbrev both : ℕ → ℕ → List ℕ
 both x y = set (set zeros 1 x) 2 y
 
--- at DPC and PC, with SR and in a mode; what can be saved or kept is told apart by 91 to 99
+-- at DPC and PC, with SR and in a mode; what can be saved or kept is told apart by 91 to 100, and EMODE is the other mode
+abbrev moded : ℕ → ℕ → ℕ → ℕ → ℕ → Processor
+moded dpc pc sr mode emode =
+    record { dpc = dpc; pc = pc; sr = sr; esr = 91; eca = 92; epc = 96; edpc = 100; edata = 95; mode = mode; emode = emode }
+
 abbrev at : ℕ → ℕ → ℕ → ℕ → Processor
-at dpc pc sr mode =
-    record { dpc = dpc; pc = pc; sr = sr; esr = 91; eca = 92; epc = 96; edpc = 100; edata = 95; mode = mode; emode = 1 }
+at dpc pc sr mode = moded dpc pc sr mode (1 - mode)
 
 abbrev in-system : Processor
 in-system = at 0 4 0 0
@@ -126,91 +130,416 @@ papers =
     ∷ eqb (r 3 (once in-system (both 0x80000000 1) 0x0022182C)) 1
     ∷ []
 
--- ---- what is easy to get wrong
+-- ---- rows: one step each, and the whole state after it
 
-unfoldable pub traps : List Bool
-traps =
-    -- a jump's immediate is extended from bit 25: 0x0000FFFC forwards, 0x03FFFFFC backwards
-    pair (once in-system zeros 0x0800FFFC) 4 0x10000
-    ∷ pair (once in-system zeros 0x0BFFFFFC) 4 0
-    -- jalr with RS1 = 31 jumps to the old register 31, and links PC + 4
-    ∷ pair (once in-system (set zeros 31 64) 0x5FE00000) 4 64
-    ∷ eqb (r 31 (once in-system (set zeros 31 64) 0x5FE00000)) 8
-    -- andi, ori and xori use the sign-extended immediate
-    ∷ eqb (r 1 (once in-system zeros 0x3401FFFF)) 0xFFFFFFFF
-    ∷ eqb (r 1 (once in-system (both 0 0xFFFF1234) 0x3041F0FF)) 0xFFFF1034
-    ∷ eqb (r 1 (once in-system (both 0 0xFFFF1234) 0x38418000)) 0x00009234
-    -- lhgi takes the low 16 bits
-    ∷ eqb (r 1 (once in-system zeros 0x3C018001)) 0x80010000
-    -- word 0 is ill, and so are opcodes 9 and 11 and functions 33, 35 and 39
-    ∷ is-ill 0 0
-    ∷ is-ill 0 0x24010005
-    ∷ is-ill 0 0x2C010005
-    ∷ is-ill 0 0x00221821
-    ∷ is-ill 0 0x00221823
-    ∷ is-ill 0 0x00221827
-    -- a special number above 9 is ill; movs2i and movi2s are ill in user mode
-    ∷ is-ill 0 0x00001A90
-    ∷ is-ill 0 0x00200291
-    ∷ is-ill 1 0x00001810
-    ∷ is-ill 1 0x00200011
-    -- unused fields are ignored: SA in add, all 26 bits of rfe
-    ∷ eqb (r 3 (once in-system (both 2 3) 0x00221FE0)) 5
-    ∷ pair (once in-system zeros 0xFC123456) 100 96
-    -- rfe: SR = ESR, MODE = EMODE
-    ∷ eqb (processor (once in-system zeros 0xFC000000) .sr) 91
-    ∷ eqb (processor (once in-system zeros 0xFC000000) .mode) 1
-    -- bnez is taken on any nonzero value; an untaken branch goes to PC + 4
-    ∷ pair (once in-system (both 0x80000000 0) 0x14200010) 4 20
-    ∷ pair (once in-system zeros 0x14200010) 4 8
-    ∷ pair (once in-system (both 1 0) 0x10200010) 4 8
-    -- PC 0xFFFFFFFC goes to 0
-    ∷ pair (once (at 0 0xFFFFFFFC 0 0) zeros 0x20010005) 0xFFFFFFFC 0
-    ∷ interrupt (once (at 0 0xFFFFFFFC 0 0) zeros 0) 2 0xFFFFFFFC 0 95 0 0
-    -- a write to register 0 vanishes, but addi to it can still overflow
-    ∷ eqb (r 0 (once in-system zeros 0x20000005)) 0
-    ∷ interrupt (once (at 0 4 64 0) (both 0x7FFFFFFF 0) 0x20200001) 64 4 8 95 64 0
-    -- subtraction: 0x80000000 - 1 overflows, 0 - 1 wraps and does not
-    ∷ interrupt (once (at 0 4 64 0) (both 0x80000000 1) 0x00221822) 64 4 8 95 64 0
-    ∷ eqb (r 3 (once (at 0 4 64 0) (both 0 1) 0x00221822)) 0xFFFFFFFF
-    -- a masked ovf leaves ECA alone
-    ∷ eqb (processor (once in-system (both 0x7FFFFFFF 1) 0x00221820) .eca) 92
-    -- the tests read signed: -1 against 1, in the order clr, sgr, seq, sge, sls, sne, sle, set
-    ∷ eqb (r 3 (once in-system (both 0xFFFFFFFF 1) 0x00221828)) 0
-    ∷ eqb (r 3 (once in-system (both 0xFFFFFFFF 1) 0x00221829)) 0
-    ∷ eqb (r 3 (once in-system (both 0xFFFFFFFF 1) 0x0022182A)) 0
-    ∷ eqb (r 3 (once in-system (both 0xFFFFFFFF 1) 0x0022182B)) 0
-    ∷ eqb (r 3 (once in-system (both 0xFFFFFFFF 1) 0x0022182C)) 1
-    ∷ eqb (r 3 (once in-system (both 0xFFFFFFFF 1) 0x0022182D)) 1
-    ∷ eqb (r 3 (once in-system (both 0xFFFFFFFF 1) 0x0022182E)) 1
-    ∷ eqb (r 3 (once in-system (both 0xFFFFFFFF 1) 0x0022182F)) 1
-    -- sgei and slei of equal numbers, by opcodes 27 and 30
-    ∷ eqb (r 2 (once in-system (both 0xFFFFFFFE 0) 0x6C22FFFE)) 1
-    ∷ eqb (r 2 (once in-system (both 0xFFFFFFFE 0) 0x7822FFFE)) 1
-    -- a misaligned DPC is mal, before its word is looked at; a DPC outside is pff with the old pair
-    ∷ interrupt (step flat (reply 0 0) (core (at 2 8 0 1) zeros, memory (0 ∷ []))) 4 8 12 95 0 1
-    ∷ interrupt (step flat (reply 0 0) (core (at 64 68 0 1) zeros, memory (0 ∷ []))) 8 64 68 64 0 1
-    -- a misaligned data address is mal, and EDATA is kept; one outside is pfls with the address and the old pair
-    ∷ interrupt (once in-system zeros 0x8C010006) 4 4 8 95 0 0
-    ∷ interrupt (once in-system zeros 0xAC010040) 16 0 4 64 0 0
-    -- lw to register 0 still faults
-    ∷ interrupt (once in-system zeros 0x8C000040) 16 0 4 64 0 0
-    -- movi2s to MODE and EMODE is modulo 2; SR, PTO and PTL take the word
-    ∷ eqb (processor (once in-system (both 3 0) 0x00200191) .mode) 1
-    ∷ eqb (processor (once in-system (both 2 0) 0x00200251) .emode) 0
-    ∷ eqb (processor (once in-system (both 0xFFFFFFFF 0) 0x00200011) .sr) 0xFFFFFFFF
-    ∷ eqb (once in-system (both 7 0) 0x002001D1 .1 .table .pto) 7
-    ∷ eqb (once in-system (both 7 0) 0x002001D1 .1 .table .ptl) 98
-    ∷ eqb (once in-system (both 7 0) 0x00200211 .1 .table .ptl) 7
-    -- movs2i reads each special register by its number
-    ∷ eqb (r 3 (once in-system zeros 0x00001850)) 91
-    ∷ eqb (r 3 (once in-system zeros 0x00001890)) 92
-    ∷ eqb (r 3 (once in-system zeros 0x000018D0)) 96
-    ∷ eqb (r 3 (once in-system zeros 0x00001910)) 100
-    ∷ eqb (r 3 (once in-system zeros 0x00001950)) 95
-    ∷ eqb (r 3 (once in-system zeros 0x000019D0)) 97
-    ∷ eqb (r 3 (once in-system zeros 0x00001A10)) 98
-    ∷ eqb (r 3 (once in-system zeros 0x00001A50)) 1
+-- a memory that notes the accesses made, the last one first: at the address a as a, or a + 1 in user mode, and 2 more for a write; a new table as 1
+pub record Watched : Type 0 where
+  pub table : Table
+  pub words : List ℕ
+  pub seen : List ℕ
+
+abbrev within : Watched → ℕ → Bool
+within s a = ltb (a / 4) (length (s .words))
+
+abbrev noted : Watched → List ℕ → ℕ → Watched
+noted s ws n = record { table = s .table; words = ws; seen = n ∷ s .seen }
+
+abbrev watched : Ops Watched
+watched = record {
+  table = λ s. s .table;
+  read = λ s u a. (if within s a then Word (getD (s .words) (a / 4) 0) else Fault, noted s (s .words) (a + boolByte u));
+  write = λ s u a f. (within s a, noted s (set (s .words) (a / 4) (f (getD (s .words) (a / 4) 0))) (a + 2 + boolByte u));
+  retable = λ s t. record { table = t; words = s .words; seen = 1 ∷ s .seen };
+}
+
+-- PTO and PTL
+abbrev tables : Table
+tables = record { pto = 97; ptl = 98 }
+
+-- the word w at address 8; addresses from 48 on are outside
+abbrev around : ℕ → List ℕ
+around w = 300 ∷ 301 ∷ w ∷ 303 ∷ 304 ∷ 305 ∷ 306 ∷ 307 ∷ 308 ∷ 309 ∷ 310 ∷ 311 ∷ []
+
+-- register k is 200 + k
+abbrev known : List ℕ
+known =
+    0 ∷ 201 ∷ 202 ∷ 203 ∷ 204 ∷ 205 ∷ 206 ∷ 207 ∷ 208 ∷ 209 ∷ 210 ∷ 211 ∷ 212 ∷ 213 ∷ 214 ∷ 215 ∷ 216 ∷ 217 ∷ 218 ∷ 219 ∷ 220 ∷ 221 ∷ 222
+    ∷ 223 ∷ 224 ∷ 225 ∷ 226 ∷ 227 ∷ 228 ∷ 229 ∷ 230 ∷ 231 ∷ []
+
+-- RS1 and RS2 of the rows, registers 21 and 19, are x and y
+abbrev given : ℕ → ℕ → List ℕ
+given x y = set (set known 21 x) 19 y
+
+-- words by their fields; RS1 is 21, RS2 19, RD 27, and a field that an instruction has no use for is not 0
+abbrev i-word : ℕ → ℕ → ℕ
+i-word opcode i = opcode * 2 ^ 26 + 21 * 2 ^ 21 + 27 * 2 ^ 16 + i
+
+abbrev s-word : ℕ → ℕ → ℕ
+s-word function sa = 21 * 2 ^ 21 + 19 * 2 ^ 16 + 27 * 2 ^ 11 + sa * 2 ^ 6 + function
+
+abbrev r-word : ℕ → ℕ
+r-word function = s-word function 13
+
+abbrev j-word : ℕ → ℕ → ℕ
+j-word opcode i = opcode * 2 ^ 26 + i
+
+-- one step of the word w at address 8, with an answer that only a ticket may use
+unfoldable pub tried : Processor → List ℕ → ℕ → Outcome × Watched
+tried p rs w = step watched (reply 0 77) (core p rs, record { table = tables; words = around w; seen = [] })
+
+-- The whole state after a step: the processor's numbers, PTO and PTL, whether the guest calls, the accesses, the registers and the words.
+unfoldable pub leaves : Outcome × Watched → List ℕ → ℕ → ℕ → ℕ → List ℕ → List ℕ → List ℕ → Bool
+leaves m ps pto ptl calls seen rs ws =
+    same (numbers (m .0 .core .processor)) ps
+    && same (m .1 .table .pto ∷ m .1 .table .ptl ∷ boolByte (m .0 .calls) ∷ m .1 .seen) (pto ∷ ptl ∷ calls ∷ seen)
+    && same (m .0 .core .registers) rs && same (m .1 .words) ws
+
+-- a plain step of w from DPC 8 and PC 20, with SR: PC' is the target, these are the registers, and nothing else changes
+unfoldable pub plain : ℕ → ℕ → ℕ → List ℕ → ℕ → List ℕ → Bool
+plain sr mode w rs target rs′ =
+    leaves (tried (at 8 20 sr mode) rs w) (numbers (at 20 target sr mode)) 97 98 0 ((8 + mode) ∷ []) rs′ (around w)
+
+-- the same in either mode, with ovf unmasked
+unfoldable pub goes : ℕ → List ℕ → ℕ → List ℕ → Bool
+goes w rs target rs′ = plain 64 0 w rs target rs′ && plain 64 1 w rs target rs′
+
+-- SR with all bits but 6: ovf masked
+abbrev masked : ℕ
+masked = 0xFFFFFFBF
+
+-- RD becomes v: by an opcode, from x and the immediate i; by a function, from x and y
+unfoldable pub by-opcode : ℕ → ℕ → ℕ → ℕ → Bool
+by-opcode op x i v = goes (i-word op i) (given x 219) 24 (set (given x 219) 27 v)
+
+unfoldable pub by-function : ℕ → ℕ → ℕ → ℕ → Bool
+by-function f x y v = goes (r-word f) (given x y) 24 (set (given x y) 27 v)
+
+-- RD is l, e or g where the first number is less, equal or greater
+unfoldable pub orders-opcode : ℕ → ℕ → ℕ → ℕ → Bool
+orders-opcode op l e g =
+    by-opcode op 0xFFFF8000 0x7FFF l && by-opcode op 3 7 l && by-opcode op 0xFFFFFFF9 0xFFFD l
+    && by-opcode op 5 5 e && by-opcode op 0xFFFFFFFB 0xFFFB e
+    && by-opcode op 0x7FFF 0x8000 g && by-opcode op 7 3 g
+
+unfoldable pub orders-function : ℕ → ℕ → ℕ → ℕ → Bool
+orders-function f l e g =
+    by-function f 0x80000000 0x7FFFFFFF l && by-function f 3 7 l && by-function f 0xFFFFFFF9 0xFFFFFFFD l
+    && by-function f 5 5 e && by-function f 0x80000000 0x80000000 e
+    && by-function f 0x7FFFFFFF 0x80000000 g && by-function f 7 3 g
+
+-- a jump where RS1 is x: no register changes; or register 31 becomes PC + 4
+unfoldable pub jumps : ℕ → ℕ → ℕ → Bool
+jumps w x target = goes w (given x 219) target (given x 219)
+
+unfoldable pub links : ℕ → ℕ → ℕ → Bool
+links w x target = goes w (given x 219) target (set (given x 219) 31 24)
+
+-- a data access, noted as n, where RS1 is x: these are the registers and the words after it
+unfoldable pub reaches : ℕ → ℕ → ℕ → ℕ → List ℕ → List ℕ → Bool
+reaches mode w x n rs ws =
+    leaves (tried (at 8 20 64 mode) (given x 219) w) (numbers (at 20 24 64 mode)) 97 98 0 ((n + mode) ∷ (8 + mode) ∷ []) rs ws
+
+-- a load: RD becomes v, the word at a; a store: RD, 227, goes to a
+unfoldable pub gets : ℕ → ℕ → ℕ → ℕ → ℕ → Bool
+gets mode x i a v = reaches mode (i-word 35 i) x a (set (given x 219) 27 v) (around (i-word 35 i))
+
+unfoldable pub puts : ℕ → ℕ → ℕ → ℕ → Bool
+puts mode x i a = reaches mode (i-word 43 i) x (a + 2) (given x 219) (set (around (i-word 43 i)) (a / 4) 227)
+
+-- an interrupt from p: ECA, EDPC, EPC and EDATA after it, whether the guest calls, and the accesses; ESR and EMODE are the old SR and MODE
+unfoldable pub enters : Processor → List ℕ → ℕ → ℕ → ℕ → ℕ → ℕ → ℕ → List ℕ → Bool
+enters p rs w eca edpc epc edata calls seen =
+    leaves (tried p rs w) (0 ∷ 4 ∷ 0 ∷ p .sr ∷ eca ∷ epc ∷ edpc ∷ edata ∷ 0 ∷ p .mode ∷ []) 97 98 calls seen rs (around w)
+
+-- the word w is ill: the pair behind is saved, EDATA is kept
+unfoldable pub refuses : ℕ → ℕ → Bool
+refuses mode w = enters (at 8 20 64 mode) known w 2 20 24 95 0 ((8 + mode) ∷ [])
+
+unfoldable pub each : (ℕ → Bool) → List ℕ → Bool
+each f [] = true
+each f (x ∷ xs) = f x && each f xs
+
+-- ---- the instructions
+
+unfoldable pub instructions : List Bool
+instructions =
+    -- [lw] RD = the word at RS1 + imm; the offset may be negative, and the sum wraps
+    gets 0 16 12 28 307
+    ∷ gets 1 64 0xFFD8 24 306
+    ∷ gets 0 0xFFFFFFFC 8 4 301
+    -- [sw] RD to the word at RS1 + imm
+    ∷ puts 0 16 12 28
+    ∷ puts 1 64 0xFFD8 24
+    ∷ puts 0 0xFFFFFFFC 8 4
+    -- [addi] [subi]
+    ∷ by-opcode 8 1000 234 1234
+    ∷ by-opcode 8 1000 0xFFFF 999
+    ∷ by-opcode 10 1000 234 766
+    ∷ by-opcode 10 1000 0xFFFF 1001
+    ∷ by-opcode 10 234 1000 0xFFFFFD02
+    -- [andi] [ori] [xori] with the sign-extended immediate
+    ∷ by-opcode 12 0xC3005ACF 0x0FF3 0x00000AC3
+    ∷ by-opcode 12 0xC3005ACF 0x8FF3 0xC3000AC3
+    ∷ by-opcode 13 0xC3005ACF 0x0FF3 0xC3005FFF
+    ∷ by-opcode 13 0x43005ACF 0x8FF3 0xFFFFDFFF
+    ∷ by-opcode 14 0xC3005ACF 0x0FF3 0xC300553C
+    ∷ by-opcode 14 0x43005ACF 0x8FF3 0xBCFFD53C
+    -- [lhgi] the low 16 bits times 65,536
+    ∷ by-opcode 15 1000 0x8765 0x87650000
+    ∷ by-opcode 15 1000 0x4321 0x43210000
+    -- [clr 24] [sgr 25] [seq 26] [sge 27] [sls 28] [sne 29] [sle 30] [set 31] of RS1 and imm, where less, equal, greater
+    ∷ orders-opcode 24 0 0 0
+    ∷ orders-opcode 25 0 0 1
+    ∷ orders-opcode 26 0 1 0
+    ∷ orders-opcode 27 0 1 1
+    ∷ orders-opcode 28 1 0 0
+    ∷ orders-opcode 29 1 0 1
+    ∷ orders-opcode 30 1 1 0
+    ∷ orders-opcode 31 1 1 1
+    -- [add] [sub]
+    ∷ by-function 32 1000 234 1234
+    ∷ by-function 32 1000 0xFFFFFFFE 998
+    ∷ by-function 34 1000 234 766
+    ∷ by-function 34 234 1000 0xFFFFFD02
+    -- [and] [or] [xor], of which none overflows
+    ∷ by-function 36 0xC3005ACF 0x4FF10FF3 0x43000AC3
+    ∷ by-function 36 0x73005ACF 0x4FF10FF3 0x43000AC3
+    ∷ by-function 37 0xC3005ACF 0x4FF10FF3 0xCFF15FFF
+    ∷ by-function 37 0x73005ACF 0x4FF10FF3 0x7FF15FFF
+    ∷ by-function 38 0xC3005ACF 0x4FF10FF3 0x8CF1553C
+    ∷ by-function 38 0x73005ACF 0x4FF10FF3 0x3CF1553C
+    -- [clr 40] [sgr 41] [seq 42] [sge 43] [sls 44] [sne 45] [sle 46] [set 47] of RS1 and RS2, where less, equal, greater
+    ∷ orders-function 40 0 0 0
+    ∷ orders-function 41 0 0 1
+    ∷ orders-function 42 0 1 0
+    ∷ orders-function 43 0 1 1
+    ∷ orders-function 44 1 0 0
+    ∷ orders-function 45 1 0 1
+    ∷ orders-function 46 1 1 0
+    ∷ orders-function 47 1 1 1
+    -- [beqz] [bnez] taken or not, on the whole word; no register changes
+    ∷ jumps (i-word 4 0x1230) 0 0x1244
+    ∷ jumps (i-word 4 0xFFF0) 0 4
+    ∷ jumps (i-word 4 0x1230) 1 24
+    ∷ jumps (i-word 4 0x1230) 0x80000000 24
+    ∷ jumps (i-word 5 0x1230) 0 24
+    ∷ jumps (i-word 5 0x1230) 1 0x1244
+    ∷ jumps (i-word 5 0x1230) 0x80000000 0x1244
+    ∷ jumps (i-word 5 0xFFF0) 2 4
+    -- [jr] [jalr] PC' = RS1, as it was before the link; a misaligned target is taken
+    ∷ jumps (i-word 22 0x1230) 0x4568 0x4568
+    ∷ jumps (i-word 22 0x1230) 0x4567 0x4567
+    ∷ links (i-word 23 0x1230) 0x4568 0x4568
+    ∷ links (i-word 23 0x1230) 0x4567 0x4567
+    ∷ goes (23 * 2 ^ 26 + 31 * 2 ^ 21) known 231 (set known 31 24)
+    -- [j] [jal] PC' = PC + imm, extended from bit 25
+    ∷ jumps (j-word 2 0x0000FFFC) 221 0x00010010
+    ∷ jumps (j-word 2 0x01FFFFFC) 221 0x02000010
+    ∷ jumps (j-word 2 0x02000000) 221 0xFE000014
+    ∷ jumps (j-word 2 0x03FFFFF0) 221 4
+    ∷ links (j-word 3 0x0000FFFC) 221 0x00010010
+    ∷ links (j-word 3 0x01FFFFFC) 221 0x02000010
+    ∷ links (j-word 3 0x02000000) 221 0xFE000014
+    ∷ links (j-word 3 0x03FFFFF0) 221 4
+    -- [trap] cause 5; in system mode the guest calls
+    ∷ enters (at 8 20 64 0) known (j-word 62 0x00123456) 32 20 24 0x00123456 1 (8 ∷ [])
+    ∷ enters (at 8 20 64 1) known (j-word 62 0x00123456) 32 20 24 0x00123456 0 (9 ∷ [])
+    ∷ enters (at 8 20 64 0) known (j-word 62 0x01FFFFFF) 32 20 24 0x01FFFFFF 1 (8 ∷ [])
+    ∷ enters (at 8 20 64 0) known (j-word 62 0x02000000) 32 20 24 0xFE000000 1 (8 ∷ [])
+    -- [trap 256] [trap 257] register 3 becomes the answer, and register 1 the ticket taken
+    ∷ plain 64 0 (j-word 62 256) known 24 (set known 3 0)
+    ∷ plain 64 0 (j-word 62 257) known 24 (set (set known 3 0) 1 77)
+    -- [rfe] PC = EPC, DPC = EDPC, SR = ESR, MODE = EMODE; its other bits are ignored
+    ∷ leaves (tried (at 8 20 64 0) known (j-word 63 0)) (100 ∷ 96 ∷ 91 ∷ 91 ∷ 92 ∷ 96 ∷ 100 ∷ 95 ∷ 1 ∷ 1 ∷ []) 97 98 0 (8 ∷ []) known
+        (around (j-word 63 0))
+    ∷ leaves (tried (moded 8 20 64 0 0) known (j-word 63 0x03FFFFFF)) (100 ∷ 96 ∷ 91 ∷ 91 ∷ 92 ∷ 96 ∷ 100 ∷ 95 ∷ 0 ∷ 0 ∷ []) 97 98 0 (8 ∷ [])
+        known (around (j-word 63 0x03FFFFFF))
+    -- [register 0] reads 0, and writes to it vanish
+    ∷ goes (8 * 2 ^ 26 + 27 * 2 ^ 16 + 5) known 24 (set known 27 5)
+    ∷ goes (21 * 2 ^ 21 + 27 * 2 ^ 11 + 34) known 24 (set known 27 221)
+    ∷ goes (19 * 2 ^ 16 + 27 * 2 ^ 11 + 32) known 24 (set known 27 219)
+    ∷ goes (8 * 2 ^ 26 + 21 * 2 ^ 21 + 5) known 24 known
+    ∷ goes (15 * 2 ^ 26 + 5) known 24 known
+    ∷ goes (31 * 2 ^ 26 + 21 * 2 ^ 21 + 5) known 24 known
+    ∷ goes (21 * 2 ^ 21 + 19 * 2 ^ 16 + 32) known 24 known
+    ∷ plain 64 0 (2 * 2 ^ 6 + 16) known 24 known
+    ∷ leaves (tried (at 8 20 64 0) known (35 * 2 ^ 26 + 12)) (numbers (at 20 24 64 0)) 97 98 0 (12 ∷ 8 ∷ []) known (around (35 * 2 ^ 26 + 12))
+    ∷ leaves (tried (at 8 20 64 0) known (43 * 2 ^ 26 + 12)) (numbers (at 20 24 64 0)) 97 98 0 (14 ∷ 8 ∷ []) known
+        (set (around (43 * 2 ^ 26 + 12)) 3 0)
+    -- [sign extension] from bit 15: 0x7FFF and 0x8000
+    ∷ by-opcode 8 0 0x7FFF 0x00007FFF
+    ∷ by-opcode 8 0 0x8000 0xFFFF8000
+    ∷ gets 0 0xFFFF8010 0x7FFC 12 303
+    ∷ gets 0 0x00008010 0x8000 16 304
+    ∷ puts 0 0xFFFF8010 0x7FFC 12
+    ∷ puts 0 0x00008010 0x8000 16
+    ∷ jumps (i-word 4 0x7FFC) 0 0x00008010
+    ∷ jumps (i-word 4 0x8000) 0 0xFFFF8014
+    ∷ jumps (i-word 5 0x7FFC) 1 0x00008010
+    ∷ jumps (i-word 5 0x8000) 1 0xFFFF8014
+    -- [PC] PC' = PC + 4, and 0xFFFFFFFC goes to 0; jumps wrap too
+    ∷ leaves (tried (at 8 0xFFFFFFFC 64 0) known (r-word 32)) (numbers (at 0xFFFFFFFC 0 64 0)) 97 98 0 (8 ∷ []) (set known 27 440) (around (r-word 32))
+    ∷ leaves (tried (at 8 0xFFFFFFFC 64 0) known (j-word 3 8)) (numbers (at 0xFFFFFFFC 4 64 0)) 97 98 0 (8 ∷ []) (set known 31 0) (around (j-word 3 8))
+    -- [ill opcodes] every opcode that the table doesn't have
+    ∷ each (λ op. refuses 0 (i-word op 0x1230))
+        (1 ∷ 6 ∷ 7 ∷ 9 ∷ 11 ∷ 16 ∷ 17 ∷ 18 ∷ 19 ∷ 20 ∷ 21 ∷ 32 ∷ 33 ∷ 34 ∷ 36 ∷ 37 ∷ 38 ∷ 39 ∷ 40 ∷ 41 ∷ 42 ∷ [])
+    ∷ each (λ op. refuses 1 (i-word op 0x1230))
+        (44 ∷ 45 ∷ 46 ∷ 47 ∷ 48 ∷ 49 ∷ 50 ∷ 51 ∷ 52 ∷ 53 ∷ 54 ∷ 55 ∷ 56 ∷ 57 ∷ 58 ∷ 59 ∷ 60 ∷ 61 ∷ [])
+    -- [ill functions] every function that the table doesn't have; so word 0 is ill
+    ∷ refuses 0 0
+    ∷ each (λ f. refuses 0 (s-word f 3)) (0 ∷ 1 ∷ 2 ∷ 3 ∷ 4 ∷ 5 ∷ 6 ∷ 7 ∷ 8 ∷ 9 ∷ 10 ∷ 11 ∷ 12 ∷ 13 ∷ 14 ∷ 15 ∷ [])
+    ∷ each (λ f. refuses 0 (s-word f 3)) (18 ∷ 19 ∷ 20 ∷ 21 ∷ 22 ∷ 23 ∷ 24 ∷ 25 ∷ 26 ∷ 27 ∷ 28 ∷ 29 ∷ 30 ∷ 31 ∷ 33 ∷ 35 ∷ 39 ∷ [])
+    ∷ each (λ f. refuses 1 (s-word f 3)) (48 ∷ 49 ∷ 50 ∷ 51 ∷ 52 ∷ 53 ∷ 54 ∷ 55 ∷ 56 ∷ 57 ∷ 58 ∷ 59 ∷ 60 ∷ 61 ∷ 62 ∷ 63 ∷ [])
+    -- [ill specials] a special number above 9
+    ∷ each (λ n. refuses 0 (s-word 16 n) && refuses 0 (s-word 17 n)) (10 ∷ 11 ∷ 12 ∷ 13 ∷ 14 ∷ 15 ∷ 16 ∷ 20 ∷ 24 ∷ 25 ∷ 31 ∷ [])
+    -- [ill in user mode] movs2i and movi2s of every special, and rfe
+    ∷ each (λ n. refuses 1 (s-word 16 n) && refuses 1 (s-word 17 n)) (0 ∷ 1 ∷ 2 ∷ 3 ∷ 4 ∷ 5 ∷ 6 ∷ 7 ∷ 8 ∷ 9 ∷ [])
+    ∷ refuses 1 (j-word 63 0)
+    ∷ []
+
+-- ---- the special registers
+
+-- movs2i: RD becomes v, special n
+unfoldable pub reads : ℕ → ℕ → Bool
+reads n v = plain 64 0 (s-word 16 n) known 24 (set known 27 v)
+
+-- movi2s: special n from RS1, x; DPC, PC, SR, ESR, ECA, EPC, EDPC, EDATA, MODE, EMODE after it, and PTO and PTL
+unfoldable pub moves : Processor → ℕ → ℕ → List ℕ → ℕ → ℕ → List ℕ → Bool
+moves p n x ps pto ptl seen = leaves (tried p (given x 219) (s-word 17 n)) ps pto ptl 0 seen (given x 219) (around (s-word 17 n))
+
+-- a special of the processor from x
+unfoldable pub becomes : ℕ → ℕ → List ℕ → Bool
+becomes n x ps = moves (at 8 20 64 0) n x ps 97 98 (8 ∷ [])
+
+-- the accesses of two steps: a movi2s of x to special n, and the step behind it
+unfoldable pub behind-it : ℕ → ℕ → List ℕ
+behind-it n x =
+    steps watched (λ _. reply 0 77) 2 (core (at 8 20 64 0) (given x 219), record { table = tables; words = around (s-word 17 n); seen = [] })
+        .1 .seen
+
+unfoldable pub specials : List Bool
+specials =
+    -- [special 0 SR]
+    reads 0 64
+    ∷ becomes 0 0xFEDCBA98 (20 ∷ 24 ∷ 0xFEDCBA98 ∷ 91 ∷ 92 ∷ 96 ∷ 100 ∷ 95 ∷ 0 ∷ 1 ∷ [])
+    -- [special 1 ESR]
+    ∷ reads 1 91
+    ∷ becomes 1 0xFEDCBA98 (20 ∷ 24 ∷ 64 ∷ 0xFEDCBA98 ∷ 92 ∷ 96 ∷ 100 ∷ 95 ∷ 0 ∷ 1 ∷ [])
+    -- [special 2 ECA]
+    ∷ reads 2 92
+    ∷ becomes 2 0xFEDCBA98 (20 ∷ 24 ∷ 64 ∷ 91 ∷ 0xFEDCBA98 ∷ 96 ∷ 100 ∷ 95 ∷ 0 ∷ 1 ∷ [])
+    -- [special 3 EPC]
+    ∷ reads 3 96
+    ∷ becomes 3 0xFEDCBA98 (20 ∷ 24 ∷ 64 ∷ 91 ∷ 92 ∷ 0xFEDCBA98 ∷ 100 ∷ 95 ∷ 0 ∷ 1 ∷ [])
+    -- [special 4 EDPC]
+    ∷ reads 4 100
+    ∷ becomes 4 0xFEDCBA98 (20 ∷ 24 ∷ 64 ∷ 91 ∷ 92 ∷ 96 ∷ 0xFEDCBA98 ∷ 95 ∷ 0 ∷ 1 ∷ [])
+    -- [special 5 EDATA]
+    ∷ reads 5 95
+    ∷ becomes 5 0xFEDCBA98 (20 ∷ 24 ∷ 64 ∷ 91 ∷ 92 ∷ 96 ∷ 100 ∷ 0xFEDCBA98 ∷ 0 ∷ 1 ∷ [])
+    -- [special 6 MODE] modulo 2; the next fetch is made in the new mode, at the old PC
+    ∷ reads 6 0
+    ∷ becomes 6 0xFEDCBA97 (20 ∷ 24 ∷ 64 ∷ 91 ∷ 92 ∷ 96 ∷ 100 ∷ 95 ∷ 1 ∷ 1 ∷ [])
+    ∷ becomes 6 0xFEDCBA9A (20 ∷ 24 ∷ 64 ∷ 91 ∷ 92 ∷ 96 ∷ 100 ∷ 95 ∷ 0 ∷ 1 ∷ [])
+    ∷ same (behind-it 6 3) (21 ∷ 8 ∷ [])
+    -- [special 7 PTO] a new table, of the same value too
+    ∷ reads 7 97
+    ∷ moves (at 8 20 64 0) 7 0xFEDCBA98 (20 ∷ 24 ∷ 64 ∷ 91 ∷ 92 ∷ 96 ∷ 100 ∷ 95 ∷ 0 ∷ 1 ∷ []) 0xFEDCBA98 98 (1 ∷ 8 ∷ [])
+    ∷ moves (at 8 20 64 0) 7 97 (20 ∷ 24 ∷ 64 ∷ 91 ∷ 92 ∷ 96 ∷ 100 ∷ 95 ∷ 0 ∷ 1 ∷ []) 97 98 (1 ∷ 8 ∷ [])
+    -- [special 8 PTL] a new table, of the same value too
+    ∷ reads 8 98
+    ∷ moves (at 8 20 64 0) 8 0xFEDCBA98 (20 ∷ 24 ∷ 64 ∷ 91 ∷ 92 ∷ 96 ∷ 100 ∷ 95 ∷ 0 ∷ 1 ∷ []) 97 0xFEDCBA98 (1 ∷ 8 ∷ [])
+    ∷ moves (at 8 20 64 0) 8 98 (20 ∷ 24 ∷ 64 ∷ 91 ∷ 92 ∷ 96 ∷ 100 ∷ 95 ∷ 0 ∷ 1 ∷ []) 97 98 (1 ∷ 8 ∷ [])
+    -- [special 9 EMODE] modulo 2
+    ∷ reads 9 1
+    ∷ becomes 9 0xFEDCBA9A (20 ∷ 24 ∷ 64 ∷ 91 ∷ 92 ∷ 96 ∷ 100 ∷ 95 ∷ 0 ∷ 0 ∷ [])
+    ∷ moves (moded 8 20 64 0 0) 9 0xFEDCBA97 (20 ∷ 24 ∷ 64 ∷ 91 ∷ 92 ∷ 96 ∷ 100 ∷ 95 ∷ 0 ∷ 1 ∷ []) 97 98 (8 ∷ [])
+    -- [boot] all zero but PC = 4
+    ∷ same (numbers (freshOf 3 .processor)) (0 ∷ 4 ∷ 0 ∷ 0 ∷ 0 ∷ 0 ∷ 0 ∷ 0 ∷ 0 ∷ 0 ∷ [])
+    ∷ same (freshOf 3 .pages ∷ freshOf 3 .table .pto ∷ freshOf 3 .table .ptl ∷ freshOf 3 .counter ∷ []) (3 ∷ 0 ∷ 0 ∷ 0 ∷ [])
+    ∷ []
+
+-- ---- the causes: ECA, EDPC, EPC, EDATA, calls, accesses
+
+-- a function of x and y interrupts with ovf; or, masked, writes v
+unfoldable pub overflows : ℕ → ℕ → ℕ → Bool
+overflows w x y =
+    enters (at 8 20 64 0) (given x y) w 64 20 24 95 0 (8 ∷ []) && enters (at 8 20 64 1) (given x y) w 64 20 24 95 0 (9 ∷ [])
+
+unfoldable pub wraps : ℕ → ℕ → ℕ → ℕ → Bool
+wraps w x y v =
+    plain masked 0 w (given x y) 24 (set (given x y) 27 v) && plain masked 1 w (given x y) 24 (set (given x y) 27 v)
+
+unfoldable pub causes : List Bool
+causes =
+    -- [cause 1 ill] the pair behind, EDATA kept; with all of SR, with none, and where PC + 4 wraps
+    enters (at 8 20 masked 0) known 0 2 20 24 95 0 (8 ∷ [])
+    ∷ enters (at 8 20 0 1) known 0 2 20 24 95 0 (9 ∷ [])
+    ∷ enters (at 8 0xFFFFFFFC 64 0) known 0 2 0xFFFFFFFC 0 95 0 (8 ∷ [])
+    -- [cause 2 mal] of DPC, with no fetch; of a data address, with no access; the pair behind, EDATA kept
+    ∷ enters (at 9 20 masked 0) known 0 4 20 24 95 0 []
+    ∷ enters (at 10 20 0 1) known 0 4 20 24 95 0 []
+    ∷ enters (at 11 0xFFFFFFFC 64 0) known 0 4 0xFFFFFFFC 0 95 0 []
+    ∷ enters (at 8 20 masked 0) (given 16 219) (i-word 35 5) 4 20 24 95 0 (8 ∷ [])
+    ∷ enters (at 8 20 0 1) (given 16 219) (i-word 35 6) 4 20 24 95 0 (9 ∷ [])
+    ∷ enters (at 8 0xFFFFFFFC 64 0) (given 17 219) (i-word 35 6) 4 0xFFFFFFFC 0 95 0 (8 ∷ [])
+    ∷ enters (at 8 20 masked 0) (given 16 219) (i-word 43 5) 4 20 24 95 0 (8 ∷ [])
+    ∷ enters (at 8 20 0 1) (given 16 219) (i-word 43 6) 4 20 24 95 0 (9 ∷ [])
+    ∷ enters (at 8 0xFFFFFFFC 64 0) (given 17 219) (i-word 43 6) 4 0xFFFFFFFC 0 95 0 (8 ∷ [])
+    -- [cause 3 pff] the old pair, EDATA = DPC
+    ∷ enters (at 48 20 masked 0) known 0 8 48 20 48 0 (48 ∷ [])
+    ∷ enters (at 52 20 0 1) known 0 8 52 20 52 0 (53 ∷ [])
+    ∷ enters (at 48 0xFFFFFFFC 64 0) known 0 8 48 0xFFFFFFFC 48 0 (48 ∷ [])
+    -- [cause 4 pfls] the old pair, EDATA = the data address; a load to register 0 faults too
+    ∷ enters (at 8 20 masked 0) (given 36 219) (i-word 35 12) 16 8 20 48 0 (48 ∷ 8 ∷ [])
+    ∷ enters (at 8 20 0 1) (given 36 219) (i-word 35 12) 16 8 20 48 0 (49 ∷ 9 ∷ [])
+    ∷ enters (at 8 0xFFFFFFFC 64 0) (given 36 219) (i-word 43 12) 16 8 0xFFFFFFFC 48 0 (50 ∷ 8 ∷ [])
+    ∷ enters (at 8 20 0 1) (given 36 219) (i-word 43 12) 16 8 20 48 0 (51 ∷ 9 ∷ [])
+    ∷ enters (at 8 20 64 0) known (35 * 2 ^ 26 + 64) 16 8 20 64 0 (64 ∷ 8 ∷ [])
+    -- [cause 5 trap] the pair behind, EDATA = the immediate
+    ∷ enters (at 8 20 masked 0) known (j-word 62 7) 32 20 24 7 1 (8 ∷ [])
+    ∷ enters (at 8 20 0 1) known (j-word 62 7) 32 20 24 7 0 (9 ∷ [])
+    ∷ enters (at 8 0xFFFFFFFC 64 0) known (j-word 62 7) 32 0xFFFFFFFC 0 7 1 (8 ∷ [])
+    -- [cause 6 ovf] of add, addi, sub, subi: the result is not written, EDATA kept, the pair behind
+    ∷ overflows (r-word 32) 0x7FFFFFFF 1
+    ∷ overflows (r-word 32) 0x40000000 0x40000000
+    ∷ overflows (r-word 32) 0x80000000 0xFFFFFFFF
+    ∷ overflows (r-word 34) 0x80000000 1
+    ∷ overflows (r-word 34) 0x7FFFFFFF 0xFFFFFFFF
+    ∷ overflows (r-word 34) 0 0x80000000
+    ∷ overflows (i-word 8 1) 0x7FFFFFFF 219
+    ∷ overflows (i-word 8 0xFFFF) 0x80000000 219
+    ∷ overflows (i-word 10 1) 0x80000000 219
+    ∷ overflows (i-word 10 0xFFFF) 0x7FFFFFFF 219
+    ∷ enters (at 8 0xFFFFFFFC 64 0) (given 0x7FFFFFFF 1) (r-word 32) 64 0xFFFFFFFC 0 95 0 (8 ∷ [])
+    ∷ enters (at 8 20 0xFFFFFFFF 1) (given 0x7FFFFFFF 1) (r-word 32) 64 20 24 95 0 (9 ∷ [])
+    -- to register 0 too
+    ∷ enters (at 8 20 64 0) (given 0x7FFFFFFF 1) (8 * 2 ^ 26 + 21 * 2 ^ 21 + 1) 64 20 24 95 0 (8 ∷ [])
+    -- [ovf at the limits] results of 2^31 - 1 and -2^31 are inside
+    ∷ by-function 32 0x3FFFFFFF 0x40000000 0x7FFFFFFF
+    ∷ by-function 32 0xC0000000 0xC0000000 0x80000000
+    ∷ by-function 34 0x3FFFFFFF 0xC0000000 0x7FFFFFFF
+    ∷ by-function 34 0xFFFFFFFF 0x7FFFFFFF 0x80000000
+    ∷ by-function 34 0xFFFFFFFF 0x80000000 0x7FFFFFFF
+    -- [ovf masked] by SR bit 6 alone: the wrapped result is written, ECA is left alone
+    ∷ wraps (r-word 32) 0x7FFFFFFF 5 0x80000004
+    ∷ wraps (r-word 32) 0x80000003 0xFFFFFFF8 0x7FFFFFFB
+    ∷ wraps (r-word 34) 0x80000003 8 0x7FFFFFFB
+    ∷ wraps (r-word 34) 0x7FFFFFFF 0xFFFFFFFB 0x80000004
+    ∷ wraps (i-word 8 5) 0x7FFFFFFF 219 0x80000004
+    ∷ wraps (i-word 8 0xFFF8) 0x80000003 219 0x7FFFFFFB
+    ∷ wraps (i-word 10 8) 0x80000003 219 0x7FFFFFFB
+    ∷ wraps (i-word 10 0xFFFB) 0x7FFFFFFF 219 0x80000004
+    -- [order of causes] mal of DPC before pff and before ill; mal of a data address before pfls; a data address never overflows
+    ∷ enters (at 50 20 64 0) known 0 4 20 24 95 0 []
+    ∷ enters (at 10 20 64 1) known (j-word 63 0) 4 20 24 95 0 []
+    ∷ enters (at 8 20 64 0) (given 49 219) (i-word 35 12) 4 20 24 95 0 (8 ∷ [])
+    ∷ enters (at 8 20 64 0) (given 49 219) (i-word 43 12) 4 20 24 95 0 (8 ∷ [])
+    ∷ enters (at 8 20 64 0) (given 0x7FFFFFFC 219) (i-word 35 12) 16 8 20 0x80000008 0 (0x80000008 ∷ 8 ∷ [])
+    ∷ enters (at 8 20 64 0) (given 0x7FFFFFFC 219) (i-word 43 12) 16 8 20 0x80000008 0 (0x8000000A ∷ 8 ∷ [])
+    -- [level] the lowest set bit
+    ∷ same (levelOf 1 ∷ levelOf 2 ∷ levelOf 4 ∷ levelOf 8 ∷ levelOf 16 ∷ levelOf 32 ∷ levelOf 64 ∷ []) (0 ∷ 1 ∷ 2 ∷ 3 ∷ 4 ∷ 5 ∷ 6 ∷ [])
+    ∷ same (levelOf 96 ∷ levelOf 126 ∷ levelOf 0x80000000 ∷ levelOf 0xC0000000 ∷ levelOf 0 ∷ []) (5 ∷ 1 ∷ 31 ∷ 30 ∷ 32 ∷ [])
     ∷ []
 
 -- ---- tickets: trap 256 sends, trap 257 takes
@@ -271,6 +600,38 @@ tickets =
     ∷ ordinary 0 0xF8000102 258
     ∷ ordinary 0 0xF8010100 0x00010100
     ∷ ordinary 0 0xFA000101 0xFE000101
+    ∷ []
+
+-- ---- stretches
+
+-- a desk that writes down what it is asked, the last first; its ticket is the length of what stood there
+abbrev clerk : Desk (List ℕ)
+clerk t q = (reply 0 (length t), told q ++ t)
+
+-- trap 257, then addi, then trap 7
+abbrev three : List ℕ
+three = j-word 62 257 ∷ i-word 8 5 ∷ j-word 62 7 ∷ 303 ∷ []
+
+-- up to k steps more, where 10 are made, from DPC 0 and PC 4
+unfoldable pub stretched : ℕ → Stretch Watched (List ℕ)
+stretched k =
+    stretchFrom watched clerk k 10 (core (at 0 4 64 0) known, record { table = tables; words = three; seen = [] }) (60 ∷ 61 ∷ [])
+
+-- how many are made, whether the last one called, the processor, the accesses, the desk and the registers after them
+unfoldable pub ends : ℕ → ℕ → ℕ → List ℕ → List ℕ → List ℕ → List ℕ → Bool
+ends k made called ps seen desk rs =
+    let e = stretched k in
+    same (e .made ∷ boolByte (e .called) ∷ []) (made ∷ called ∷ []) && same (numbers (e .core .processor)) ps && same (e .memory .seen) seen
+    && same (e .desk) desk && same (e .core .registers) rs && same (e .memory .words) three
+
+unfoldable pub stretches : List Bool
+stretches =
+    -- [stretch] up to so many steps, ending early behind a step that calls; each is answered once
+    ends 0 10 0 (numbers (at 0 4 64 0)) [] (60 ∷ 61 ∷ []) known
+    ∷ ends 1 11 0 (numbers (at 4 8 64 0)) (0 ∷ []) (2 ∷ 60 ∷ 61 ∷ []) (set (set known 1 2) 3 0)
+    ∷ ends 2 12 0 (numbers (at 8 12 64 0)) (4 ∷ 0 ∷ []) (0 ∷ 2 ∷ 60 ∷ 61 ∷ []) (set (set (set known 1 2) 3 0) 27 226)
+    ∷ ends 3 13 1 (0 ∷ 4 ∷ 0 ∷ 64 ∷ 32 ∷ 16 ∷ 12 ∷ 7 ∷ 0 ∷ 0 ∷ []) (8 ∷ 4 ∷ 0 ∷ []) (0 ∷ 0 ∷ 2 ∷ 60 ∷ 61 ∷ []) (set (set (set known 1 2) 3 0) 27 226)
+    ∷ ends 5 13 1 (0 ∷ 4 ∷ 0 ∷ 64 ∷ 32 ∷ 16 ∷ 12 ∷ 7 ∷ 0 ∷ 0 ∷ []) (8 ∷ 4 ∷ 0 ∷ []) (0 ∷ 0 ∷ 2 ∷ 60 ∷ 61 ∷ []) (set (set (set known 1 2) 3 0) 27 226)
     ∷ []
 
 unfoldable pub all : List Bool → Bool
