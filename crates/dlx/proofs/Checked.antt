@@ -1,7 +1,8 @@
 -- The examples hold: the single claim about the rules.
 use mathlib.Core.Path.{_≡_, refl}
-use mathlib.Core.Bool.{true}
-use mathlib.Core.List.{_++_}
+use Prim.Native.Nat.{ℕ}
+use mathlib.Core.Bool.{Bool, true, false, _&&_}
+use mathlib.Core.List.{List, [], _∷_, _++_}
 use lib.Count.{trailingZeros}
 use Rattle.dlx.specs.Words.{extendedBy, readIn, holds}
 use Rattle.dlx.specs.Instructions.{registerType, instructionOf}
@@ -9,8 +10,46 @@ use Rattle.dlx.specs.Processor.{specialOf, withSpecial}
 use Rattle.dlx.specs.Interrupts.{levelOf, interrupted}
 use Rattle.dlx.specs.Execute.{written, valueOf, overflowsOf, operated, reached, loads, stores, movedTo, trapOf, effectOf}
 use Rattle.dlx.specs.Machine.{executed, fetched, loaded, stored, accessed, received, handed, settled, retabled, step, steps, asked, requestOf, stretchFrom}
-use Rattle.dlx.specs.Examples.{once, booted, r, interrupt, same, pair, is-ill, answered, goes-on, ordinary, asking, tried, leaves, plain, goes, by-opcode, by-function, orders-opcode, orders-function, jumps, links, reaches, gets, puts, enters, refuses, each, reads, moves, becomes, behind-it, overflows, wraps, stretched, ends, papers, instructions, specials, causes, tickets, stretches, all}
+use Rattle.dlx.specs.Examples.{once, booted, r, interrupt, same, pair, is-ill, answered, goes-on, ordinary, asking, tried, leaves, plain, goes, by-opcode, by-function, orders-opcode, orders-function, jumps, links, reaches, gets, puts, enters, refuses, each, reads, moves, becomes, behind-it, overflows, wraps, stretched, ends, papers, operations, comparisons, jumping, ills, specials, causes, tickets, stretches, all}
 
-pub checked : all (papers ++ (instructions ++ (specials ++ (causes ++ (tickets ++ stretches))))) ≡ true
-unfolding all papers instructions specials causes tickets stretches tried leaves plain goes by-opcode by-function orders-opcode orders-function jumps links reaches gets puts enters refuses each reads moves becomes behind-it overflows wraps stretched ends r interrupt same pair is-ill once answered goes-on ordinary asking booted step steps asked requestOf stretchFrom fetched executed loaded stored accessed received handed settled retabled instructionOf registerType effectOf written valueOf overflowsOf operated reached loads stores movedTo trapOf specialOf withSpecial interrupted levelOf trailingZeros extendedBy readIn holds
-checked = refl
+joined : (a b : List Bool) → all a ≡ true → all b ≡ true → all (a ++ b) ≡ true
+unfolding all
+joined [] b e f = f
+joined (true ∷ a) b e f = joined a b e f
+joined (false ∷ a) b e f = cc
+
+-- all that the examples compute with
+computing : ℕ
+unfolding all papers operations comparisons jumping ills specials causes tickets stretches tried leaves plain goes by-opcode by-function orders-opcode orders-function jumps links reaches gets puts enters refuses each reads moves becomes behind-it overflows wraps stretched ends r interrupt same pair is-ill once answered goes-on ordinary asking booted step steps asked requestOf stretchFrom fetched executed loaded stored accessed received handed settled retabled instructionOf registerType effectOf written valueOf overflowsOf operated reached loads stores movedTo trapOf specialOf withSpecial interrupted levelOf trailingZeros extendedBy readIn holds
+computing = 0
+
+pub checked : all (papers ++ (operations ++ (comparisons ++ (jumping ++ (ills ++ (specials ++ (causes ++ (tickets ++ stretches)))))))) ≡ true
+checked =
+    joined papers _ of-papers (joined operations _ of-operations (joined comparisons _ of-comparisons (joined jumping _ of-jumping (joined ills _ of-ills (joined specials _ of-specials (joined causes _ of-causes (joined tickets _ of-tickets of-stretches)))))))
+  where
+    of-papers : all papers ≡ true
+    of-papers = unfold computing in refl
+
+    of-operations : all operations ≡ true
+    of-operations = unfold computing in refl
+
+    of-comparisons : all comparisons ≡ true
+    of-comparisons = unfold computing in refl
+
+    of-jumping : all jumping ≡ true
+    of-jumping = unfold computing in refl
+
+    of-ills : all ills ≡ true
+    of-ills = unfold computing in refl
+
+    of-specials : all specials ≡ true
+    of-specials = unfold computing in refl
+
+    of-causes : all causes ≡ true
+    of-causes = unfold computing in refl
+
+    of-tickets : all tickets ≡ true
+    of-tickets = unfold computing in refl
+
+    of-stretches : all stretches ≡ true
+    of-stretches = unfold computing in refl

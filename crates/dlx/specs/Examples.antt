@@ -261,8 +261,8 @@ each f (x ∷ xs) = f x && each f xs
 
 -- ---- the instructions
 
-unfoldable pub instructions : List Bool
-instructions =
+unfoldable pub operations : List Bool
+operations =
     -- [lw] RD = the word at RS1 + imm; the offset may be negative, and the sum wraps
     gets 0 16 12 28 307
     ∷ gets 1 64 0xFFD8 24 306
@@ -271,72 +271,128 @@ instructions =
     ∷ puts 0 16 12 28
     ∷ puts 1 64 0xFFD8 24
     ∷ puts 0 0xFFFFFFFC 8 4
-    -- [addi] [subi]
+    -- [addi]
     ∷ by-opcode 8 1000 234 1234
     ∷ by-opcode 8 1000 0xFFFF 999
+    -- [subi]
     ∷ by-opcode 10 1000 234 766
     ∷ by-opcode 10 1000 0xFFFF 1001
     ∷ by-opcode 10 234 1000 0xFFFFFD02
-    -- [andi] [ori] [xori] with the sign-extended immediate
+    -- [andi] with the sign-extended immediate
     ∷ by-opcode 12 0xC3005ACF 0x0FF3 0x00000AC3
     ∷ by-opcode 12 0xC3005ACF 0x8FF3 0xC3000AC3
+    -- [ori] likewise
     ∷ by-opcode 13 0xC3005ACF 0x0FF3 0xC3005FFF
     ∷ by-opcode 13 0x43005ACF 0x8FF3 0xFFFFDFFF
+    -- [xori] likewise
     ∷ by-opcode 14 0xC3005ACF 0x0FF3 0xC300553C
     ∷ by-opcode 14 0x43005ACF 0x8FF3 0xBCFFD53C
     -- [lhgi] the low 16 bits times 65,536
     ∷ by-opcode 15 1000 0x8765 0x87650000
     ∷ by-opcode 15 1000 0x4321 0x43210000
-    -- [clr 24] [sgr 25] [seq 26] [sge 27] [sls 28] [sne 29] [sle 30] [set 31] of RS1 and imm, where less, equal, greater
-    ∷ orders-opcode 24 0 0 0
-    ∷ orders-opcode 25 0 0 1
-    ∷ orders-opcode 26 0 1 0
-    ∷ orders-opcode 27 0 1 1
-    ∷ orders-opcode 28 1 0 0
-    ∷ orders-opcode 29 1 0 1
-    ∷ orders-opcode 30 1 1 0
-    ∷ orders-opcode 31 1 1 1
-    -- [add] [sub]
+    -- [add]
     ∷ by-function 32 1000 234 1234
     ∷ by-function 32 1000 0xFFFFFFFE 998
+    -- [sub]
     ∷ by-function 34 1000 234 766
     ∷ by-function 34 234 1000 0xFFFFFD02
-    -- [and] [or] [xor], of which none overflows
+    -- [and] overflows nowhere
     ∷ by-function 36 0xC3005ACF 0x4FF10FF3 0x43000AC3
     ∷ by-function 36 0x73005ACF 0x4FF10FF3 0x43000AC3
+    -- [or] likewise
     ∷ by-function 37 0xC3005ACF 0x4FF10FF3 0xCFF15FFF
     ∷ by-function 37 0x73005ACF 0x4FF10FF3 0x7FF15FFF
+    -- [xor] likewise
     ∷ by-function 38 0xC3005ACF 0x4FF10FF3 0x8CF1553C
     ∷ by-function 38 0x73005ACF 0x4FF10FF3 0x3CF1553C
-    -- [clr 40] [sgr 41] [seq 42] [sge 43] [sls 44] [sne 45] [sle 46] [set 47] of RS1 and RS2, where less, equal, greater
+    -- [register 0] reads 0, and writes to it vanish
+    ∷ goes (8 * 2 ^ 26 + 27 * 2 ^ 16 + 5) known 24 (set known 27 5)
+    ∷ goes (21 * 2 ^ 21 + 27 * 2 ^ 11 + 34) known 24 (set known 27 221)
+    ∷ goes (19 * 2 ^ 16 + 27 * 2 ^ 11 + 32) known 24 (set known 27 219)
+    ∷ goes (8 * 2 ^ 26 + 21 * 2 ^ 21 + 5) known 24 known
+    ∷ goes (15 * 2 ^ 26 + 5) known 24 known
+    ∷ goes (31 * 2 ^ 26 + 21 * 2 ^ 21 + 5) known 24 known
+    ∷ goes (21 * 2 ^ 21 + 19 * 2 ^ 16 + 32) known 24 known
+    ∷ plain 64 0 (2 * 2 ^ 6 + 16) known 24 known
+    ∷ leaves (tried (at 8 20 64 0) known (35 * 2 ^ 26 + 12)) (numbers (at 20 24 64 0)) 97 98 0 (12 ∷ 8 ∷ []) known (around (35 * 2 ^ 26 + 12))
+    ∷ leaves (tried (at 8 20 64 0) known (43 * 2 ^ 26 + 12)) (numbers (at 20 24 64 0)) 97 98 0 (14 ∷ 8 ∷ []) known
+    (set (around (43 * 2 ^ 26 + 12)) 3 0)
+    -- [sign extension] from bit 15: 0x7FFF and 0x8000
+    ∷ by-opcode 8 0 0x7FFF 0x00007FFF
+    ∷ by-opcode 8 0 0x8000 0xFFFF8000
+    ∷ gets 0 0xFFFF8010 0x7FFC 12 303
+    ∷ gets 0 0x00008010 0x8000 16 304
+    ∷ puts 0 0xFFFF8010 0x7FFC 12
+    ∷ puts 0 0x00008010 0x8000 16
+    ∷ jumps (i-word 4 0x7FFC) 0 0x00008010
+    ∷ jumps (i-word 4 0x8000) 0 0xFFFF8014
+    ∷ jumps (i-word 5 0x7FFC) 1 0x00008010
+    ∷ jumps (i-word 5 0x8000) 1 0xFFFF8014
+    ∷ []
+
+-- where the first number is less, equal, greater
+unfoldable pub comparisons : List Bool
+comparisons =
+    -- [clr 24] never
+    orders-opcode 24 0 0 0
+    -- [sgr 25] greater
+    ∷ orders-opcode 25 0 0 1
+    -- [seq 26] equal
+    ∷ orders-opcode 26 0 1 0
+    -- [sge 27] greater or equal
+    ∷ orders-opcode 27 0 1 1
+    -- [sls 28] less
+    ∷ orders-opcode 28 1 0 0
+    -- [sne 29] unequal
+    ∷ orders-opcode 29 1 0 1
+    -- [sle 30] less or equal
+    ∷ orders-opcode 30 1 1 0
+    -- [set 31] always
+    ∷ orders-opcode 31 1 1 1
+    -- [clr 40] never
     ∷ orders-function 40 0 0 0
+    -- [sgr 41] greater
     ∷ orders-function 41 0 0 1
+    -- [seq 42] equal
     ∷ orders-function 42 0 1 0
+    -- [sge 43] greater or equal
     ∷ orders-function 43 0 1 1
+    -- [sls 44] less
     ∷ orders-function 44 1 0 0
+    -- [sne 45] unequal
     ∷ orders-function 45 1 0 1
+    -- [sle 46] less or equal
     ∷ orders-function 46 1 1 0
+    -- [set 47] always
     ∷ orders-function 47 1 1 1
-    -- [beqz] [bnez] taken or not, on the whole word; no register changes
-    ∷ jumps (i-word 4 0x1230) 0 0x1244
+    ∷ []
+
+-- no jump but jal and jalr writes a register
+unfoldable pub jumping : List Bool
+jumping =
+    -- [beqz] taken or not, on the whole word
+    jumps (i-word 4 0x1230) 0 0x1244
     ∷ jumps (i-word 4 0xFFF0) 0 4
     ∷ jumps (i-word 4 0x1230) 1 24
     ∷ jumps (i-word 4 0x1230) 0x80000000 24
+    -- [bnez] likewise
     ∷ jumps (i-word 5 0x1230) 0 24
     ∷ jumps (i-word 5 0x1230) 1 0x1244
     ∷ jumps (i-word 5 0x1230) 0x80000000 0x1244
     ∷ jumps (i-word 5 0xFFF0) 2 4
-    -- [jr] [jalr] PC' = RS1, as it was before the link; a misaligned target is taken
+    -- [jr] PC' = RS1, a misaligned one too
     ∷ jumps (i-word 22 0x1230) 0x4568 0x4568
     ∷ jumps (i-word 22 0x1230) 0x4567 0x4567
+    -- [jalr] likewise; RS1 is read before the link is written
     ∷ links (i-word 23 0x1230) 0x4568 0x4568
     ∷ links (i-word 23 0x1230) 0x4567 0x4567
     ∷ goes (23 * 2 ^ 26 + 31 * 2 ^ 21) known 231 (set known 31 24)
-    -- [j] [jal] PC' = PC + imm, extended from bit 25
+    -- [j] PC' = PC + imm, extended from bit 25
     ∷ jumps (j-word 2 0x0000FFFC) 221 0x00010010
     ∷ jumps (j-word 2 0x01FFFFFC) 221 0x02000010
     ∷ jumps (j-word 2 0x02000000) 221 0xFE000014
     ∷ jumps (j-word 2 0x03FFFFF0) 221 4
+    -- [jal] likewise, with the link
     ∷ links (j-word 3 0x0000FFFC) 221 0x00010010
     ∷ links (j-word 3 0x01FFFFFC) 221 0x02000010
     ∷ links (j-word 3 0x02000000) 221 0xFE000014
@@ -351,40 +407,21 @@ instructions =
     ∷ plain 64 0 (j-word 62 257) known 24 (set (set known 3 0) 1 77)
     -- [rfe] PC = EPC, DPC = EDPC, SR = ESR, MODE = EMODE; its other bits are ignored
     ∷ leaves (tried (at 8 20 64 0) known (j-word 63 0)) (100 ∷ 96 ∷ 91 ∷ 91 ∷ 92 ∷ 96 ∷ 100 ∷ 95 ∷ 1 ∷ 1 ∷ []) 97 98 0 (8 ∷ []) known
-        (around (j-word 63 0))
+    (around (j-word 63 0))
     ∷ leaves (tried (moded 8 20 64 0 0) known (j-word 63 0x03FFFFFF)) (100 ∷ 96 ∷ 91 ∷ 91 ∷ 92 ∷ 96 ∷ 100 ∷ 95 ∷ 0 ∷ 0 ∷ []) 97 98 0 (8 ∷ [])
-        known (around (j-word 63 0x03FFFFFF))
-    -- [register 0] reads 0, and writes to it vanish
-    ∷ goes (8 * 2 ^ 26 + 27 * 2 ^ 16 + 5) known 24 (set known 27 5)
-    ∷ goes (21 * 2 ^ 21 + 27 * 2 ^ 11 + 34) known 24 (set known 27 221)
-    ∷ goes (19 * 2 ^ 16 + 27 * 2 ^ 11 + 32) known 24 (set known 27 219)
-    ∷ goes (8 * 2 ^ 26 + 21 * 2 ^ 21 + 5) known 24 known
-    ∷ goes (15 * 2 ^ 26 + 5) known 24 known
-    ∷ goes (31 * 2 ^ 26 + 21 * 2 ^ 21 + 5) known 24 known
-    ∷ goes (21 * 2 ^ 21 + 19 * 2 ^ 16 + 32) known 24 known
-    ∷ plain 64 0 (2 * 2 ^ 6 + 16) known 24 known
-    ∷ leaves (tried (at 8 20 64 0) known (35 * 2 ^ 26 + 12)) (numbers (at 20 24 64 0)) 97 98 0 (12 ∷ 8 ∷ []) known (around (35 * 2 ^ 26 + 12))
-    ∷ leaves (tried (at 8 20 64 0) known (43 * 2 ^ 26 + 12)) (numbers (at 20 24 64 0)) 97 98 0 (14 ∷ 8 ∷ []) known
-        (set (around (43 * 2 ^ 26 + 12)) 3 0)
-    -- [sign extension] from bit 15: 0x7FFF and 0x8000
-    ∷ by-opcode 8 0 0x7FFF 0x00007FFF
-    ∷ by-opcode 8 0 0x8000 0xFFFF8000
-    ∷ gets 0 0xFFFF8010 0x7FFC 12 303
-    ∷ gets 0 0x00008010 0x8000 16 304
-    ∷ puts 0 0xFFFF8010 0x7FFC 12
-    ∷ puts 0 0x00008010 0x8000 16
-    ∷ jumps (i-word 4 0x7FFC) 0 0x00008010
-    ∷ jumps (i-word 4 0x8000) 0 0xFFFF8014
-    ∷ jumps (i-word 5 0x7FFC) 1 0x00008010
-    ∷ jumps (i-word 5 0x8000) 1 0xFFFF8014
+    known (around (j-word 63 0x03FFFFFF))
     -- [PC] PC' = PC + 4, and 0xFFFFFFFC goes to 0; jumps wrap too
     ∷ leaves (tried (at 8 0xFFFFFFFC 64 0) known (r-word 32)) (numbers (at 0xFFFFFFFC 0 64 0)) 97 98 0 (8 ∷ []) (set known 27 440) (around (r-word 32))
     ∷ leaves (tried (at 8 0xFFFFFFFC 64 0) known (j-word 3 8)) (numbers (at 0xFFFFFFFC 4 64 0)) 97 98 0 (8 ∷ []) (set known 31 0) (around (j-word 3 8))
+    ∷ []
+
+unfoldable pub ills : List Bool
+ills =
     -- [ill opcodes] every opcode that the table doesn't have
-    ∷ each (λ op. refuses 0 (i-word op 0x1230))
-        (1 ∷ 6 ∷ 7 ∷ 9 ∷ 11 ∷ 16 ∷ 17 ∷ 18 ∷ 19 ∷ 20 ∷ 21 ∷ 32 ∷ 33 ∷ 34 ∷ 36 ∷ 37 ∷ 38 ∷ 39 ∷ 40 ∷ 41 ∷ 42 ∷ [])
+    each (λ op. refuses 0 (i-word op 0x1230))
+    (1 ∷ 6 ∷ 7 ∷ 9 ∷ 11 ∷ 16 ∷ 17 ∷ 18 ∷ 19 ∷ 20 ∷ 21 ∷ 32 ∷ 33 ∷ 34 ∷ 36 ∷ 37 ∷ 38 ∷ 39 ∷ 40 ∷ 41 ∷ 42 ∷ [])
     ∷ each (λ op. refuses 1 (i-word op 0x1230))
-        (44 ∷ 45 ∷ 46 ∷ 47 ∷ 48 ∷ 49 ∷ 50 ∷ 51 ∷ 52 ∷ 53 ∷ 54 ∷ 55 ∷ 56 ∷ 57 ∷ 58 ∷ 59 ∷ 60 ∷ 61 ∷ [])
+    (44 ∷ 45 ∷ 46 ∷ 47 ∷ 48 ∷ 49 ∷ 50 ∷ 51 ∷ 52 ∷ 53 ∷ 54 ∷ 55 ∷ 56 ∷ 57 ∷ 58 ∷ 59 ∷ 60 ∷ 61 ∷ [])
     -- [ill functions] every function that the table doesn't have; so word 0 is ill
     ∷ refuses 0 0
     ∷ each (λ f. refuses 0 (s-word f 3)) (0 ∷ 1 ∷ 2 ∷ 3 ∷ 4 ∷ 5 ∷ 6 ∷ 7 ∷ 8 ∷ 9 ∷ 10 ∷ 11 ∷ 12 ∷ 13 ∷ 14 ∷ 15 ∷ [])
@@ -415,7 +452,7 @@ becomes n x ps = moves (at 8 20 64 0) n x ps 97 98 (8 ∷ [])
 unfoldable pub behind-it : ℕ → ℕ → List ℕ
 behind-it n x =
     steps watched (λ _. reply 0 77) 2 (core (at 8 20 64 0) (given x 219), record { table = tables; words = around (s-word 17 n); seen = [] })
-        .1 .seen
+    .1 .seen
 
 unfoldable pub specials : List Bool
 specials =
