@@ -1,8 +1,8 @@
 -- The examples hold: the single claim about the rules.
 use mathlib.Core.Path.{_≡_, refl}
-use Prim.Native.Nat.{ℕ}
 use mathlib.Core.Bool.{Bool, true, false, _&&_}
 use mathlib.Core.List.{List, [], _∷_, _++_}
+use Prim.Native.Nat.{ℕ}
 use lib.Count.{trailingZeros}
 use Rattle.dlx.specs.Words.{extendedBy, readIn, holds}
 use Rattle.dlx.specs.Instructions.{registerType, instructionOf}

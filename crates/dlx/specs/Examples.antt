@@ -456,6 +456,7 @@ behind-it n x =
 
 unfoldable pub specials : List Bool
 specials =
+    -- [movs2i] [movi2s] read and write each special register, and go on to PC + 4
     -- [special 0 SR]
     reads 0 64
     ∷ becomes 0 0xFEDCBA98 (20 ∷ 24 ∷ 0xFEDCBA98 ∷ 91 ∷ 92 ∷ 96 ∷ 100 ∷ 95 ∷ 0 ∷ 1 ∷ [])
