@@ -11,9 +11,10 @@ use Rattle.dlx.specs.Execute.{written, valueOf, overflowsOf, operated, reached,
 use Rattle.dlx.specs.Machine.{executed, fetched, loaded, stored, accessed, received, handed, settled, retabled, step, steps}
 use Rattle.translate.specs.Entries.{judged, composed}
 use Rattle.translate.specs.Walk.{walked, direct}
-use Rattle.translate.specs.Memory.{hosted, given, filled, looked, served, hostRead, emptied, hostWritten, hostReads, hostWrites}
-use Rattle.translate.specs.Examples.{compositions, reads, writes, gives, faults, shadow, words, accesses, booted, stepped, once, user, interrupt, single, all}
+use Rattle.translate.specs.Memory.{loneFound, loneRead, loneWritten, hosted, given, filled, looked, served, hostRead, emptied, hostWritten, hostReads, hostWrites}
+use Rattle.dlx.specs.Examples.{same}
+use Rattle.translate.specs.Examples.{compositions, wordsFrom, sameHost, answer, gives, faults, refuses, writes, walks, hits, emptyings, sameLone, loneLoads, loneStores, alone, booted, stepped, once, system, user, numbers, leaves, goesOn, interrupt, single, all}
 
-pub checked : all (compositions ++ (accesses ++ (stepped ++ single))) ≡ true
-unfolding all compositions accesses stepped single once user interrupt reads writes gives faults shadow words booted judged composed walked direct hosted given filled looked served hostRead emptied hostWritten hostReads hostWrites step steps fetched executed loaded stored accessed received handed settled retabled instructionOf registerType effectOf written valueOf overflowsOf operated reached loads stores movedTo trapOf specialOf withSpecial interrupted levelOf trailingZeros extendedBy readIn holds
+pub checked : all (compositions ++ (walks ++ (hits ++ (emptyings ++ (alone ++ (stepped ++ single)))))) ≡ true
+unfolding all same compositions walks hits emptyings alone stepped single wordsFrom sameHost answer gives faults refuses writes sameLone loneLoads loneStores booted once system user numbers leaves goesOn interrupt judged composed walked direct loneFound loneRead loneWritten hosted given filled looked served hostRead emptied hostWritten hostReads hostWrites step steps fetched executed loaded stored accessed received handed settled retabled instructionOf registerType effectOf written valueOf overflowsOf operated reached loads stores movedTo trapOf specialOf withSpecial interrupted levelOf trailingZeros extendedBy readIn holds
 checked = refl

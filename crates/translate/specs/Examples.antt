@@ -1,36 +1,44 @@
--- Worked examples, as one list that proofs/Checked.antt checks by a single claim: 01's on entries, then accesses and steps of one shadowed guest.
+-- Worked examples, as one list that proofs/Checked.antt checks by a single claim. Each row of 01's rules stands in square brackets, as docs/EXAMPLES.md
+-- lists them. What is compared is the answer with the whole table, memory and shadow.
 use mathlib.Core.Bool.{Bool, true, false, not, _&&_}
 use mathlib.Core.List.{List, [], _∷_, _++_}
-use Prim.Native.Nat.{ℕ, _+_, _-_, _*_, _^_}
+use Prim.Native.Nat.{ℕ, zero, suc, _+_, _-_, _*_, _^_}
 use lib.Dec.{eqb}
-use lib.ListN.{getD, set, replicate}
+use lib.ListN.{getD, set, take, drop, replicate}
+use mir.Val.{boolByte}
 use Rattle.dlx.specs.Processor.{freshProcessor}
 use Rattle.dlx.specs.Machine.{Core, core, Outcome, reply, step, steps}
+use Rattle.dlx.specs.Examples.{same}
 use Rattle.dlx.specs.declared.partition.Table.{Table}
 use Rattle.dlx.specs.declared.partition.Processor.{Processor}
 use Rattle.dlx.specs.declared.execute.Access.{Access}
 use Rattle.dlx.specs.declared.execute.Access.the-variants.{Fault, Word}
-use Rattle.translate.specs.Entries.{entryOf, faultWord, compositionOf}
-use Rattle.translate.specs.Memory.{Host, host, hostMemory, freshShadow}
+use Rattle.translate.specs.Entries.{compositionOf}
+use Rattle.translate.specs.Memory.{Lone, lone, loneMemory, Host, host, hostWord, hostMemory, freshShadow}
 
--- ---- entry composition: 0 is load, 1 store
+-- ---- entry composition: 0 is load, 1 store; 4,294,967,295 is a fault
 
 unfoldable pub compositions : List Bool
 compositions =
-    -- entry 0x00003800, 4 pages: page 3; 3 pages: both fault
+    -- [composition: page number] entry 0x00003800, 4 pages: page 3; 3 pages: both fault
     eqb (compositionOf 0x00003800 4 0) 3
     ∷ eqb (compositionOf 0x00003800 4 1) 3
-    ∷ eqb (compositionOf 0x00003800 3 0) faultWord
-    ∷ eqb (compositionOf 0x00003800 3 1) faultWord
-    -- 0x00003C00: load works, store faults; 3 pages: both fault
-    ∷ eqb (compositionOf 0x00003C00 4 0) 3
-    ∷ eqb (compositionOf 0x00003C00 4 1) faultWord
-    ∷ eqb (compositionOf 0x00003C00 3 0) faultWord
-    ∷ eqb (compositionOf 0x00003C00 3 1) faultWord
-    -- all else than 0 is store; an entry that is not valid; the largest page count
-    ∷ eqb (compositionOf 0x00003C00 4 4294967295) faultWord
-    ∷ eqb (compositionOf 0x00003000 4 0) faultWord
+    ∷ eqb (compositionOf 0x00003800 3 0) 4294967295
+    ∷ eqb (compositionOf 0x00003800 3 1) 4294967295
     ∷ eqb (compositionOf 0xFFFFF800 4294967295 0) 1048575
+    ∷ eqb (compositionOf 0xFFFFF800 4294967295 1) 1048575
+    -- [composition: protected] 0x00003C00: load works, store faults; 3 pages: both fault
+    ∷ eqb (compositionOf 0x00003C00 4 0) 3
+    ∷ eqb (compositionOf 0x00003C00 4 1) 4294967295
+    ∷ eqb (compositionOf 0x00003C00 3 0) 4294967295
+    ∷ eqb (compositionOf 0x00003C00 3 1) 4294967295
+    ∷ eqb (compositionOf 0x00003BFF 4 1) 3
+    -- [composition: all else is store]
+    ∷ eqb (compositionOf 0x00003C00 4 2) 4294967295
+    ∷ eqb (compositionOf 0x00003C00 4 4294967295) 4294967295
+    -- [composition: valid] bit 11 is 0, and all below it 1
+    ∷ eqb (compositionOf 0x000037FF 4 0) 4294967295
+    ∷ eqb (compositionOf 0x00003000 4 1) 4294967295
     ∷ []
 
 -- ---- a guest of three pages, in frames 2, 0 and 1 of a memory of three frames; its table is its page 1, so host words 0 and on
@@ -38,13 +46,20 @@ compositions =
 abbrev frames : List ℕ
 frames = 2 ∷ 0 ∷ 1 ∷ replicate 253 0
 
--- entries: 0 page 0, 1 the table's own page 1, 2 page 2 protected, 3 a page that is not there, 4 not valid, 255 and 256 page 2. Host word 1024 (the
--- first of guest page 2) is 22, host word 2048 (the first of guest page 0) looks like
--- an entry of page 2.
+-- a word that tells its place, and n of them from place i on
+abbrev word : ℕ → ℕ
+word i = 0x50000000 + i
+
+unfoldable pub wordsFrom : ℕ → ℕ → List ℕ
+wordsFrom i zero = []
+wordsFrom i (suc n) = word i ∷ wordsFrom (suc i) n
+
+-- entries: 0 page 0, 1 the table's own page 1, 2 page 2 protected, 3 a page that is not there, 4 not valid though all below bit 11 is 1, 5 page 2 with
+-- bits 9..0 all 1, and 6, 255 and 256 page 2. Word 6 of page 2 is an entry of page 0, and the first of page 0 one of page 2.
 abbrev memory : List ℕ
 memory =
-    set (set (set (set (set (set (set (set (set (replicate 3072 0)
-    0 0x00000800) 1 0x00001800) 2 0x00002C00) 3 0x00003800) 4 0x00000000) 255 0x00002800) 256 0x00002800) 1024 22) 2048 0x00002814
+    0x00000800 ∷ 0x00001800 ∷ 0x00002C00 ∷ 0x00003BFF ∷ 0x000027FF ∷ 0x00002BFF ∷ 0x00002800
+    ∷ set (set (set (set (wordsFrom 7 3065) 248 0x00002800) 249 0x00002800) 1023 0x00000800) 2041 0x00002814
 
 abbrev table : ℕ → ℕ → Table
 table pto ptl = record { pto = pto; ptl = ptl }
@@ -52,80 +67,234 @@ table pto ptl = record { pto = pto; ptl = ptl }
 abbrev guest : ℕ → ℕ → Host
 guest pto ptl = host (table pto ptl) memory freshShadow
 
--- the shadow with entry px made by hand
-abbrev wrong : ℕ → ℕ → Host
-wrong px e = host (table 1 5) memory (set freshShadow px e)
+-- with a shadow made by hand; every entry leads to frame 1
+abbrev shadowed : List ℕ → Host
+shadowed sh = host (table 1 6) memory sh
 
-unfoldable pub reads : Host → Bool → ℕ → Access × Host
-reads h user a = hostMemory frames 3 .read h user a
+abbrev full : List ℕ
+full = replicate 256 0x00001800
 
-unfoldable pub writes : Host → Bool → ℕ → ℕ → Bool × Host
-writes h user a v = hostMemory frames 3 .write h user a (λ _. v)
+-- the empty shadow but for entry px
+abbrev only : ℕ → ℕ → List ℕ
+only px e = set freshShadow px e
 
-unfoldable pub gives : Access × Host → ℕ → Bool
-gives (Fault, h) w = false
-gives (Word v, h) w = eqb v w
+-- ---- what is looked at: the answer, and the whole of what is left
 
-unfoldable pub faults : Access × Host → Bool
-faults (Fault, h) = true
-faults (Word v, h) = false
+unfoldable pub sameHost : Host → Host → Bool
+sameHost h k =
+    eqb (h .table .pto) (k .table .pto) && eqb (h .table .ptl) (k .table .ptl) && same (h .words) (k .words) && same (h .shadow) (k .shadow)
 
-unfoldable pub shadow : Host → ℕ → ℕ
-shadow h px = getD (h .shadow) px 0
+-- a word or a fault, as a list of one or none
+unfoldable pub answer : Access → List ℕ
+answer Fault = []
+answer (Word v) = v ∷ []
 
-unfoldable pub words : Host → ℕ → ℕ
-words h i = getD (h .words) i 0
+-- a load answers this word, and leaves the shadow sh and all else as it was
+unfoldable pub gives : Host → Bool → ℕ → ℕ → List ℕ → Bool
+gives h user a w sh =
+    let g = hostMemory frames 3 .read h user a in
+    same (answer (g .0)) (w ∷ []) && sameHost (g .1) (host (h .table) (h .words) sh)
 
-unfoldable pub accesses : List Bool
-accesses =
-    -- a load through entry 0 reads frame 2, and fills
-    gives (reads (guest 1 5) true 0) 0x00002814
-    ∷ eqb (shadow (reads (guest 1 5) true 0 .1) 0) (entryOf 2 0)
-    -- a load through the protected entry 2 works and fills its protection; a store faults and fills too
-    ∷ gives (reads (guest 1 5) true 0x2000) 22
-    ∷ eqb (shadow (reads (guest 1 5) true 0x2000 .1) 2) (entryOf 1 1)
-    ∷ not (writes (guest 1 5) true 0x2000 7 .0)
-    ∷ eqb (shadow (writes (guest 1 5) true 0x2000 7 .1) 2) (entryOf 1 1)
-    ∷ eqb (words (writes (guest 1 5) true 0x2000 7 .1) 1024) 22
-    -- a store faults on a hit of a protected entry as well
-    ∷ not (writes (wrong 2 (entryOf 1 1)) true 0x2000 7 .0)
-    -- a page that is not there, an entry that is not valid, one past PTL: faults that fill nothing
-    ∷ faults (reads (guest 1 5) true 0x3000)
-    ∷ eqb (shadow (reads (guest 1 5) true 0x3000 .1) 3) 0
-    ∷ faults (reads (guest 1 5) true 0x4000)
-    ∷ faults (reads (guest 1 255) true 0xFF000)
-    -- px 255 may pass, 256 never
-    ∷ gives (reads (guest 1 256) true 0xFF000) 22
-    ∷ faults (reads (guest 1 4294967295) true 0x100000)
-    ∷ faults (reads (guest 1 4294967295) true 0xFFFFFFFC)
-    -- a table outside guest memory; PTO never wraps
-    ∷ faults (reads (guest 3 5) true 0)
-    ∷ faults (reads (guest (2 ^ 20) 5) true 0)
-    ∷ faults (reads (guest 4294967295 5) true 0)
-    -- system mode: below 4,096 times the page count, and no fill
-    ∷ gives (reads (guest 1 5) false 0x2000) 22
-    ∷ eqb (shadow (reads (guest 1 5) false 0 .1) 0) 0
-    ∷ faults (reads (guest 1 5) false 0x3000)
-    -- a store into entry 2 of the table empties shadow 2: in system mode, and in user mode through the mapped page 1
-    ∷ eqb (shadow (writes (wrong 2 (entryOf 1 1)) false 0x1008 7 .1) 2) 0
-    ∷ eqb (words (writes (wrong 2 (entryOf 1 1)) false 0x1008 7 .1) 2) 7
-    ∷ eqb (shadow (writes (wrong 2 (entryOf 1 1)) true 0x1008 7 .1) 2) 0
-    ∷ eqb (shadow (writes (wrong 2 (entryOf 1 1)) true 0x1008 7 .1) 1) (entryOf 0 0)
-    -- also of an equal value; not its neighbour, not from PTL on, and not in another page
-    ∷ eqb (shadow (writes (wrong 2 (entryOf 1 1)) false 0x1008 0x00002C00 .1) 2) 0
-    ∷ eqb (shadow (writes (wrong 2 (entryOf 1 1)) false 0x100C 7 .1) 2) (entryOf 1 1)
-    ∷ eqb (shadow (writes (wrong 5 (entryOf 1 1)) false 0x1014 7 .1) 5) (entryOf 1 1)
-    ∷ eqb (shadow (writes (wrong 2 (entryOf 1 1)) false 0x0008 7 .1) 2) (entryOf 1 1)
-    -- a store that fills the entry it overwrites leaves it empty
-    ∷ eqb (shadow (writes (guest 1 5) true 0x1004 7 .1) 1) 0
-    -- a change of PTO or PTL empties all
-    ∷ eqb (shadow (hostMemory frames 3 .retable (wrong 2 (entryOf 1 1)) (table 1 5)) 2) 0
-    -- a wrong shadow is used alone, also past PTL: entry 0 and entry 6 lead to frame 1
-    ∷ gives (reads (wrong 0 (entryOf 1 0)) true 0) 22
-    ∷ gives (reads (wrong 6 (entryOf 1 0)) true 0x6000) 22
-    -- one that leads to the table's frame: the page written is the frame's place in the list
-    ∷ eqb (shadow (writes (wrong 0 (entryOf 0 0)) true 0 7 .1) 0) 0
-    ∷ eqb (words (writes (wrong 0 (entryOf 0 0)) true 0 7 .1) 0) 7
+-- a load and a store fault, and leave so
+unfoldable pub faults : Host → Bool → ℕ → List ℕ → Bool
+faults h user a sh =
+    let g = hostMemory frames 3 .read h user a in
+    same (answer (g .0)) [] && sameHost (g .1) (host (h .table) (h .words) sh)
+
+unfoldable pub refuses : Host → Bool → ℕ → List ℕ → Bool
+refuses h user a sh =
+    let g = hostMemory frames 3 .write h user a (λ w. w + 7) in
+    not (g .0) && sameHost (g .1) (host (h .table) (h .words) sh)
+
+-- a store of v becomes host word i, and leaves the shadow sh and all else as it was
+unfoldable pub writes : Host → Bool → ℕ → ℕ → ℕ → List ℕ → Bool
+writes h user a v i sh =
+    let g = hostMemory frames 3 .write h user a (λ _. v) in
+    (g .0) && sameHost (g .1) (host (h .table) (set (h .words) i v) sh)
+
+-- ---- the walk, system mode and fills
+
+unfoldable pub walks : List Bool
+walks =
+    -- [walk: px not below PTL] PTL is a count: px 5 passes with PTL 6, and faults with PTL 5; px 0 with 1 and with 0
+    gives (guest 1 6) true 0x5ABC (word 1711) (only 5 0x00001800)
+    ∷ faults (guest 1 5) true 0x5ABC freshShadow
+    ∷ refuses (guest 1 5) true 0x5ABC freshShadow
+    ∷ gives (guest 1 1) true 0x0ABC (word 2735) (only 0 0x00002800)
+    ∷ faults (guest 1 0) true 0x0ABC freshShadow
+    -- [walk: px above 255] 255 may pass, 256 never
+    ∷ gives (guest 1 256) true 0xFFABC (word 1711) (only 255 0x00001800)
+    ∷ faults (guest 1 257) true 0x100ABC freshShadow
+    ∷ refuses (guest 1 257) true 0x100ABC freshShadow
+    ∷ faults (guest 1 4294967295) true 0xFFFFFFFC freshShadow
+    -- [walk: entry outside guest memory] PTO 2 is the last page, 3 is outside; never wrapped, though 4,096·PTO modulo 2^32 is page 0 or the table's
+    ∷ gives (guest 2 7) true 0x6ABC (word 2735) (only 6 0x00002800)
+    ∷ faults (guest 3 7) true 0x0ABC freshShadow
+    ∷ faults (guest 3 7) true 0x6ABC freshShadow
+    ∷ refuses (guest 3 7) true 0x6ABC freshShadow
+    ∷ faults (guest (2 ^ 20) 7) true 0x0ABC freshShadow
+    ∷ faults (guest (2 ^ 20 + 1) 7) true 0x0ABC freshShadow
+    ∷ faults (guest 4294967295 7) true 0x0ABC freshShadow
+    -- [walk: valid] entry 4 has bit 11 alone 0
+    ∷ faults (guest 1 6) true 0x4ABC freshShadow
+    ∷ refuses (guest 1 6) true 0x4ABC freshShadow
+    -- [walk: page number] page 2 passes, 3 does not; it is bits 31..12
+    ∷ gives (guest 0 1) true 0x0ABC (word 1711) (only 0 0x00001800)
+    ∷ faults (guest 1 6) true 0x3ABC freshShadow
+    ∷ refuses (guest 1 6) true 0x3ABC freshShadow
+    ∷ faults (host (table 1 6) (set memory 0 0x80000800) freshShadow) true 0x0ABC freshShadow
+    -- [walk: protected store] bit 10 alone forbids a store; a load goes through
+    ∷ gives (guest 1 6) true 0x2ABC (word 1711) (only 2 0x00001C00)
+    ∷ refuses (guest 1 6) true 0x2ABC (only 2 0x00001C00)
+    ∷ writes (guest 1 6) true 0x5ABC 77 1711 (only 5 0x00001800)
+    -- [walk: guest page k is the k-th frame of its list]
+    ∷ gives (guest 1 6) true 0x0FFC (word 3071) (only 0 0x00002800)
+    ∷ gives (guest 1 6) true 0x1ABC (word 687) (only 1 0x00000800)
+    ∷ writes (guest 1 6) true 0x0FFC 77 3071 (only 0 0x00002800)
+    ∷ eqb (hostWord frames memory 1023) (word 3071)
+    ∷ eqb (hostWord frames memory 2047) (word 1023)
+    ∷ eqb (hostWord frames memory 2048) (word 1024)
+    -- [system: below 4,096 times the page count] both sides of the limit; neither table nor shadow counts, and nothing is filled
+    ∷ gives (guest 1 6) false 0x2FFC (word 2047) freshShadow
+    ∷ faults (guest 1 6) false 0x3000 freshShadow
+    ∷ faults (guest 1 6) false 0xFFFFFFFC freshShadow
+    ∷ writes (guest 1 6) false 0x2FFC 77 2047 freshShadow
+    ∷ refuses (guest 1 6) false 0x3000 freshShadow
+    ∷ refuses (shadowed full) false 0x3008 full
+    ∷ gives (guest 9 0) false 0x0ABC (word 2735) freshShadow
+    ∷ gives (shadowed (only 0 0x00001C00)) false 0x0ABC (word 2735) (only 0 0x00001C00)
+    ∷ writes (shadowed (only 0 0x00001C00)) false 0x0ABC 77 2735 (only 0 0x00001C00)
+    -- [fill: frame and protection] into entry px alone, by a load and by a store, over what is not valid too
+    ∷ gives (shadowed (set full 0 0)) true 0x0ABC (word 2735) (set full 0 0x00002800)
+    ∷ writes (shadowed (set full 5 0)) true 0x5ABC 77 1711 (set full 5 0x00001800)
+    ∷ gives (shadowed (set full 2 0)) true 0x2ABC (word 1711) (set full 2 0x00001C00)
+    ∷ gives (shadowed (only 0 0x000017FF)) true 0x0ABC (word 2735) (only 0 0x00002800)
+    -- [fill: protected store] it faults and fills
+    ∷ refuses (shadowed (set full 2 0)) true 0x2ABC (set full 2 0x00001C00)
+    -- [fill: none on a failed test]
+    ∷ faults (shadowed (set full 3 0)) true 0x3ABC (set full 3 0)
+    ∷ faults (shadowed (set full 4 0)) true 0x4ABC (set full 4 0)
+    ∷ refuses (shadowed (set full 6 0)) true 0x6ABC (set full 6 0)
+    ∷ faults (shadowed (only 4 0x000017FF)) true 0x4ABC (only 4 0x000017FF)
+    ∷ faults (shadowed full) true 0x100ABC full
+    ∷ []
+
+-- ---- hits
+
+unfoldable pub hits : List Bool
+hits =
+    -- [hit: frame alone] though the table leads to another frame, to a page that is not there, to an entry that is not valid
+    gives (shadowed (only 0 0x00001800)) true 0x0ABC (word 1711) (only 0 0x00001800)
+    ∷ gives (shadowed full) true 0x3ABC (word 1711) full
+    ∷ gives (shadowed full) true 0x4ABC (word 1711) full
+    ∷ writes (shadowed full) true 0x4ABC 77 1711 full
+    ∷ gives (host (table 3 7) memory full) true 0x0ABC (word 1711) full
+    -- [hit: protection alone] the shadow's, whatever the table's
+    ∷ gives (shadowed (only 0 0x00002C00)) true 0x0ABC (word 2735) (only 0 0x00002C00)
+    ∷ refuses (shadowed (only 0 0x00002C00)) true 0x0ABC (only 0 0x00002C00)
+    ∷ writes (shadowed full) true 0x2ABC 77 1711 full
+    -- [hit: px at or above PTL]
+    ∷ gives (shadowed full) true 0x6ABC (word 1711) full
+    ∷ gives (shadowed full) true 0xFFABC (word 1711) full
+    ∷ writes (host (table 1 0) memory full) true 0x0ABC 77 1711 full
+    -- [hit: entry px] and not the next one's
+    ∷ gives (shadowed (only 1 0x00001800)) true 0x0ABC (word 2735) (set (only 1 0x00001800) 0 0x00002800)
+    ∷ gives (shadowed (set full 1 0x00002800)) true 0x1ABC (word 2735) (set full 1 0x00002800)
+    -- [hit: the page written is the frame's place in the list] px 0 leads to the table's frame
+    ∷ writes (shadowed (set full 0 0x00000800)) true 0x000C 77 3 (set (set full 0 0x00000800) 3 0)
+    ∷ writes (shadowed (set full 1 0x00002800)) true 0x100C 77 2051 (set full 1 0x00002800)
+    ∷ []
+
+-- ---- emptying
+
+-- the table's page mapped
+abbrev mapped : List ℕ
+mapped = set full 1 0x00000800
+
+unfoldable pub emptyings : List Bool
+emptyings =
+    -- [emptying: store in system mode] into entry 2 of the table: shadow 2 and no other
+    writes (shadowed full) false 0x1008 77 2 (set full 2 0)
+    -- [emptying: store in user mode] through the mapped page 1, by a hit and by a fill
+    ∷ writes (shadowed mapped) true 0x1008 77 2 (set mapped 2 0)
+    ∷ writes (shadowed (set full 1 0)) true 0x1008 77 2 (set mapped 2 0)
+    -- [emptying: equal value]
+    ∷ writes (shadowed full) false 0x1008 0x00002C00 2 (set full 2 0)
+    ∷ writes (shadowed mapped) true 0x1008 0x00002C00 2 (set mapped 2 0)
+    -- [emptying: px below PTL] 5 is, 6 isn't
+    ∷ writes (shadowed full) false 0x1014 77 5 (set full 5 0)
+    ∷ writes (shadowed full) false 0x1018 77 6 full
+    ∷ writes (shadowed mapped) true 0x1018 77 6 mapped
+    -- [emptying: px below 256] 255 is; 256 isn't, in a shadow made one too long
+    ∷ writes (host (table 1 4294967295) memory full) false 0x13FC 77 255 (set full 255 0)
+    ∷ writes (host (table 1 4294967295) memory (replicate 257 0x00001800)) false 0x1400 77 256 (replicate 257 0x00001800)
+    -- [emptying: the table's page] no other page, whatever PTO; none where PTO is outside
+    ∷ writes (shadowed full) false 0x0008 77 2050 full
+    ∷ writes (shadowed full) false 0x2008 77 1026 full
+    ∷ writes (host (table 0 6) memory full) false 0x0008 77 2050 (set full 2 0)
+    ∷ writes (host (table 2 6) memory full) true 0x0008 77 1026 (set full 2 0)
+    ∷ writes (host (table 3 6) memory full) false 0x1008 77 2 full
+    -- [emptying: none by a faulted store]
+    ∷ refuses (shadowed (set full 1 0x00000C00)) true 0x1008 (set full 1 0x00000C00)
+    ∷ refuses (shadowed (set full 3 0)) true 0x3008 (set full 3 0)
+    -- [emptying: after the access] a store fills the entry that it overwrites, and leaves it empty
+    ∷ writes (guest 1 6) true 0x1004 77 1 freshShadow
+    ∷ writes (shadowed mapped) true 0x1004 77 1 (set full 1 0)
+    -- [emptying: none by a load]
+    ∷ gives (shadowed full) false 0x1008 0x00002C00 full
+    ∷ gives (shadowed mapped) true 0x1008 0x00002C00 mapped
+    -- [emptying: a change of PTO or PTL] all, of the same values too
+    ∷ sameHost (hostMemory frames 3 .retable (shadowed full) (table 8 9)) (guest 8 9)
+    ∷ sameHost (hostMemory frames 3 .retable (shadowed full) (table 1 6)) (guest 1 6)
+    -- [store: what is written] a store's update of the word that stands there
+    ∷ (let g = hostMemory frames 3 .write (guest 1 6) false 0x0ABC (λ w. w + 7) in
+    (g .0) && sameHost (g .1) (host (table 1 6) (set memory 2735 (word 2742)) freshShadow))
+    ∷ []
+
+-- ---- the same guest as a lone machine: its pages in order, and no shadow
+
+abbrev own : List ℕ
+own = drop 2048 memory ++ take 2048 memory
+
+abbrev lonely : ℕ → ℕ → Lone
+lonely pto ptl = lone (table pto ptl) own
+
+unfoldable pub sameLone : Lone → ℕ → ℕ → List ℕ → Bool
+sameLone s pto ptl ws = eqb (s .table .pto) pto && eqb (s .table .ptl) ptl && same (s .words) ws
+
+-- a load answers this, a word or a fault, and changes nothing; a store of 77 becomes word i, or changes nothing
+unfoldable pub loneLoads : ℕ → ℕ → Bool → ℕ → List ℕ → Bool
+loneLoads pto ptl user a l =
+    let g = loneMemory 3 .read (lonely pto ptl) user a in same (answer (g .0)) l && sameLone (g .1) pto ptl own
+
+unfoldable pub loneStores : ℕ → ℕ → Bool → ℕ → Bool → List ℕ → Bool
+loneStores pto ptl user a made ws =
+    let g = loneMemory 3 .write (lonely pto ptl) user a (λ w. w + 7) in
+    eqb (boolByte (g .0)) (boolByte made) && sameLone (g .1) pto ptl ws
+
+unfoldable pub alone : List Bool
+alone =
+    -- [walk: a lone machine] its table alone decides: each test at its two sides
+    loneLoads 1 6 true 0x5ABC (word 1711 ∷ [])
+    ∷ loneLoads 1 5 true 0x5ABC []
+    ∷ loneLoads 1 256 true 0xFFABC (word 1711 ∷ [])
+    ∷ loneLoads 1 257 true 0x100ABC []
+    ∷ loneLoads 2 7 true 0x6ABC (word 2735 ∷ [])
+    ∷ loneLoads (2 ^ 20 + 1) 7 true 0x0ABC []
+    ∷ loneLoads 1 6 true 0x4ABC []
+    ∷ loneLoads 1 6 true 0x3ABC []
+    ∷ loneLoads 1 6 true 0x2ABC (word 1711 ∷ [])
+    ∷ loneStores 1 6 true 0x2ABC false own
+    ∷ loneStores 1 6 true 0x4ABC false own
+    ∷ loneStores 1 6 true 0x5ABC true (set own 2735 (word 1718))
+    ∷ loneStores 1 6 true 0x1ABC true (set own 1711 (word 694))
+    -- [system: a lone machine]
+    ∷ loneLoads 9 0 false 0x2FFC (word 2047 ∷ [])
+    ∷ loneLoads 1 6 false 0x3000 []
+    ∷ loneStores 1 6 false 0x2FFC true (set own 3071 (word 2054))
+    ∷ loneStores 1 6 false 0x3000 false own
+    -- [emptying: a lone machine] has nothing to empty: PTO and PTL change alone
+    ∷ sameLone (loneMemory 3 .retable (lonely 1 6) (table 8 9)) 8 9 own
     ∷ []
 
 -- ---- steps of one partition: frame 0 of a memory of one frame
@@ -134,7 +303,8 @@ abbrev zeros : List ℕ
 zeros = replicate 32 0
 
 unfoldable pub booted : ℕ → List ℕ → Core × Host
-booted n ws = steps (hostMemory (0 ∷ replicate 255 0) 1) (λ _. reply 0 0) n (core freshProcessor zeros, host (table 0 0) (ws ++ replicate 1020 0) freshShadow)
+booted n ws =
+    steps (hostMemory (0 ∷ replicate 255 0) 1) (λ _. reply 0 0) n (core freshProcessor zeros, host (table 0 0) (ws ++ replicate 1020 0) freshShadow)
 
 abbrev program : List ℕ
 program = 0x20010005 ∷ 0xAC010008 ∷ 0 ∷ 0 ∷ []
@@ -142,8 +312,8 @@ program = 0x20010005 ∷ 0xAC010008 ∷ 0 ∷ 0 ∷ []
 unfoldable pub stepped : List Bool
 stepped =
     -- 0x20010005: register 1 = 5; 0xAC010008 after it: byte address 8 holds 5
-    eqb (getD (booted 1 program .0 .registers) 1 0) 5
-    ∷ eqb (words (booted 2 program .1) 2) 5
+    same (booted 1 program .0 .registers) (set zeros 1 5)
+    ∷ sameHost (booted 2 program .1) (host (table 0 0) (0x20010005 ∷ 0xAC010008 ∷ 5 ∷ replicate 1021 0) freshShadow)
     -- the third step: ill, ECA 2, EDPC 12, EPC 16
     ∷ (let p = booted 3 program .0 .processor in eqb (p .eca) 2 && eqb (p .edpc) 12 && eqb (p .epc) 16)
     ∷ []
@@ -152,53 +322,77 @@ stepped =
 
 abbrev at : ℕ → ℕ → ℕ → Processor
 at dpc pc mode =
-    record { dpc = dpc; pc = pc; sr = 0; esr = 0; eca = 0; epc = 0; edpc = 0; edata = 95; mode = mode; emode = 0 }
+    record { dpc = dpc; pc = pc; sr = 3; esr = 91; eca = 92; epc = 93; edpc = 94; edata = 95; mode = mode; emode = 0 }
+
+abbrev nine : List ℕ
+nine = set zeros 1 9
 
 -- the word w at the host's word i, and a shadow
 unfoldable pub once : Processor → ℕ → ℕ → List ℕ → Outcome × Host
-once p i w sh = step (hostMemory frames 3) (reply 0 0) (core p (set zeros 1 9), host (table 1 5) (set memory i w) sh)
+once p i w sh = step (hostMemory frames 3) (reply 0 0) (core p nine, host (table 1 6) (set memory i w) sh)
 
--- at guest address 0, in user mode, through an empty shadow
-unfoldable pub user : ℕ → Outcome × Host
-user w = once (at 0 4 1) 2048 w freshShadow
+-- at guest address 0, in system or user mode
+unfoldable pub system : ℕ → List ℕ → Outcome × Host
+system w sh = once (at 0 4 0) 2048 w sh
 
-unfoldable pub interrupt : Outcome × Host → ℕ → ℕ → ℕ → ℕ → Bool
-interrupt m eca edpc epc edata =
-    let p = m .0 .core .processor in
-    eqb (p .eca) eca && eqb (p .edpc) edpc && eqb (p .epc) epc && eqb (p .edata) edata
+unfoldable pub user : ℕ → List ℕ → Outcome × Host
+user w sh = once (at 0 4 1) 2048 w sh
+
+-- every number of a processor
+unfoldable pub numbers : Processor → List ℕ
+numbers p =
+    p .dpc ∷ p .pc ∷ p .sr ∷ p .esr ∷ p .eca ∷ p .epc ∷ p .edpc ∷ p .edata ∷ p .mode ∷ p .emode ∷ []
+
+-- the whole of what a step leaves: the processor's numbers, the registers, whether it calls, and the host
+unfoldable pub leaves : Outcome × Host → List ℕ → List ℕ → Bool → Host → Bool
+leaves m p r calls h =
+    same (numbers (m .0 .core .processor)) p && same (m .0 .core .registers) r && eqb (boolByte (m .0 .calls)) (boolByte calls)
+    && sameHost (m .1) h
+
+-- it goes on in its mode with these registers, host word i becoming v; or is interrupted in that mode, with ECA, EDPC, EPC and EDATA
+unfoldable pub goesOn : Outcome × Host → ℕ → List ℕ → ℕ → ℕ → ℕ → List ℕ → Bool
+goesOn m mode r w i v sh =
+    leaves m (4 ∷ 8 ∷ 3 ∷ 91 ∷ 92 ∷ 93 ∷ 94 ∷ 95 ∷ mode ∷ 0 ∷ []) r false (host (table 1 6) (set (set memory 2048 w) i v) sh)
+
+unfoldable pub interrupt : Outcome × Host → ℕ → List ℕ → Bool → ℕ → ℕ → List ℕ → Bool
+interrupt m mode saved calls i w sh =
+    leaves m (0 ∷ 4 ∷ 0 ∷ 3 ∷ saved ++ (0 ∷ mode ∷ [])) nine calls (host (table 1 6) (set memory i w) sh)
+
+-- ECA, EPC, EDPC and EDATA, in a processor's order
+abbrev saving : ℕ → ℕ → ℕ → ℕ → List ℕ
+saving eca epc edpc edata = eca ∷ epc ∷ edpc ∷ edata ∷ []
 
 unfoldable pub single : List Bool
 single =
-    -- 0xF8000007 in system mode: ECA 32, EDATA 7, the guest calls; in user mode it doesn't, and the fetch fills
-    interrupt (once (at 0 4 0) 2048 0xF8000007 freshShadow) 32 4 8 7
-    ∷ once (at 0 4 0) 2048 0xF8000007 freshShadow .0 .calls
-    ∷ interrupt (user 0xF8000007) 32 4 8 7
-    ∷ not (user 0xF8000007 .0 .calls)
-    ∷ eqb (shadow (user 0xF8000007 .1) 0) (entryOf 2 0)
-    -- fill, then ill: what is filled stays
-    ∷ interrupt (user 0) 2 4 8 95
-    ∷ eqb (shadow (user 0 .1) 0) (entryOf 2 0)
-    -- a user store through the mapped page 1 into entry 2 of the table empties shadow 2
-    ∷ eqb (words (once (at 0 4 1) 2048 0xAC011008 (set freshShadow 2 (entryOf 1 1)) .1) 2) 9
-    ∷ eqb (shadow (once (at 0 4 1) 2048 0xAC011008 (set freshShadow 2 (entryOf 1 1)) .1) 2) 0
-    ∷ eqb (shadow (user 0xAC011008 .1) 1) (entryOf 0 0)
-    -- a store into entry 0 empties the entry that its own fetch filled
-    ∷ eqb (words (user 0xAC011000 .1) 0) 9
-    ∷ eqb (shadow (user 0xAC011000 .1) 0) 0
-    -- a store to the protected page 2: pfls with the address and the old pair, the entry is filled, nothing is written
-    ∷ interrupt (user 0xAC012000) 16 0 4 0x2000
-    ∷ eqb (shadow (user 0xAC012000 .1) 2) (entryOf 1 1)
-    ∷ eqb (words (user 0xAC012000 .1) 1024) 22
-    -- a load in a delay slot whose entry is not valid: the pair of the slot and the branch's target is saved
-    ∷ interrupt (once (at 4 64 1) 2049 0x8C014000 freshShadow) 16 4 64 0x4000
+    -- 0xF8000007 in system mode: ECA 32, EDATA 7, the guest calls; in user mode it doesn't. [fill: the fetch's survives] every interrupt
+    interrupt (system 0xF8000007 full) 0 (saving 32 8 4 7) true 2048 0xF8000007 full
+    ∷ interrupt (user 0xF8000007 freshShadow) 1 (saving 32 8 4 7) false 2048 0xF8000007 (only 0 0x00002800)
+    ∷ interrupt (user 0 freshShadow) 1 (saving 2 8 4 95) false 2048 0 (only 0 0x00002800)
+    -- [fill: by a load] 0x8C022ABC into register 2, through the protected entry 2
+    ∷ goesOn (user 0x8C022ABC freshShadow) 1 (set nine 2 (word 1711)) 0x8C022ABC 2048 0x8C022ABC (set (only 0 0x00002800) 2 0x00001C00)
+    -- [emptying: store in user mode] 0xAC011008 through the mapped page 1 into entry 2 of the table
+    ∷ goesOn (user 0xAC011008 (set freshShadow 2 0x00001C00)) 1 nine 0xAC011008 2 9 (set (only 0 0x00002800) 1 0x00000800)
+    -- [emptying: store in system mode]
+    ∷ goesOn (system 0xAC011008 full) 0 nine 0xAC011008 2 9 (set full 2 0)
+    -- [emptying: the fetch's own page] a store into entry 0 empties the entry that its own fetch filled
+    ∷ goesOn (user 0xAC011000 freshShadow) 1 nine 0xAC011000 0 9 (only 1 0x00000800)
+    -- [fill: protected store] pfls with the address and the old pair, the entry is filled, nothing is written
+    ∷ interrupt (user 0xAC012ABC freshShadow) 1 (saving 16 4 0 0x2ABC) false 2048 0xAC012ABC (set (only 0 0x00002800) 2 0x00001C00)
+    -- [fill: none on a failed test] a load in a delay slot whose entry is not valid: the pair of the slot and the branch's target is saved
+    ∷ interrupt (once (at 4 64 1) 2049 0x8C014ABC freshShadow) 1 (saving 16 64 4 0x4ABC) false 2049 0x8C014ABC (only 0 0x00002800)
     -- a fetch outside: pff with DPC
-    ∷ interrupt (once (at 0x4000 0x4004 1) 2048 0 freshShadow) 8 0x4000 0x4004 0x4000
-    -- a misaligned data address fills nothing
-    ∷ interrupt (user 0xAC011006) 4 4 8 95
-    ∷ eqb (shadow (user 0xAC011006 .1) 1) 0
-    -- movi2s to PTO empties all, and changes PTO
-    ∷ eqb (shadow (once (at 0 4 0) 2048 0x002001D1 (set freshShadow 2 (entryOf 1 1)) .1) 2) 0
-    ∷ eqb (once (at 0 4 0) 2048 0x002001D1 freshShadow .1 .table .pto) 9
+    ∷ interrupt (once (at 0x4000 0x4004 1) 2048 5 freshShadow) 1 (saving 8 0x4004 0x4000 0x4000) false 2048 5 freshShadow
+    -- [fill: none on a misaligned address] 0xAC011006 and 0x8C015002, and a fetch at 2
+    ∷ interrupt (user 0xAC011006 freshShadow) 1 (saving 4 8 4 95) false 2048 0xAC011006 (only 0 0x00002800)
+    ∷ interrupt (user 0x8C015002 freshShadow) 1 (saving 4 8 4 95) false 2048 0x8C015002 (only 0 0x00002800)
+    ∷ interrupt (once (at 2 8 1) 2048 5 freshShadow) 1 (saving 4 12 8 95) false 2048 5 freshShadow
+    -- [emptying: movi2s to PTO] 0x002001D1 empties all, and changes PTO; [emptying: movi2s to PTL] 0x00200211
+    ∷ leaves (system 0x002001D1 full) (4 ∷ 8 ∷ 3 ∷ 91 ∷ 92 ∷ 93 ∷ 94 ∷ 95 ∷ 0 ∷ 0 ∷ []) nine false (host (table 9 6) (set memory 2048 0x002001D1) freshShadow)
+    ∷ leaves (system 0x00200211 full) (4 ∷ 8 ∷ 3 ∷ 91 ∷ 92 ∷ 93 ∷ 94 ∷ 95 ∷ 0 ∷ 0 ∷ []) nine false (host (table 1 9) (set memory 2048 0x00200211) freshShadow)
+    -- [emptying: nothing else] movi2s to ESR, rfe, and an interrupt in either mode
+    ∷ leaves (system 0x00200051 full) (4 ∷ 8 ∷ 3 ∷ 9 ∷ 92 ∷ 93 ∷ 94 ∷ 95 ∷ 0 ∷ 0 ∷ []) nine false (host (table 1 6) (set memory 2048 0x00200051) full)
+    ∷ leaves (system 0xFC000000 full) (94 ∷ 93 ∷ 91 ∷ 91 ∷ 92 ∷ 93 ∷ 94 ∷ 95 ∷ 0 ∷ 0 ∷ []) nine false (host (table 1 6) (set memory 2048 0xFC000000) full)
+    ∷ interrupt (system 0 full) 0 (saving 2 8 4 95) false 2048 0 full
     ∷ []
 
 unfoldable pub all : List Bool → Bool
