@@ -1,4 +1,4 @@
--- Worked examples, as one list that proofs/Checked.antt checks by a single claim: first 01's that need no house, then what is easy to get wrong.
+-- Worked examples, as one list that proofs/Checked.antt checks by a single claim: first 01's that need no house, then rows for every line of its tables.
 use mathlib.Core.Bool.{Bool, true, false, not, _&&_}
 use mathlib.Core.List.{List, [], _∷_, _++_}
 use Prim.Native.Nat.{ℕ, _+_, _-_, _*_, _/_, _^_}
@@ -208,24 +208,31 @@ abbrev masked : ℕ
 masked = 0xFFFFFFBF
 
 -- RD becomes v: by an opcode, from x and the immediate i; by a function, from x and y
+unfoldable pub opcode-in : ℕ → ℕ → ℕ → ℕ → ℕ → Bool
+opcode-in mode op x i v = plain 64 mode (i-word op i) (given x 219) 24 (set (given x 219) 27 v)
+
+unfoldable pub function-in : ℕ → ℕ → ℕ → ℕ → ℕ → Bool
+function-in mode f x y v = plain 64 mode (r-word f) (given x y) 24 (set (given x y) 27 v)
+
+-- the same in either mode
 unfoldable pub by-opcode : ℕ → ℕ → ℕ → ℕ → Bool
-by-opcode op x i v = goes (i-word op i) (given x 219) 24 (set (given x 219) 27 v)
+by-opcode op x i v = opcode-in 0 op x i v && opcode-in 1 op x i v
 
 unfoldable pub by-function : ℕ → ℕ → ℕ → ℕ → Bool
-by-function f x y v = goes (r-word f) (given x y) 24 (set (given x y) 27 v)
+by-function f x y v = function-in 0 f x y v && function-in 1 f x y v
 
--- RD is l, e or g where the first number is less, equal or greater
-unfoldable pub orders-opcode : ℕ → ℕ → ℕ → ℕ → Bool
-orders-opcode op l e g =
-    by-opcode op 0xFFFF8000 0x7FFF l && by-opcode op 3 7 l && by-opcode op 0xFFFFFFF9 0xFFFD l
-    && by-opcode op 5 5 e && by-opcode op 0xFFFFFFFB 0xFFFB e
-    && by-opcode op 0x7FFF 0x8000 g && by-opcode op 7 3 g
+-- RD is l, e or g where the first number is less, equal or greater; they are signed
+unfoldable pub opcode-orders : ℕ → ℕ → ℕ → ℕ → Bool
+opcode-orders op l e g =
+    opcode-in 0 op 0xFFFF8000 0x7FFF l && opcode-in 1 op 3 7 l && opcode-in 0 op 0xFFFFFFF9 0xFFFD l
+    && opcode-in 0 op 5 5 e && opcode-in 1 op 0xFFFFFFFB 0xFFFB e
+    && opcode-in 0 op 0x7FFF 0x8000 g && opcode-in 1 op 7 3 g
 
-unfoldable pub orders-function : ℕ → ℕ → ℕ → ℕ → Bool
-orders-function f l e g =
-    by-function f 0x80000000 0x7FFFFFFF l && by-function f 3 7 l && by-function f 0xFFFFFFF9 0xFFFFFFFD l
-    && by-function f 5 5 e && by-function f 0x80000000 0x80000000 e
-    && by-function f 0x7FFFFFFF 0x80000000 g && by-function f 7 3 g
+unfoldable pub function-orders : ℕ → ℕ → ℕ → ℕ → Bool
+function-orders f l e g =
+    function-in 0 f 0x80000000 0x7FFFFFFF l && function-in 1 f 3 7 l && function-in 0 f 0xFFFFFFF9 0xFFFFFFFD l
+    && function-in 0 f 5 5 e && function-in 1 f 0x80000000 0x80000000 e
+    && function-in 0 f 0x7FFFFFFF 0x80000000 g && function-in 1 f 7 3 g
 
 -- a jump where RS1 is x: no register changes; or register 31 becomes PC + 4
 unfoldable pub jumps : ℕ → ℕ → ℕ → Bool
@@ -261,8 +268,8 @@ each f (x ∷ xs) = f x && each f xs
 
 -- ---- the instructions
 
-unfoldable pub operations : List Bool
-operations =
+unfoldable pub immediates : List Bool
+immediates =
     -- [lw] RD = the word at RS1 + imm; the offset may be negative, and the sum wraps
     gets 0 16 12 28 307
     ∷ gets 1 64 0xFFD8 24 306
@@ -290,8 +297,12 @@ operations =
     -- [lhgi] the low 16 bits times 65,536
     ∷ by-opcode 15 1000 0x8765 0x87650000
     ∷ by-opcode 15 1000 0x4321 0x43210000
+    ∷ []
+
+unfoldable pub functions : List Bool
+functions =
     -- [add]
-    ∷ by-function 32 1000 234 1234
+    by-function 32 1000 234 1234
     ∷ by-function 32 1000 0xFFFFFFFE 998
     -- [sub]
     ∷ by-function 34 1000 234 766
@@ -305,8 +316,12 @@ operations =
     -- [xor] likewise
     ∷ by-function 38 0xC3005ACF 0x4FF10FF3 0x8CF1553C
     ∷ by-function 38 0x73005ACF 0x4FF10FF3 0x3CF1553C
+    ∷ []
+
+unfoldable pub edges : List Bool
+edges =
     -- [register 0] reads 0, and writes to it vanish
-    ∷ goes (8 * 2 ^ 26 + 27 * 2 ^ 16 + 5) known 24 (set known 27 5)
+    goes (8 * 2 ^ 26 + 27 * 2 ^ 16 + 5) known 24 (set known 27 5)
     ∷ goes (21 * 2 ^ 21 + 27 * 2 ^ 11 + 34) known 24 (set known 27 221)
     ∷ goes (19 * 2 ^ 16 + 27 * 2 ^ 11 + 32) known 24 (set known 27 219)
     ∷ goes (8 * 2 ^ 26 + 21 * 2 ^ 21 + 5) known 24 known
@@ -328,43 +343,50 @@ operations =
     ∷ jumps (i-word 4 0x8000) 0 0xFFFF8014
     ∷ jumps (i-word 5 0x7FFC) 1 0x00008010
     ∷ jumps (i-word 5 0x8000) 1 0xFFFF8014
+    -- [PC] PC' = PC + 4, and 0xFFFFFFFC goes to 0; jumps wrap too
+    ∷ leaves (tried (at 8 0xFFFFFFFC 64 0) known (r-word 32)) (numbers (at 0xFFFFFFFC 0 64 0)) 97 98 0 (8 ∷ []) (set known 27 440) (around (r-word 32))
+    ∷ leaves (tried (at 8 0xFFFFFFFC 64 0) known (j-word 3 8)) (numbers (at 0xFFFFFFFC 4 64 0)) 97 98 0 (8 ∷ []) (set known 31 0) (around (j-word 3 8))
     ∷ []
 
 -- where the first number is less, equal, greater
-unfoldable pub comparisons : List Bool
-comparisons =
+unfoldable pub immediate-tests : List Bool
+immediate-tests =
     -- [clr 24] never
-    orders-opcode 24 0 0 0
+    opcode-orders 24 0 0 0
     -- [sgr 25] greater
-    ∷ orders-opcode 25 0 0 1
+    ∷ opcode-orders 25 0 0 1
     -- [seq 26] equal
-    ∷ orders-opcode 26 0 1 0
+    ∷ opcode-orders 26 0 1 0
     -- [sge 27] greater or equal
-    ∷ orders-opcode 27 0 1 1
+    ∷ opcode-orders 27 0 1 1
     -- [sls 28] less
-    ∷ orders-opcode 28 1 0 0
+    ∷ opcode-orders 28 1 0 0
     -- [sne 29] unequal
-    ∷ orders-opcode 29 1 0 1
+    ∷ opcode-orders 29 1 0 1
     -- [sle 30] less or equal
-    ∷ orders-opcode 30 1 1 0
+    ∷ opcode-orders 30 1 1 0
     -- [set 31] always
-    ∷ orders-opcode 31 1 1 1
+    ∷ opcode-orders 31 1 1 1
+    ∷ []
+
+unfoldable pub function-tests : List Bool
+function-tests =
     -- [clr 40] never
-    ∷ orders-function 40 0 0 0
+    function-orders 40 0 0 0
     -- [sgr 41] greater
-    ∷ orders-function 41 0 0 1
+    ∷ function-orders 41 0 0 1
     -- [seq 42] equal
-    ∷ orders-function 42 0 1 0
+    ∷ function-orders 42 0 1 0
     -- [sge 43] greater or equal
-    ∷ orders-function 43 0 1 1
+    ∷ function-orders 43 0 1 1
     -- [sls 44] less
-    ∷ orders-function 44 1 0 0
+    ∷ function-orders 44 1 0 0
     -- [sne 45] unequal
-    ∷ orders-function 45 1 0 1
+    ∷ function-orders 45 1 0 1
     -- [sle 46] less or equal
-    ∷ orders-function 46 1 1 0
+    ∷ function-orders 46 1 1 0
     -- [set 47] always
-    ∷ orders-function 47 1 1 1
+    ∷ function-orders 47 1 1 1
     ∷ []
 
 -- no jump but jal and jalr writes a register
@@ -410,9 +432,6 @@ jumping =
     (around (j-word 63 0))
     ∷ leaves (tried (moded 8 20 64 0 0) known (j-word 63 0x03FFFFFF)) (100 ∷ 96 ∷ 91 ∷ 91 ∷ 92 ∷ 96 ∷ 100 ∷ 95 ∷ 0 ∷ 0 ∷ []) 97 98 0 (8 ∷ [])
     known (around (j-word 63 0x03FFFFFF))
-    -- [PC] PC' = PC + 4, and 0xFFFFFFFC goes to 0; jumps wrap too
-    ∷ leaves (tried (at 8 0xFFFFFFFC 64 0) known (r-word 32)) (numbers (at 0xFFFFFFFC 0 64 0)) 97 98 0 (8 ∷ []) (set known 27 440) (around (r-word 32))
-    ∷ leaves (tried (at 8 0xFFFFFFFC 64 0) known (j-word 3 8)) (numbers (at 0xFFFFFFFC 4 64 0)) 97 98 0 (8 ∷ []) (set known 31 0) (around (j-word 3 8))
     ∷ []
 
 unfoldable pub ills : List Bool
@@ -650,6 +669,10 @@ clerk t q = (reply 0 (length t), told q ++ t)
 abbrev three : List ℕ
 three = j-word 62 257 ∷ i-word 8 5 ∷ j-word 62 7 ∷ 303 ∷ []
 
+-- trap 257, three times
+abbrev takings : List ℕ
+takings = j-word 62 257 ∷ j-word 62 257 ∷ j-word 62 257 ∷ []
+
 -- up to k steps more, where 10 are made, from DPC 0 and PC 4
 unfoldable pub stretched : ℕ → Stretch Watched (List ℕ)
 stretched k =
@@ -662,10 +685,21 @@ ends k made called ps seen desk rs =
     same (e .made ∷ boolByte (e .called) ∷ []) (made ∷ called ∷ []) && same (numbers (e .core .processor)) ps && same (e .memory .seen) seen
     && same (e .desk) desk && same (e .core .registers) rs && same (e .memory .words) three
 
+-- n steps of three takes, answered by the step's number: the code n, the ticket 70 + n; the registers and the accesses
+unfoldable pub fed : ℕ → List ℕ → List ℕ → Bool
+fed n rs seen =
+    let m = steps watched (λ n. reply n (70 + n)) n (core (at 0 4 64 0) known, record { table = tables; words = takings; seen = [] }) in
+    same (m .0 .registers) rs && same (m .1 .seen) seen && same (numbers (m .0 .processor)) (numbers (at (4 * n) (4 * n + 4) 64 0))
+
 unfoldable pub stretches : List Bool
 stretches =
+    -- [steps] each with the answer of its number
+    fed 0 known []
+    ∷ fed 1 (set (set known 1 70) 3 0) (0 ∷ [])
+    ∷ fed 2 (set (set known 1 70) 3 1) (4 ∷ 0 ∷ [])
+    ∷ fed 3 (set (set known 1 70) 3 2) (8 ∷ 4 ∷ 0 ∷ [])
     -- [stretch] up to so many steps, ending early behind a step that calls; each is answered once
-    ends 0 10 0 (numbers (at 0 4 64 0)) [] (60 ∷ 61 ∷ []) known
+    ∷ ends 0 10 0 (numbers (at 0 4 64 0)) [] (60 ∷ 61 ∷ []) known
     ∷ ends 1 11 0 (numbers (at 4 8 64 0)) (0 ∷ []) (2 ∷ 60 ∷ 61 ∷ []) (set (set known 1 2) 3 0)
     ∷ ends 2 12 0 (numbers (at 8 12 64 0)) (4 ∷ 0 ∷ []) (0 ∷ 2 ∷ 60 ∷ 61 ∷ []) (set (set (set known 1 2) 3 0) 27 226)
     ∷ ends 3 13 1 (0 ∷ 4 ∷ 0 ∷ 64 ∷ 32 ∷ 16 ∷ 12 ∷ 7 ∷ 0 ∷ 0 ∷ []) (8 ∷ 4 ∷ 0 ∷ []) (0 ∷ 0 ∷ 2 ∷ 60 ∷ 61 ∷ []) (set (set (set known 1 2) 3 0) 27 226)
