@@ -29,7 +29,7 @@ put-as t t′ out n now l h e = ap (λ (x : ℕ). (x, now)) l ∙ ap (λ (x : Li
 pub put-same : (t t′ out : List ℕ) (g : ℕ × List ℕ) → g ≡ put t out → t ≡ t′ → g ≡ put t′ out
 put-same t t′ out g h e = h ∙ ap (λ (x : List ℕ). put x out) e
 
--- and stands there
+-- a text that was put stands at the buffer's start
 pub put-there : (t out now : List ℕ) (n : ℕ) → (n, now) ≡ put t out → take n now ≡ t
 put-there t out now n e = ap (λ (g : ℕ × List ℕ). take (g .0) (g .1)) e ∙ take-at t (drop (length t) out) (length t) refl
 
@@ -74,7 +74,7 @@ file-done n d s e z = chosen (not (s .reader .wrong) && eqb (s .reader .last) 4)
 pub night-prints : (bs : List ℕ) → ((i : ℕ) → getD bs i 0 < 256) → length bs < 2 ^ 64 → printed (answerOf (fed noRead bs)) ≡ printed (readingOf bs)
 night-prints bs b l = ap printed (reads bs b l)
 
--- so it is with the text for what was read
+-- the text for what was read: none where a read failed, else what the file says
 pub told-nothing : (t : Taken) (bs out : List ℕ) → t .failed ≡ true → (0, out) ≡ put (told t bs) out
 told-nothing t bs out e = ap (λ (b : Bool). put (if b then [] else printed (readingOf bs)) out) (sym e)
 

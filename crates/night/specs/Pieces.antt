@@ -49,7 +49,7 @@ abbrev pub came : ℤ → List ℕ → List ℕ
 came (pos n) buffer = take n buffer
 came (negsuc n) buffer = []
 
--- After such a read. Without a byte the reads are over, and failed where the answer is below 0; and they fail before the 2^64th byte.
+-- After such a read. Without a byte the reads are over, and failed where the answer is below 0. They also fail at the 2^64th byte.
 unfoldable pub afterRead : Input → ℤ → List ℕ → Input
 afterRead i answer buffer =
     let bs = came answer buffer in
@@ -65,7 +65,7 @@ pub record Brought (answer : ℤ) (buffer : List ℕ) : Type 0 where
 
 -- ---- all reads
 
--- these are the bytes that all reads brought, up to one that brought none
+-- these are the bytes of all reads, and the reads are over
 pub record AllOf (t : Taken) (bs : List ℕ) : Type 0 where
   pub bytes : Bytes bs
   pub count : length bs ≡ t .bytes

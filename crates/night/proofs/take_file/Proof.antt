@@ -1,9 +1,8 @@
 use mathlib.Core.Path.{sym, subst, _∙_}
-use Prim.Native.Nat.{_<_}
 use native.Mathlib.Omega.{arith}
 use borrow.Author.Tests.{not-true, not-false}
 use Rattle.housefile.specs.Reader.{read, noReader}
-use Rattle.night.specs.Pieces.{Input, input}
+use Rattle.night.specs.Pieces.{input}
 use Rattle.night.proofs.Pieces.{Held, held-none, held-more, left, falls}
 use Rattle.night.proofs.take_file.Statement.{statement}
 use Rattle.night.proofs.take_file.Tie as tie

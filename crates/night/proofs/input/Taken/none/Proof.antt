@@ -1,4 +1,3 @@
-use mathlib.Core.Path.{ap}
 use borrow.Author.Needs.{needs}
 use Rattle.night.proofs.input.Taken.none.Statement.{statement}
 use Rattle.night.proofs.input.Taken.none.Tie as tie
