@@ -10,7 +10,7 @@ use Rattle.dlx.specs.Processor.{specialOf, withSpecial}
 use Rattle.dlx.specs.Interrupts.{levelOf, interrupted}
 use Rattle.dlx.specs.Execute.{written, valueOf, overflowsOf, operated, reached, loads, stores, movedTo, trapOf, effectOf}
 use Rattle.dlx.specs.Machine.{executed, fetched, loaded, stored, accessed, received, handed, settled, retabled, step, steps, asked, requestOf, stretchFrom}
-use Rattle.dlx.specs.Examples.{once, booted, r, interrupt, same, pair, is-ill, answered, goes-on, ordinary, asking, tried, leaves, plain, goes, by-opcode, by-function, opcode-orders, function-orders, opcode-in, function-in, jumps, links, reaches, gets, puts, enters, refuses, each, reads, moves, becomes, behind-it, overflows, wraps, stretched, ends, fed, papers, immediates, immediate-tests, functions, function-tests, jumping, edges, ills, specials, causes, tickets, stretches, all}
+use Rattle.dlx.specs.Examples.{once, booted, r, interrupt, same, pair, is-ill, answered, goes-on, ordinary, asking, tried, leaves, plain, goes, by-opcode, by-function, opcode-orders, function-orders, opcode-in, function-in, jumps, links, reaches, gets, puts, enters, refuses, each, reads, moves, becomes, behind-it, overflows, wraps, stretched, ends, fed, papers, immediates, immediate-tests, functions, function-tests, jumping, edges, ill-opcodes, ill-functions, ill-specials, specials, causes, overflowing, tickets, stretches, all}
 
 joined : (a b : List Bool) → all a ≡ true → all b ≡ true → all (a ++ b) ≡ true
 unfolding all
@@ -20,14 +20,15 @@ joined (false ∷ a) b e f = cc
 
 -- all that the examples compute with
 computing : ℕ
-unfolding all papers immediates immediate-tests functions function-tests jumping edges ills specials causes tickets stretches tried leaves plain goes by-opcode by-function opcode-orders function-orders opcode-in function-in jumps links reaches gets puts enters refuses each reads moves becomes behind-it overflows wraps stretched ends fed r interrupt same pair is-ill once answered goes-on ordinary asking booted step steps asked requestOf stretchFrom fetched executed loaded stored accessed received handed settled retabled instructionOf registerType effectOf written valueOf overflowsOf operated reached loads stores movedTo trapOf specialOf withSpecial interrupted levelOf trailingZeros extendedBy readIn holds
+unfolding all papers immediates immediate-tests functions function-tests jumping edges ill-opcodes ill-functions ill-specials specials causes overflowing tickets stretches tried leaves plain goes by-opcode by-function opcode-orders function-orders opcode-in function-in jumps links reaches gets puts enters refuses each reads moves becomes behind-it overflows wraps stretched ends fed r interrupt same pair is-ill once answered goes-on ordinary asking booted step steps asked requestOf stretchFrom fetched executed loaded stored accessed received handed settled retabled instructionOf registerType effectOf written valueOf overflowsOf operated reached loads stores movedTo trapOf specialOf withSpecial interrupted levelOf trailingZeros extendedBy readIn holds
 computing = 0
 
-pub checked : all (papers ++ (immediates ++ (immediate-tests ++ (functions ++ (function-tests ++ (jumping ++ (edges ++ (ills ++ (specials ++ (causes ++ (tickets ++ stretches))))))))))) ≡ true
+pub checked : all (papers ++ (immediates ++ (immediate-tests ++ (functions ++ (function-tests ++ (jumping ++ (edges ++ (ill-opcodes ++ (ill-functions ++ (ill-specials ++ (specials ++ (causes ++ (overflowing ++ (tickets ++ stretches)))))))))))))) ≡ true
 checked =
     joined papers _ of-papers (joined immediates _ of-immediates (joined immediate-tests _ of-immediate-tests (joined functions _ of-functions
-    (joined function-tests _ of-function-tests (joined jumping _ of-jumping (joined edges _ of-edges (joined ills _ of-ills
-    (joined specials _ of-specials (joined causes _ of-causes (joined tickets _ of-tickets of-stretches))))))))))
+    (joined function-tests _ of-function-tests (joined jumping _ of-jumping (joined edges _ of-edges
+    (joined ill-opcodes _ of-ill-opcodes (joined ill-functions _ of-ill-functions (joined ill-specials _ of-ill-specials (joined specials _ of-specials
+    (joined causes _ of-causes (joined overflowing _ of-overflowing (joined tickets _ of-tickets of-stretches)))))))))))))
   where
     of-papers : all papers ≡ true
     of-papers = unfold computing in refl
@@ -50,14 +51,23 @@ checked =
     of-edges : all edges ≡ true
     of-edges = unfold computing in refl
 
-    of-ills : all ills ≡ true
-    of-ills = unfold computing in refl
+    of-ill-opcodes : all ill-opcodes ≡ true
+    of-ill-opcodes = unfold computing in refl
+
+    of-ill-functions : all ill-functions ≡ true
+    of-ill-functions = unfold computing in refl
+
+    of-ill-specials : all ill-specials ≡ true
+    of-ill-specials = unfold computing in refl
 
     of-specials : all specials ≡ true
     of-specials = unfold computing in refl
 
     of-causes : all causes ≡ true
     of-causes = unfold computing in refl
+
+    of-overflowing : all overflowing ≡ true
+    of-overflowing = unfold computing in refl
 
     of-tickets : all tickets ≡ true
     of-tickets = unfold computing in refl

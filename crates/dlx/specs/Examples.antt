@@ -6,7 +6,7 @@ use lib.Dec.{ltb, eqb}
 use lib.ListN.{length, getD, set, replicate}
 use mir.Val.{boolByte}
 use Rattle.dlx.specs.Choice.{if_then_else_}
-use Rattle.dlx.specs.Processor.{freshProcessor, freshOf}
+use Rattle.dlx.specs.Processor.{freshProcessor, freshOf, withSpecial}
 use Rattle.dlx.specs.Interrupts.{levelOf}
 use Rattle.dlx.specs.Execute.{reg}
 use Rattle.dlx.specs.Machine.{Ops, Core, core, Outcome, Request, nothing, sends, takes, asked, reply, Desk, step, steps, Stretch, stretchFrom}
@@ -434,20 +434,28 @@ jumping =
     known (around (j-word 63 0x03FFFFFF))
     ∷ []
 
-unfoldable pub ills : List Bool
-ills =
+unfoldable pub ill-opcodes : List Bool
+ill-opcodes =
     -- [ill opcodes] every opcode that the table doesn't have
     each (λ op. refuses 0 (i-word op 0x1230))
     (1 ∷ 6 ∷ 7 ∷ 9 ∷ 11 ∷ 16 ∷ 17 ∷ 18 ∷ 19 ∷ 20 ∷ 21 ∷ 32 ∷ 33 ∷ 34 ∷ 36 ∷ 37 ∷ 38 ∷ 39 ∷ 40 ∷ 41 ∷ 42 ∷ [])
     ∷ each (λ op. refuses 1 (i-word op 0x1230))
     (44 ∷ 45 ∷ 46 ∷ 47 ∷ 48 ∷ 49 ∷ 50 ∷ 51 ∷ 52 ∷ 53 ∷ 54 ∷ 55 ∷ 56 ∷ 57 ∷ 58 ∷ 59 ∷ 60 ∷ 61 ∷ [])
+    ∷ []
+
+unfoldable pub ill-functions : List Bool
+ill-functions =
     -- [ill functions] every function that the table doesn't have; so word 0 is ill
-    ∷ refuses 0 0
+    refuses 0 0
     ∷ each (λ f. refuses 0 (s-word f 3)) (0 ∷ 1 ∷ 2 ∷ 3 ∷ 4 ∷ 5 ∷ 6 ∷ 7 ∷ 8 ∷ 9 ∷ 10 ∷ 11 ∷ 12 ∷ 13 ∷ 14 ∷ 15 ∷ [])
     ∷ each (λ f. refuses 0 (s-word f 3)) (18 ∷ 19 ∷ 20 ∷ 21 ∷ 22 ∷ 23 ∷ 24 ∷ 25 ∷ 26 ∷ 27 ∷ 28 ∷ 29 ∷ 30 ∷ 31 ∷ 33 ∷ 35 ∷ 39 ∷ [])
     ∷ each (λ f. refuses 1 (s-word f 3)) (48 ∷ 49 ∷ 50 ∷ 51 ∷ 52 ∷ 53 ∷ 54 ∷ 55 ∷ 56 ∷ 57 ∷ 58 ∷ 59 ∷ 60 ∷ 61 ∷ 62 ∷ 63 ∷ [])
+    ∷ []
+
+unfoldable pub ill-specials : List Bool
+ill-specials =
     -- [ill specials] a special number above 9
-    ∷ each (λ n. refuses 0 (s-word 16 n) && refuses 0 (s-word 17 n)) (10 ∷ 11 ∷ 12 ∷ 13 ∷ 14 ∷ 15 ∷ 16 ∷ 20 ∷ 24 ∷ 25 ∷ 31 ∷ [])
+    each (λ n. refuses 0 (s-word 16 n) && refuses 0 (s-word 17 n)) (10 ∷ 11 ∷ 12 ∷ 13 ∷ 14 ∷ 15 ∷ 16 ∷ 20 ∷ 24 ∷ 25 ∷ 31 ∷ [])
     -- [ill in user mode] movs2i and movi2s of every special, and rfe
     ∷ each (λ n. refuses 1 (s-word 16 n) && refuses 1 (s-word 17 n)) (0 ∷ 1 ∷ 2 ∷ 3 ∷ 4 ∷ 5 ∷ 6 ∷ 7 ∷ 8 ∷ 9 ∷ [])
     ∷ refuses 1 (j-word 63 0)
@@ -511,6 +519,10 @@ specials =
     ∷ reads 9 1
     ∷ becomes 9 0xFEDCBA9A (20 ∷ 24 ∷ 64 ∷ 91 ∷ 92 ∷ 96 ∷ 100 ∷ 95 ∷ 0 ∷ 0 ∷ [])
     ∷ moves (moded 8 20 64 0 0) 9 0xFEDCBA97 (20 ∷ 24 ∷ 64 ∷ 91 ∷ 92 ∷ 96 ∷ 100 ∷ 95 ∷ 0 ∷ 1 ∷ []) 97 98 (8 ∷ [])
+    -- [special in the processor] changes nothing else of it; PTO and PTL do not stand in it
+    ∷ same (numbers (withSpecial (at 8 20 64 0) 3 0xFEDCBA98)) (8 ∷ 20 ∷ 64 ∷ 91 ∷ 92 ∷ 0xFEDCBA98 ∷ 100 ∷ 95 ∷ 0 ∷ 1 ∷ [])
+    ∷ same (numbers (withSpecial (at 8 20 64 0) 7 0xFEDCBA98)) (8 ∷ 20 ∷ 64 ∷ 91 ∷ 92 ∷ 96 ∷ 100 ∷ 95 ∷ 0 ∷ 1 ∷ [])
+    ∷ same (numbers (withSpecial (at 8 20 64 0) 8 0xFEDCBA98)) (8 ∷ 20 ∷ 64 ∷ 91 ∷ 92 ∷ 96 ∷ 100 ∷ 95 ∷ 0 ∷ 1 ∷ [])
     -- [boot] all zero but PC = 4
     ∷ same (numbers (freshOf 3 .processor)) (0 ∷ 4 ∷ 0 ∷ 0 ∷ 0 ∷ 0 ∷ 0 ∷ 0 ∷ 0 ∷ 0 ∷ [])
     ∷ same (freshOf 3 .pages ∷ freshOf 3 .table .pto ∷ freshOf 3 .table .ptl ∷ freshOf 3 .counter ∷ []) (3 ∷ 0 ∷ 0 ∷ 0 ∷ [])
@@ -557,8 +569,22 @@ causes =
     ∷ enters (at 8 20 masked 0) known (j-word 62 7) 32 20 24 7 1 (8 ∷ [])
     ∷ enters (at 8 20 0 1) known (j-word 62 7) 32 20 24 7 0 (9 ∷ [])
     ∷ enters (at 8 0xFFFFFFFC 64 0) known (j-word 62 7) 32 0xFFFFFFFC 0 7 1 (8 ∷ [])
+    -- [order of causes] mal of DPC before pff and before ill; mal of a data address before pfls; a data address never overflows
+    ∷ enters (at 50 20 64 0) known 0 4 20 24 95 0 []
+    ∷ enters (at 10 20 64 1) known (j-word 63 0) 4 20 24 95 0 []
+    ∷ enters (at 8 20 64 0) (given 49 219) (i-word 35 12) 4 20 24 95 0 (8 ∷ [])
+    ∷ enters (at 8 20 64 0) (given 49 219) (i-word 43 12) 4 20 24 95 0 (8 ∷ [])
+    ∷ enters (at 8 20 64 0) (given 0x7FFFFFFC 219) (i-word 35 12) 16 8 20 0x80000008 0 (0x80000008 ∷ 8 ∷ [])
+    ∷ enters (at 8 20 64 0) (given 0x7FFFFFFC 219) (i-word 43 12) 16 8 20 0x80000008 0 (0x8000000A ∷ 8 ∷ [])
+    -- [level] the lowest set bit
+    ∷ same (levelOf 1 ∷ levelOf 2 ∷ levelOf 4 ∷ levelOf 8 ∷ levelOf 16 ∷ levelOf 32 ∷ levelOf 64 ∷ []) (0 ∷ 1 ∷ 2 ∷ 3 ∷ 4 ∷ 5 ∷ 6 ∷ [])
+    ∷ same (levelOf 96 ∷ levelOf 126 ∷ levelOf 0x80000000 ∷ levelOf 0xC0000000 ∷ levelOf 0 ∷ []) (5 ∷ 1 ∷ 31 ∷ 30 ∷ 32 ∷ [])
+    ∷ []
+
+unfoldable pub overflowing : List Bool
+overflowing =
     -- [cause 6 ovf] of add, addi, sub, subi: the result is not written, EDATA kept, the pair behind
-    ∷ overflows (r-word 32) 0x7FFFFFFF 1
+    overflows (r-word 32) 0x7FFFFFFF 1
     ∷ overflows (r-word 32) 0x40000000 0x40000000
     ∷ overflows (r-word 32) 0x80000000 0xFFFFFFFF
     ∷ overflows (r-word 34) 0x80000000 1
@@ -587,16 +613,6 @@ causes =
     ∷ wraps (i-word 8 0xFFF8) 0x80000003 219 0x7FFFFFFB
     ∷ wraps (i-word 10 8) 0x80000003 219 0x7FFFFFFB
     ∷ wraps (i-word 10 0xFFFB) 0x7FFFFFFF 219 0x80000004
-    -- [order of causes] mal of DPC before pff and before ill; mal of a data address before pfls; a data address never overflows
-    ∷ enters (at 50 20 64 0) known 0 4 20 24 95 0 []
-    ∷ enters (at 10 20 64 1) known (j-word 63 0) 4 20 24 95 0 []
-    ∷ enters (at 8 20 64 0) (given 49 219) (i-word 35 12) 4 20 24 95 0 (8 ∷ [])
-    ∷ enters (at 8 20 64 0) (given 49 219) (i-word 43 12) 4 20 24 95 0 (8 ∷ [])
-    ∷ enters (at 8 20 64 0) (given 0x7FFFFFFC 219) (i-word 35 12) 16 8 20 0x80000008 0 (0x80000008 ∷ 8 ∷ [])
-    ∷ enters (at 8 20 64 0) (given 0x7FFFFFFC 219) (i-word 43 12) 16 8 20 0x80000008 0 (0x8000000A ∷ 8 ∷ [])
-    -- [level] the lowest set bit
-    ∷ same (levelOf 1 ∷ levelOf 2 ∷ levelOf 4 ∷ levelOf 8 ∷ levelOf 16 ∷ levelOf 32 ∷ levelOf 64 ∷ []) (0 ∷ 1 ∷ 2 ∷ 3 ∷ 4 ∷ 5 ∷ 6 ∷ [])
-    ∷ same (levelOf 96 ∷ levelOf 126 ∷ levelOf 0x80000000 ∷ levelOf 0xC0000000 ∷ levelOf 0 ∷ []) (5 ∷ 1 ∷ 31 ∷ 30 ∷ 32 ∷ [])
     ∷ []
 
 -- ---- tickets: trap 256 sends, trap 257 takes
