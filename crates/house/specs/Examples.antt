@@ -1,9 +1,10 @@
--- Worked examples, as one list that proofs/Checked.antt checks by a single claim: 01's own, in a house; then boot, turns, the calls and damage.
+-- Worked examples, as one list that proofs/Checked.antt checks by a single claim: 01's own, in a house; then boot, turns, the calls and damage. Each
+-- row of 01's rules stands in square brackets, as docs/EXAMPLES.md lists them.
 use mathlib.Core.Bool.{Bool, true, false, not, _&&_}
 use mathlib.Core.List.{List, [], _∷_, _++_, map}
 use Prim.Native.Nat.{ℕ, _+_, _-_, _*_, _^_}
 use lib.Dec.{eqb}
-use lib.ListN.{length, getD, set, take, replicate}
+use lib.ListN.{length, getD, set, take, drop, replicate}
 use mir.Val.{boolByte}
 use Rattle.dlx.specs.Processor.{freshOf}
 use Rattle.dlx.specs.Examples.{same}
@@ -17,8 +18,8 @@ use Rattle.house.specs.Damage.{outsideLimits, frameTwice, turnWrong, reg
 use Rattle.tickets.specs.Queues.{Queues, queues}
 use Rattle.house.specs.Tickets.{queuesOf, withQueues}
 use Rattle.house.specs.Boot.{Verdict, bootVerdict, bootedHouse}
-use Rattle.house.specs.Turns.{World, world, turn, hostStep, hostSteps, houseAt}
-use Rattle.house.specs.Calls.{Answered, bootCall, runVerdict, runCall, oneVerdict, withTurn, started, stopped, emptiedHouse, startCall, stopCall, emptyCall, readVerdict, readOut, Read, readCall}
+use Rattle.house.specs.Turns.{World, world, hostStep, hostSteps, houseAt}
+use Rattle.house.specs.Calls.{Answered, bootCall, runVerdict, runCall, oneVerdict, started, stopped, emptiedHouse, startCall, stopCall, emptyCall, readVerdict, readOut, Read, readCall}
 use Rattle.house.specs.declared.House.{House}
 
 abbrev zeros : ℕ → List ℕ
@@ -48,7 +49,39 @@ idle = stopped (stopped two 0) 1
 unfoldable pub three : House
 three = bootedHouse (1 ∷ 1 ∷ 1 ∷ []) 2 (0 ∷ 1 ∷ 2 ∷ []) 3072
 
+-- partition 0 of frame 1 and partition 1 of frames 2 and 0, turns of 5 steps
+unfoldable pub uneven : House
+uneven = bootedHouse (1 ∷ 2 ∷ []) 5 (1 ∷ 2 ∷ 0 ∷ []) 3072
+
+-- seven partitions of one frame each, turns of 5 steps
+unfoldable pub seven : House
+seven = bootedHouse (ones 7) 5 (upTo 7) 7168
+
+-- a memory of n words, each of which tells its place
+abbrev word : ℕ → ℕ
+word i = 0x50000000 + i
+
+abbrev told : ℕ → List ℕ
+told n = listFrom word 0 n
+
 -- ---- and what is changed in them
+
+-- with flags, the current partition and its steps left
+abbrev turning : House → List Bool → ℕ → ℕ → House
+turning h running c l = record {
+  count = h .count;
+  q = h .q;
+  words = h .words;
+  current = c;
+  left = l;
+  running = running;
+  parts = h .parts;
+  regs = h .regs;
+  frames = h .frames;
+  shadows = h .shadows;
+  tickets = h .tickets;
+  waiting = h .waiting;
+}
 
 abbrev withSizes : House → ℕ → ℕ → ℕ → List ℕ → House
 withSizes h count q words frames = record {
@@ -87,6 +120,49 @@ at dpc pc sr mode emode =
 abbrev part : ℕ → Processor → ℕ → ℕ → ℕ → Partition
 part pages p pto ptl counter =
     record { pages = pages; processor = p; table = record { pto = pto; ptl = ptl }; counter = counter }
+
+-- Four partitions of two pages, turns of 9 steps, of which c is current with l left. Every place holds another number; partition 1 has the frames 1 and
+-- 0, and no shadow entry is valid. What the examples do not reach of its lists is left out.
+abbrev numbered : ℕ → Partition
+numbered i =
+    record {
+      pages = 2;
+      processor =
+          record {
+            dpc = 100 + i;
+            pc = 110 + i;
+            sr = 120 + i;
+            esr = 130 + i;
+            eca = 140 + i;
+            epc = 150 + i;
+            edpc = 160 + i;
+            edata = 170 + i;
+            mode = 180 + i;
+            emode = 190 + i;
+          };
+      table = record { pto = 200 + i; ptl = 210 + i };
+      counter = 220 + i;
+    }
+
+abbrev alternate : List Bool
+alternate = true ∷ true ∷ false ∷ true ∷ replicate 4 false
+
+unfoldable pub busy : List Bool → ℕ → ℕ → House
+busy running c l =
+    record {
+      count = 4;
+      q = 9;
+      words = 2048;
+      current = c;
+      left = l;
+      running = running;
+      parts = listFrom numbered 0 8;
+      regs = set (listFrom (λ j. 1000 + j) 0 128) 32 0;
+      frames = set (set (listFrom (λ j. 10000 + j) 0 300) 256 1) 257 0;
+      shadows = listFrom (λ j. 0x8000 + j) 0 800;
+      tickets = listFrom (λ j. 40000 + j) 0 64;
+      waiting = listFrom (λ j. 4 + j) 0 8;
+    }
 
 -- ---- what is looked at
 
@@ -133,6 +209,9 @@ numbers h =
 
 unfoldable pub sameHouse : House → House → Bool
 sameHouse h k = same (numbers h) (numbers k)
+
+unfoldable pub sameWorld : World → House → List ℕ → Bool
+sameWorld w h m = sameHouse (w .house) h && same (w .memory) m
 
 -- ---- 01's examples
 
@@ -223,62 +302,70 @@ papers =
 unfoldable pub plain : ℕ → ℕ → Verdict
 plain q words = bootVerdict (1 ∷ []) q (0 ∷ []) words
 
--- a refused boot returns the house of no partitions, every number in it 0
-unfoldable pub unbooted : Answered → ℕ → ℕ → Bool
-unbooted a n d = answers (a .verdict) n d && same (numbers (a .world .house)) (zeros 4741)
+-- a refused boot returns the house of no partitions, every number in it 0, and the memory as it was
+unfoldable pub unbooted : Answered → ℕ → ℕ → List ℕ → Bool
+unbooted a n d m =
+    answers (a .verdict) n d && same (numbers (a .world .house)) (zeros 4741) && same (a .world .memory) m
 
 unfoldable pub boots : List Bool
 boots =
-    -- 8 partitions pass, 9 give 1, and so does none
+    -- [refusal 1] 8 partitions pass, 9 give 1, and so does none
     answers (bootVerdict (ones 8) 1 (upTo 8) 8192) 0 0
     ∷ answers (bootVerdict (ones 9) 1 (upTo 9) 9216) 1 0
     ∷ answers (bootVerdict [] 1 [] 1024) 1 0
-    -- 257 pages give 2, with the first such partition; so do 0 pages
+    -- [refusal 2] 257 pages give 2, with the first such partition; so do 0 pages, and 1 page passes
     ∷ answers (bootVerdict (1 ∷ 257 ∷ 0 ∷ []) 1 (upTo 258) 264192) 2 1
     ∷ answers (bootVerdict (1 ∷ 1 ∷ 0 ∷ []) 1 (upTo 2) 2048) 2 2
-    -- turn length q 1..10,000
+    ∷ answers (bootVerdict (0 ∷ 1 ∷ 0 ∷ []) 1 (upTo 1) 2048) 2 0
+    -- [refusal 3] turn length q 1..10,000
     ∷ answers (plain 0 1024) 3 0
     ∷ answers (plain 1 1024) 0 0
     ∷ answers (plain 10000 1024) 0 0
     ∷ answers (plain 10001 1024) 3 0
-    -- 1..1,024 whole frames of 1,024 words
+    -- [refusal 4] 1..1,024 whole frames of 1,024 words
     ∷ answers (plain 1 0) 4 0
     ∷ answers (plain 1 1023) 4 0
     ∷ answers (plain 1 1025) 4 0
+    ∷ answers (plain 1 1536) 4 0
     ∷ answers (plain 1 1048576) 0 0
+    ∷ answers (plain 1 1048577) 4 0
     ∷ answers (plain 1 1049600) 4 0
-    -- the frame list's length is the sum of the page counts
+    -- [refusal 5] the frame list's length is the sum of the page counts
     ∷ answers (bootVerdict (2 ∷ 1 ∷ []) 1 (upTo 2) 4096) 5 0
     ∷ answers (bootVerdict (2 ∷ 1 ∷ []) 1 (upTo 3) 4096) 0 0
     ∷ answers (bootVerdict (2 ∷ 1 ∷ []) 1 (upTo 4) 4096) 5 0
-    -- a frame number not below the memory's frames: first such position
+    -- [refusal 6] a frame number not below the memory's frames: first such position
     ∷ answers (bootVerdict (3 ∷ []) 1 (1 ∷ 0 ∷ 2 ∷ []) 3072) 0 0
     ∷ answers (bootVerdict (3 ∷ []) 1 (1 ∷ 2 ∷ 7 ∷ []) 2048) 6 1
-    -- a frame stands twice: smallest position whose frame stood earlier
+    ∷ answers (bootVerdict (2 ∷ 1 ∷ []) 1 (1 ∷ 0 ∷ 3 ∷ []) 3072) 6 2
+    -- [refusal 7] a frame stands twice: smallest position whose frame stood earlier
     ∷ answers (bootVerdict (4 ∷ []) 1 (3 ∷ 5 ∷ 5 ∷ 3 ∷ []) 6144) 7 2
     ∷ answers (bootVerdict (2 ∷ 2 ∷ []) 1 (3 ∷ 5 ∷ 4 ∷ 3 ∷ []) 6144) 7 3
-    -- order 1 to 7
+    -- [order: boot] 1 to 7, each before the next
     ∷ answers (bootVerdict (zeros 9) 1 [] 1024) 1 0
-    ∷ answers (bootVerdict (0 ∷ []) 0 [] 1024) 2 0
+    ∷ answers (bootVerdict (1 ∷ 0 ∷ []) 0 (0 ∷ []) 1024) 2 1
     ∷ answers (plain 0 1025) 3 0
     ∷ answers (bootVerdict (1 ∷ []) 1 [] 1025) 4 0
     ∷ answers (bootVerdict (1 ∷ []) 1 (9 ∷ 9 ∷ []) 1024) 5 0
     ∷ answers (bootVerdict (3 ∷ []) 1 (0 ∷ 0 ∷ 9 ∷ []) 2048) 6 2
-    -- what each refusal leaves
-    ∷ unbooted (bootCall [] 1 [] (zeros 1024)) 1 0
-    ∷ unbooted (bootCall (1 ∷ 0 ∷ []) 1 (0 ∷ []) (zeros 1024)) 2 1
-    ∷ unbooted (bootCall (1 ∷ []) 0 (0 ∷ []) (zeros 1024)) 3 0
-    ∷ unbooted (bootCall (1 ∷ []) 1 (0 ∷ []) (zeros 1023)) 4 0
-    ∷ unbooted (bootCall (1 ∷ []) 1 [] (zeros 1024)) 5 0
-    ∷ unbooted (bootCall (2 ∷ []) 1 (0 ∷ 1 ∷ []) (zeros 1024)) 6 1
-    ∷ unbooted (bootCall (2 ∷ []) 1 (0 ∷ 0 ∷ []) (zeros 1024)) 7 1
-    -- all registers zero but PC = 4, all running, partition 0 current with q steps left, and unused places 0
-    ∷ same (numbers (bootCall (2 ∷ 1 ∷ []) 7 (3 ∷ 1 ∷ 2 ∷ []) (zeros 4096) .world .house))
-    (2 ∷ 7 ∷ 4096 ∷ 0 ∷ 7 ∷ 1 ∷ 1 ∷ zeros 6
-    ++ (2 ∷ 0 ∷ 4 ∷ zeros 11 ++ (1 ∷ 0 ∷ 4 ∷ zeros 11 ++ (zeros 84 ++ (zeros 256 ++ (3 ∷ 1 ∷ zeros 254 ++ (2 ∷ zeros 1791 ++ (zeros 2048 ++ zeros 264))))))))
+    -- [refusal: a refused boot] what each leaves
+    ∷ unbooted (bootCall [] 1 [] (told 1024)) 1 0 (told 1024)
+    ∷ unbooted (bootCall (1 ∷ 0 ∷ []) 1 (0 ∷ []) (told 1024)) 2 1 (told 1024)
+    ∷ unbooted (bootCall (1 ∷ []) 0 (0 ∷ []) (told 1024)) 3 0 (told 1024)
+    ∷ unbooted (bootCall (1 ∷ []) 1 (0 ∷ []) (told 1023)) 4 0 (told 1023)
+    ∷ unbooted (bootCall (1 ∷ []) 1 [] (told 1024)) 5 0 (told 1024)
+    ∷ unbooted (bootCall (2 ∷ []) 1 (0 ∷ 1 ∷ []) (told 1024)) 6 1 (told 1024)
+    ∷ unbooted (bootCall (2 ∷ []) 1 (0 ∷ 0 ∷ []) (told 1024)) 7 1 (told 1024)
+    -- [turn: boot] all registers zero but PC = 4, all running, partition 0 current with q steps left, and unused places 0
+    ∷ (let a = bootCall (2 ∷ 1 ∷ 2 ∷ []) 7 (3 ∷ 1 ∷ 2 ∷ 4 ∷ 0 ∷ []) (told 5120) in
+    answers (a .verdict) 0 0
+    && same (numbers (a .world .house))
+    (3 ∷ 7 ∷ 5120 ∷ 0 ∷ 7 ∷ 1 ∷ 1 ∷ 1 ∷ zeros 5
+    ++ (2 ∷ 0 ∷ 4 ∷ zeros 11 ++ (1 ∷ 0 ∷ 4 ∷ zeros 11 ++ (2 ∷ 0 ∷ 4 ∷ zeros 11 ++ (zeros 70 ++ (zeros 256 ++ (3 ∷ 1 ∷ zeros 254 ++ (2 ∷ zeros 255 ++ (4 ∷ 0 ∷ zeros 1534 ++ (zeros 2048 ++ zeros 264))))))))))
+    && same (a .world .memory) (told 5120))
     ∷ []
 
--- 256 pages pass
+-- [refusal 2] 256 pages pass
 unfoldable pub widest : List Bool
 widest = answers (bootVerdict (256 ∷ []) 1 (upTo 256) 262144) 0 0 ∷ []
 
@@ -300,50 +387,97 @@ six = hostSteps 6 (world two (zeros 1024 ++ (0x20010005 ∷ zeros 1023))) .house
 unfoldable pub counts : ℕ → ℕ
 counts n = counter (hostStep (world (withPart alone 0 (part 1 (at 0 4 0 0 0) 0 0 n)) (zeros 1024)) .house) 0
 
+-- One step by partition 1 of `busy`, with l steps left: at DPC 8 and PC 12 in a mode, of the word w. Its entries 0 and 1 lead to its page 0, and to page 1
+-- protected.
+abbrev own : ℕ → ℕ → ℕ → ℕ → Processor
+own dpc pc mode emode =
+    record { dpc = dpc; pc = pc; sr = 64; esr = 91; eca = 92; epc = 96; edpc = 100; edata = 95; mode = mode; emode = emode }
+
+abbrev lent : ℕ → List ℕ
+lent w = set (set (set (told 2048) 1024 0x00000800) 1025 0x00001C00) 1026 w
+
+unfoldable pub stepping : ℕ → ℕ → ℕ → World
+stepping l mode w = hostStep (world (withPart (busy alternate 1 l) 1 (part 2 (own 8 12 mode 1) 0 2 500)) (lent w))
+
+-- it comes to this turn, partition 1, registers, shadows and memory, and nothing else is changed
+unfoldable pub comes : World → ℕ → ℕ → Processor → List ℕ → List ℕ → List ℕ → Bool
+comes w c l p regs shadows m =
+    sameWorld w (houseAt (busy alternate 1 0) c l (set (listFrom numbered 0 8) 1 (part 2 p 0 2 501)) regs shadows) m
+
 unfoldable pub turns : List Bool
 turns =
-    -- takes 1 from the steps left; at 0 left the turn passes to the next running partition in cyclic order, with q left
+    -- [turn: one step] takes 1 from the steps left
     current (after 1 three) 0 1
+    -- [turn: 0 left] it passes to the next running partition in cyclic order, with q left
     ∷ current (after 2 three) 1 2
     ∷ current (after 4 three) 2 2
     ∷ current (after 6 three) 0 2
     ∷ current (after 2 (stopped three 1)) 2 2
-    -- itself if alone
+    ∷ current (after 4 (stopped three 2)) 0 2
+    -- [turn: alone] itself
     ∷ current (ran 2 .house) 0 2
     ∷ current (after 2 (stopped (stopped three 2) 1)) 0 2
-    -- adds 1 to its counter, also on an interrupt and a trap, modulo 2^64
+    ∷ current (after 2 (stopped (stopped three 0) 1)) 2 2
+    -- [turn: counter] adds 1, also on an interrupt and a trap, modulo 2^64
     ∷ same (counter (after 5 three) 0 ∷ counter (after 5 three) 1 ∷ counter (after 5 three) 2 ∷ []) (2 ∷ 2 ∷ 1 ∷ [])
     ∷ eqb (counter (trapped 2) 0) 1
     ∷ eqb (counts (2 ^ 64 - 2)) (2 ^ 64 - 1)
     ∷ eqb (counts (2 ^ 64 - 1)) 0
-    -- and changes nothing of another partition's
+    -- [turn: one step] changes nothing of another partition's
     ∷ same (numbers six)
     (2 ∷ 5 ∷ 2048 ∷ 1 ∷ 4 ∷ 1 ∷ 1 ∷ zeros 6
     ++ (1 ∷ 0 ∷ 4 ∷ 0 ∷ 0 ∷ 2 ∷ 8 ∷ 4 ∷ zeros 5 ++ (5 ∷ 1 ∷ 4 ∷ 8 ∷ zeros 10 ++ (1 ∷ zeros 84 ++ (zeros 33 ++ (5 ∷ zeros 222 ++ (zeros 256 ++ (1 ∷ zeros 4103))))))))
-    -- after a trap taken in system mode, once also where it is the last step
+    -- in a full house: 0xAC4116B2 stores 1033 at 0x1ABC of partition 1, so in frame 0
+    ∷ comes (stepping 5 0 0xAC4116B2) 1 4 (own 12 16 0 1) (busy alternate 1 0 .regs) (busy alternate 1 0 .shadows)
+    (set (lent 0xAC4116B2) 687 1033)
+    -- [turn: 0 left] 0x8C4516B2 loads it in user mode at the last step: registers and shadow go to the partition that made it
+    ∷ comes (stepping 1 1 0x8C4516B2) 3 9 (own 12 16 1 1) (set (busy alternate 1 0 .regs) 37 (word 687))
+    (set (set (busy alternate 1 0 .shadows) 256 0x00001800) 257 0x00000C00) (lent 0x8C4516B2)
+    -- [turn: trap in system mode] passes, once also where it is the last step, and to itself if alone
     ∷ current (trapped 2) 1 2
     ∷ current (trapped 1) 1 1
-    -- stopping the current partition passes the turn likewise
+    ∷ current (hostStep (world alone (0xF8000007 ∷ zeros 1023)) .house) 0 2
+    ∷ comes (stepping 5 0 0xF8000007) 3 9
+    (record { dpc = 0; pc = 4; sr = 0; esr = 64; eca = 32; epc = 16; edpc = 12; edata = 7; mode = 0; emode = 0 }) (busy alternate 1 0 .regs)
+    (busy alternate 1 0 .shadows) (lent 0xF8000007)
+    -- [turn: trap in user mode] and any other interrupt: the turn goes on
+    ∷ comes (stepping 5 1 0xF8000007) 1 4
+    (record { dpc = 0; pc = 4; sr = 0; esr = 64; eca = 32; epc = 16; edpc = 12; edata = 7; mode = 0; emode = 1 }) (busy alternate 1 0 .regs)
+    (set (busy alternate 1 0 .shadows) 256 0x00001800) (lent 0xF8000007)
+    ∷ comes (stepping 5 0 0) 1 4
+    (record { dpc = 0; pc = 4; sr = 0; esr = 64; eca = 2; epc = 16; edpc = 12; edata = 95; mode = 0; emode = 0 }) (busy alternate 1 0 .regs)
+    (busy alternate 1 0 .shadows) (lent 0)
+    -- [turn: stopping the current one] passes it likewise
     ∷ current (stopped (after 1 three) 0) 1 2
     ∷ current (stopped (after 5 three) 2) 0 2
     ∷ current (stopped (stopped three 1) 0) 2 2
-    -- or leaves none current with 0 left
+    ∷ sameHouse (stopped (busy alternate 1 5) 1) (busy (true ∷ false ∷ false ∷ true ∷ replicate 4 false) 3 9)
+    -- [turn: stopping the last one] leaves none current with 0 left
     ∷ current idle 0 0
     ∷ same (flags (idle .running)) (zeros 8)
-    -- starting when none is current makes that one current with q left
+    ∷ sameHouse (stopped (busy (false ∷ true ∷ replicate 6 false) 1 5) 1) (busy (replicate 8 false) 0 0)
+    -- [turn: starting when none is current] makes that one current with q left
     ∷ current (started idle 1) 1 5
     ∷ same (flags (started idle 1 .running)) (0 ∷ 1 ∷ zeros 6)
-    -- stopping another, or starting while one is current, leaves the steps left; starting resets neither registers nor counter
+    ∷ sameHouse (started (busy (replicate 8 false) 0 0) 2) (busy (false ∷ false ∷ true ∷ replicate 5 false) 2 9)
+    -- [turn: stopping another] leaves the steps left
     ∷ current (stopped (after 1 three) 2) 0 1
+    ∷ sameHouse (stopped (busy alternate 1 5) 3) (busy (true ∷ true ∷ replicate 6 false) 1 5)
+    -- [turn: starting while one is current] leaves the steps left, and resets neither registers nor counter
     ∷ sameHouse (started (stopped (after 5 three) 0) 0) (after 5 three)
-    -- starting a running one or stopping a stopped one changes nothing
+    ∷ sameHouse (started (busy alternate 1 5) 2) (busy (replicate 4 true ++ replicate 4 false) 1 5)
+    -- [turn: starting a running one]
     ∷ sameHouse (started (after 1 three) 0) (after 1 three)
     ∷ sameHouse (started (after 1 three) 2) (after 1 three)
+    -- [turn: stopping a stopped one]
     ∷ sameHouse (stopped (stopped three 1) 1) (stopped three 1)
+    ∷ sameHouse (stopped (busy alternate 1 5) 2) (busy alternate 1 5)
     ∷ sameHouse (stopped idle 0) idle
-    -- emptying: one partition's whole shadow, and no other's
+    -- [empty: one shadow] one partition's whole shadow, and no other's
     ∷ sameHouse (emptiedHouse (withShadows three (set (set (set (set (zeros 2048) 255 0x800) 256 0x1800) 511 0x1C00) 512 0x2800)) 1)
     (withShadows three (set (set (zeros 2048) 255 0x800) 512 0x2800))
+    ∷ sameHouse (emptiedHouse (busy alternate 1 5) 2)
+    (withShadows (busy alternate 1 5) (take 512 (busy alternate 1 0 .shadows) ++ (zeros 256 ++ drop 768 (busy alternate 1 0 .shadows))))
     ∷ []
 
 -- ---- the calls
@@ -354,76 +488,116 @@ ofTwo = world two (zeros 2048)
 abbrev ofIdle : World
 ofIdle = world idle (zeros 2048)
 
--- a memory that is not the one at boot
+-- memories that are not the one at boot
 abbrev short : World
 short = world two (zeros 2047)
 
--- the house of no partitions, with such a memory
+abbrev long : World
+long = world two (told 3072)
+
+-- the house of no partitions, with such a memory; and a full house with a wrong q
 abbrev nowhere : World
 nowhere = world noHouse (0 ∷ 0 ∷ 0 ∷ [])
 
+unfoldable pub missized : House
+missized = withSizes (busy alternate 1 5) 4 10001 2048 (busy alternate 1 5 .frames)
+
+abbrev broken : World
+broken = world missized (7 ∷ 8 ∷ 9 ∷ [])
+
 -- a refusal returns the house it was given and writes nothing
 unfoldable pub refuses : Answered → ℕ → World → Bool
-refuses a n w = answers (a .verdict) n 0 && sameHouse (a .world .house) (w .house) && same (a .world .memory) (w .memory)
+refuses a n w = answers (a .verdict) n 0 && sameWorld (a .world) (w .house) (w .memory)
 
--- of partition 1 of `two`, whose words begin with 71, 72 and 73 and end with 79
-unfoldable pub reading : ℕ → ℕ → List ℕ → Read
-reading a count out = readCall (world two (zeros 1024 ++ (71 ∷ 72 ∷ 73 ∷ zeros 1020 ++ (79 ∷ [])))) 1 a count out
+-- a done call of no detail leaves this house, and the memory as it was
+unfoldable pub does : Answered → House → List ℕ → Bool
+does a h m = answers (a .verdict) 0 0 && sameWorld (a .world) h m
+
+-- of partition i of `uneven`
+unfoldable pub reading : ℕ → ℕ → ℕ → List ℕ → Read
+reading i a count out = readCall (world uneven (told 3072)) i a count out
 
 unfoldable pub gives : Read → ℕ → ℕ → List ℕ → Bool
 gives r n d out = answers (r .verdict) n d && same (r .output) out
 
 unfoldable pub calls : List Bool
 calls =
-    -- run: steps done
+    -- [run: steps done]
     answers (runCall ofTwo 7 .verdict) 0 7
-    ∷ sameHouse (runCall ofTwo 7 .world .house) (hostSteps 7 ofTwo .house)
+    ∷ (let w = hostSteps 7 ofTwo in sameWorld (runCall ofTwo 7 .world) (w .house) (w .memory))
+    -- [refusal 14] 1,000,000 steps pass
     ∷ answers (runVerdict ofTwo 1000000) 0 1000000
-    -- 0 steps, nothing running
+    ∷ answers (runVerdict ofTwo 1000001) 14 0
+    -- [refusal 11] 0 steps with nothing running are done, 1 is not
     ∷ answers (runVerdict ofIdle 0) 0 0
-    -- order 8, 9, 14, 11
+    ∷ refuses (runCall ofIdle 1) 11 ofIdle
+    -- [refusal 8]
+    ∷ refuses (runCall broken 1) 8 broken
+    ∷ refuses (startCall broken 2) 8 broken
+    ∷ refuses (stopCall broken 1) 8 broken
+    ∷ refuses (emptyCall broken 1) 8 broken
+    -- [refusal 9] a shorter memory, and a longer one
+    ∷ answers (runVerdict short 1) 9 0
+    ∷ refuses (runCall long 1) 9 long
+    -- [order: run] 8, 9, 14, 11
     ∷ answers (runVerdict nowhere 1000001) 8 0
     ∷ answers (runVerdict short 1000001) 9 0
     ∷ answers (runVerdict ofIdle 1000001) 14 0
-    ∷ refuses (runCall ofIdle 1) 11 ofIdle
-    -- start, stop, empty: order 8, 10
+    -- [order: start, stop, empty] 8, 10
     ∷ answers (startCall nowhere 0 .verdict) 8 0
     ∷ answers (stopCall nowhere 0 .verdict) 8 0
     ∷ answers (emptyCall nowhere 0 .verdict) 8 0
+    -- [refusal 10]
     ∷ refuses (startCall ofTwo 2) 10 ofTwo
     ∷ refuses (stopCall ofTwo 2) 10 ofTwo
     ∷ refuses (emptyCall ofTwo 2) 10 ofTwo
-    -- they never give 9
     ∷ answers (oneVerdict two 1) 0 0
+    ∷ answers (oneVerdict two 3) 10 0
+    ∷ answers (oneVerdict two 4294967295) 10 0
+    -- [start, stop, empty: done] they never give 9
     ∷ answers (startCall short 1 .verdict) 0 0
     ∷ answers (stopCall short 1 .verdict) 0 0
     ∷ answers (emptyCall short 1 .verdict) 0 0
-    ∷ sameHouse (startCall ofIdle 1 .world .house) (started idle 1)
-    ∷ sameHouse (stopCall ofTwo 0 .world .house) (stopped two 0)
-    ∷ sameHouse (emptyCall ofTwo 1 .world .house) (emptiedHouse two 1)
-    -- read-out: order 8, 9, 10, 12, 13
+    ∷ does (startCall (world idle (told 5)) 1) (started idle 1) (told 5)
+    ∷ does (stopCall (world two (told 5)) 0) (stopped two 0) (told 5)
+    ∷ does (emptyCall (world two (told 5)) 1) (emptiedHouse two 1) (told 5)
+    -- [order: read-out] 8, 9, 10, 12, 13
     ∷ answers (readVerdict nowhere 0 2 1 []) 8 0
     ∷ answers (readVerdict short 2 2 1 []) 9 0
     ∷ answers (readVerdict ofTwo 2 2 1 []) 10 0
-    ∷ gives (reading 2 3 (5 ∷ 6 ∷ [])) 12 0 (5 ∷ 6 ∷ [])
-    ∷ gives (reading 0 3 (5 ∷ 6 ∷ [])) 13 0 (5 ∷ 6 ∷ [])
-    -- words read; the first count words of the output only
-    ∷ gives (reading 0 3 (5 ∷ 6 ∷ 7 ∷ [])) 0 3 (71 ∷ 72 ∷ 73 ∷ [])
-    ∷ gives (reading 4 2 (5 ∷ 6 ∷ 7 ∷ 8 ∷ [])) 0 2 (72 ∷ 73 ∷ 7 ∷ 8 ∷ [])
-    -- address not a multiple of 4, or address + 4 × count above 4,096 × the page count; count 0 is allowed
-    ∷ gives (reading 4092 1 (5 ∷ [])) 0 1 (79 ∷ [])
-    ∷ gives (reading 4096 0 (5 ∷ [])) 0 0 (5 ∷ [])
-    ∷ gives (reading 4096 1 (5 ∷ [])) 12 0 (5 ∷ [])
-    ∷ gives (reading 4100 0 (5 ∷ [])) 12 0 (5 ∷ [])
-    ∷ gives (reading 2 0 (5 ∷ [])) 12 0 (5 ∷ [])
+    ∷ gives (reading 1 2 3 (5 ∷ 6 ∷ [])) 12 0 (5 ∷ 6 ∷ [])
+    -- [refusal 8], [refusal 9] and [refusal 10] of a read-out
+    ∷ gives (readCall broken 1 0 1 (5 ∷ [])) 8 0 (5 ∷ [])
+    ∷ gives (readCall long 1 0 1 (5 ∷ [])) 9 0 (5 ∷ [])
+    ∷ gives (reading 2 0 0 (5 ∷ [])) 10 0 (5 ∷ [])
+    ∷ gives (reading 9 0 0 (5 ∷ [])) 10 0 (5 ∷ [])
+    -- [refusal 13]
+    ∷ gives (reading 1 0 3 (5 ∷ 6 ∷ [])) 13 0 (5 ∷ 6 ∷ [])
+    -- [read-out: words read] the first count words of the output only, page by page
+    ∷ gives (reading 1 0 3 (5 ∷ 6 ∷ 7 ∷ [])) 0 3 (word 2048 ∷ word 2049 ∷ word 2050 ∷ [])
+    ∷ gives (reading 1 4 2 (5 ∷ 6 ∷ 7 ∷ 8 ∷ [])) 0 2 (word 2049 ∷ word 2050 ∷ 7 ∷ 8 ∷ [])
+    ∷ gives (reading 1 4092 2 (5 ∷ 6 ∷ 7 ∷ [])) 0 2 (word 3071 ∷ word 0 ∷ 7 ∷ [])
+    ∷ gives (reading 0 4092 1 (5 ∷ 6 ∷ [])) 0 1 (word 2047 ∷ 6 ∷ [])
+    ∷ sameHouse (reading 1 4 2 (5 ∷ 6 ∷ []) .house) uneven
+    ∷ sameHouse (readCall broken 1 0 1 [] .house) (broken .house)
+    -- [refusal 12] address not a multiple of 4, or address + 4 × count above 4,096 × the page count; count 0 is allowed
+    ∷ gives (reading 1 8188 1 (5 ∷ [])) 0 1 (word 1023 ∷ [])
+    ∷ gives (reading 1 8188 2 (5 ∷ 6 ∷ [])) 12 0 (5 ∷ 6 ∷ [])
+    ∷ gives (reading 1 8192 0 (5 ∷ [])) 0 0 (5 ∷ [])
+    ∷ gives (reading 1 8192 1 (5 ∷ [])) 12 0 (5 ∷ [])
+    ∷ gives (reading 1 8196 0 (5 ∷ [])) 12 0 (5 ∷ [])
+    ∷ gives (reading 0 4096 1 (5 ∷ [])) 12 0 (5 ∷ [])
+    ∷ gives (reading 1 1 0 (5 ∷ [])) 12 0 (5 ∷ [])
+    ∷ gives (reading 1 2 0 (5 ∷ [])) 12 0 (5 ∷ [])
     -- unwrapped
-    ∷ gives (reading 4 (2 ^ 64 - 1) (5 ∷ [])) 12 0 (5 ∷ [])
+    ∷ gives (reading 1 4294967292 1 (5 ∷ [])) 12 0 (5 ∷ [])
+    ∷ gives (reading 1 4 (2 ^ 64 - 1) (5 ∷ [])) 12 0 (5 ∷ [])
     ∷ []
 
 -- ---- damage: houses with one thing changed, by 01's conditions
 
 abbrev withTurns : List Bool → ℕ → ℕ → House
-withTurns running c l = withTurn two running (turn c l)
+withTurns running c l = turning two running c l
 
 abbrev withRegister : ℕ → ℕ → House
 withRegister j x = withRegisters two (set (zeros 256) j x)
@@ -431,41 +605,115 @@ withRegister j x = withRegisters two (set (zeros 256) j x)
 abbrev withEntry : ℕ → ℕ → House
 withEntry j e = withShadows two (set (zeros 2048) j e)
 
--- a count or frame outside boot's limits: partitions, pages, q, memory, frame
+-- a count or frame outside boot's limits; and houses at their limits
 unfoldable pub beyond : List House
 beyond =
-    withSizes two 9 5 2048 (two .frames)
+    -- [damage: count]
+    withSizes two 0 5 2048 (two .frames)
+    ∷ withSizes two 9 5 2048 (two .frames)
+    -- [damage: pages]
+    ∷ withPart two 0 (freshOf 0)
     ∷ withPart two 1 (freshOf 0)
     ∷ withPart two 1 (freshOf 257)
+    -- [damage: q]
     ∷ withSizes idle 2 0 2048 (idle .frames)
     ∷ withSizes two 2 10001 2048 (two .frames)
+    -- [damage: words]
+    ∷ withSizes two 2 5 0 (two .frames)
     ∷ withSizes two 2 5 2049 (two .frames)
     ∷ withSizes two 2 5 1049600 (two .frames)
+    -- [damage: frame outside] of either partition, and of a later page
+    ∷ withFrame two 0 2
     ∷ withFrame two 256 2
+    ∷ withFrame uneven 257 3
     ∷ []
 
--- a frame twice: in two partitions, in one
-unfoldable pub twice : List House
-twice = withFrame two 256 0 ∷ bootedHouse (2 ∷ []) 5 (1 ∷ 1 ∷ []) 2048 ∷ []
+unfoldable pub within : List House
+within =
+    bootedHouse (ones 8) 10000 (upTo 8) 1048576
+    ∷ bootedHouse (1 ∷ []) 1 (0 ∷ []) 1024
+    ∷ withSizes (withPart alone 0 (freshOf 256)) 1 5 262144 (upTo 256 ++ zeros 1792)
+    ∷ withFrame uneven 257 2
+    ∷ []
 
--- a current partition that isn't running, or isn't there; none current while one runs; steps left above q; none current with another index than 0
+-- a frame twice; and none twice, though unused places are alike
+unfoldable pub twice : List House
+twice =
+    -- [damage: frame twice across partitions] neighbours, and not
+    withFrame two 256 0
+    ∷ withFrame uneven 257 1
+    ∷ withFrame three 512 0
+    -- [damage: frame twice within one]
+    ∷ bootedHouse (2 ∷ []) 5 (1 ∷ 1 ∷ []) 2048
+    ∷ bootedHouse (1 ∷ 3 ∷ []) 5 (3 ∷ 1 ∷ 0 ∷ 1 ∷ []) 4096
+    ∷ []
+
+unfoldable pub once-each : List House
+once-each = uneven ∷ three ∷ []
+
+-- the turn
 unfoldable pub outOfTurn : List House
 outOfTurn =
+    -- [damage: current not running] or not there
     withTurns (false ∷ true ∷ replicate 6 false) 0 5
+    ∷ withTurns (true ∷ replicate 7 false) 1 5
     ∷ withTurns (two .running) 2 5
+    ∷ withTurns (replicate 8 true) 2 5
+    -- [damage: none current while one runs]
     ∷ withTurns (two .running) 0 0
+    ∷ withTurns (false ∷ true ∷ replicate 6 false) 0 0
+    -- [damage: steps left] above q
     ∷ withTurns (two .running) 0 6
-    ∷ withTurn idle (idle .running) (turn 1 0)
+    ∷ withTurns (two .running) 1 10000
+    -- [damage: none current with another index than 0]
+    ∷ turning idle (idle .running) 1 0
     ∷ []
 
--- register 0 not zero, MODE or EMODE above 1
+unfoldable pub inTurn : List House
+inTurn =
+    withTurns (two .running) 0 5
+    ∷ withTurns (two .running) 1 1
+    ∷ withTurns (false ∷ true ∷ replicate 6 false) 1 5
+    ∷ idle
+    ∷ []
+
+-- registers, MODE and EMODE
 unfoldable pub misset : List House
 misset =
-    withRegister 32 1 ∷ withPart two 1 (part 1 (at 0 4 0 2 0) 0 0 0) ∷ withPart two 1 (part 1 (at 0 4 0 0 2) 0 0 0) ∷ []
+    -- [damage: register 0] of either partition
+    withRegister 0 1
+    ∷ withRegister 32 2
+    -- [damage: MODE]
+    ∷ withPart two 0 (part 1 (at 0 4 0 2 0) 0 0 0)
+    ∷ withPart two 1 (part 1 (at 0 4 0 2 1) 0 0 0)
+    -- [damage: EMODE]
+    ∷ withPart two 0 (part 1 (at 0 4 0 0 2) 0 0 0)
+    ∷ withPart two 1 (part 1 (at 0 4 0 1 2) 0 0 0)
+    ∷ []
 
--- a valid shadow entry whose frame isn't its partition's; anything but 0 in an empty entry, or in the unused bits of a valid one
+unfoldable pub set-right : List House
+set-right =
+    withRegister 1 1
+    ∷ withRegister 31 9
+    ∷ withRegister 63 9
+    ∷ withPart two 1 (part 1 (at 0 4 0 1 0) 0 0 0)
+    ∷ withPart two 1 (part 1 (at 0 4 0 0 1) 0 0 0)
+    ∷ []
+
+-- shadow entries
 unfoldable pub astray : List House
-astray = withEntry 511 (entryOf 0 0) ∷ withEntry 511 1024 ∷ withEntry 511 (entryOf 1 0 + 1) ∷ []
+astray =
+    -- [damage: shadow entry's frame] of another partition, of none, and what stands in an unused place
+    withEntry 511 (entryOf 0 0)
+    ∷ withEntry 511 (entryOf 2 1)
+    -- [damage: stray bits 9..0]
+    ∷ withEntry 511 (entryOf 1 0 + 1)
+    ∷ withEntry 511 (entryOf 1 1 + 512)
+    -- [damage: entry not empty and not valid]
+    ∷ withEntry 511 1
+    ∷ withEntry 511 1024
+    ∷ withEntry 511 0x00001000
+    ∷ []
 
 -- a place with 1 for its k-th number
 abbrev one : ℕ → ℕ → ℕ
@@ -492,12 +740,19 @@ used k =
       counter = one k 13;
     }
 
--- anything but 0 where there is no partition
+-- anything but 0 in an unused place
 unfoldable pub leftover : List House
 leftover =
+    -- [damage: unused flag]
     withTurns (true ∷ true ∷ replicate 5 false ++ (true ∷ [])) 0 5
+    ∷ turning seven (replicate 8 true) 0 5
+    -- [damage: unused partition] each of its scalars, below
+    ∷ withPart seven 7 (used 0)
     ∷ withPart two 7 (used 13)
+    -- [damage: unused register]
     ∷ withRegister 255 1
+    ∷ withRegisters seven (set (zeros 256) 224 1)
+    -- [damage: unused frame place] and [damage: unused shadow place]
     ∷ withFrame two 2047 1
     ∷ []
 
@@ -505,20 +760,30 @@ leftover =
 unfoldable pub damages : List Bool
 damages =
     map outsideLimits beyond
+    ++ (map (λ h. not (outsideLimits h)) within
     ++ (map frameTwice twice
+    ++ (map (λ h. not (frameTwice h)) once-each
     ++ (map turnWrong outOfTurn
+    ++ (map (λ h. not (turnWrong h)) inTurn
     ++ (map registersWrong misset
+    ++ (map (λ h. not (registersWrong h)) set-right
     ++ (map shadowWrong astray
     ++ (map unusedWrong leftover
     ++ (map (λ k. partitionUsed (used k)) (upTo 14)
-    ++ map damaged (beyond ++ (twice ++ (outOfTurn ++ (misset ++ astray))))))))))
+    ++ (not (partitionUsed (used 14)) ∷ map damaged (beyond ++ (twice ++ (outOfTurn ++ (misset ++ astray)))))))))))))))
 
 unfoldable pub places : List Bool
 places =
-    -- anything but 0 behind a frame list, or in the shadow of a partition that is not there
+    -- [damage: unused frame place] behind a frame list, or of a partition that is not there
     damaged (withFrame two 257 1)
+    ∷ unusedWrong (withFrame seven 255 1)
+    ∷ unusedWrong (withFrame seven 1792 1)
+    -- [damage: unused shadow place]
     ∷ damaged (withEntry 767 (entryOf 0 0))
-    -- a valid entry of an own frame, protected or not, is right
+    ∷ unusedWrong (withShadows seven (set (zeros 2048) 1792 1))
+    -- [damage: queue count], beside all that is right
+    ∷ damaged (withQueues two (queues (zeros 256) (set (zeros 8) 7 1)))
+    -- [damage: shadow entry's frame] an own frame, protected or not, is right
     ∷ not (damaged (withEntry 263 (entryOf 1 1)))
     ∷ []
 
@@ -559,44 +824,49 @@ across n =
 
 unfoldable pub exchanges : List Bool
 exchanges =
-    -- a ticket sent stands behind the others; to oneself too; a stopped partition still receives
+    -- [ticket: sent] it stands behind the others; to oneself too; a stopped partition still receives
     leaves two (send ∷ []) 1 none 7 0 (lines [] 0 (7 ∷ []) 1)
     ∷ leaves two (send ∷ []) 1 (lines (4 ∷ []) 1 (9 ∷ 8 ∷ []) 2) 7 0 (lines (4 ∷ []) 1 (9 ∷ 8 ∷ 7 ∷ []) 3)
     ∷ leaves two (send ∷ []) 0 (lines (4 ∷ []) 1 [] 0) 7 0 (lines (4 ∷ 7 ∷ []) 2 [] 0)
     ∷ leaves (stopped two 1) (send ∷ []) 1 none 7 0 (lines [] 0 (7 ∷ []) 1)
-    -- the 32nd fits, the 33rd finds a full queue
+    -- [ticket: full queue] the 32nd fits, the 33rd doesn't
     ∷ leaves two (send ∷ []) 1 (lines [] 0 (upTo 31) 31) 7 0 (lines [] 0 (upTo 31 ++ (7 ∷ [])) 32)
     ∷ leaves two (send ∷ send ∷ []) 1 (lines [] 0 (upTo 31) 31) 7 1 (lines [] 0 (upTo 31 ++ (7 ∷ [])) 32)
     ∷ leaves two (send ∷ []) 1 (lines [] 0 (upTo 32) 32) 7 1 (lines [] 0 (upTo 32) 32)
-    -- no such partition: the count, 8, and the largest number
+    -- [ticket: no such partition] the count, 8, and the largest number
     ∷ leaves two (send ∷ []) 2 none 7 2 none
     ∷ leaves two (send ∷ []) 8 none 7 2 none
     ∷ leaves two (send ∷ []) 0xFFFFFFFF none 7 2 none
-    -- the oldest of one's own is taken, and the others move on; none waiting leaves register 1
+    -- [ticket: taken] the oldest of one's own, and the others move on
     ∷ leaves two (receive ∷ []) 1 (lines (9 ∷ 8 ∷ []) 2 (5 ∷ []) 1) 9 0 (lines (8 ∷ []) 1 (5 ∷ []) 1)
     ∷ leaves two (receive ∷ []) 1 (lines (upTo 32) 32 [] 0) 0 0 (lines (listFrom (λ i. i) 1 31) 31 [] 0)
+    -- [ticket: none waiting] leaves register 1
     ∷ leaves two (receive ∷ []) 1 (lines [] 0 (5 ∷ []) 1) 7 3 (lines [] 0 (5 ∷ []) 1)
-    -- a freed place is used again: the oldest of a full queue goes to its end; one's own ticket comes back
+    -- [ticket: freed place] is used again: the oldest of a full queue goes to its end; one's own ticket comes back
     ∷ leaves two (receive ∷ send ∷ []) 0 (lines (listFrom (λ i. i) 40 32) 32 [] 0) 40 0 (lines (listFrom (λ i. i) 41 31 ++ (40 ∷ [])) 32 [] 0)
     ∷ leaves two (send ∷ receive ∷ receive ∷ []) 0 none 7 3 none
-    -- in user mode both are ordinary traps; 258 is one in system mode too, and passes the turn
+    -- [ticket: user mode] both are ordinary traps; [ticket: another trap] 258 is one in system mode too, and passes the turn
     ∷ interrupt (user (0 ∷ 7 ∷ 1 ∷ []) send) 32 12 16 256
     ∷ interrupt (user (0 ∷ 7 ∷ 1 ∷ []) receive) 32 12 16 257
     ∷ same (user (0 ∷ 7 ∷ 1 ∷ []) send .house .waiting) (zeros 8)
     ∷ current (user (0 ∷ 7 ∷ 1 ∷ []) send .house) 0 4
     ∷ interrupt (system (0 ∷ 7 ∷ 1 ∷ []) 0xF8000102) 32 12 16 258
     ∷ current (system (0 ∷ 7 ∷ 1 ∷ []) 0xF8000102 .house) 1 5
-    -- between two partitions across turns
+    -- [ticket: last step] the turn passes at 0 left, from sender to receiver
     ∷ same (across 1 .tickets ++ across 1 .waiting) (lines [] 0 (7 ∷ []) 1 .tickets ++ lines [] 0 (7 ∷ []) 1 .waiting)
     ∷ current (across 1) 1 1
     ∷ same (take 4 (registersOf (across 2) 1)) (0 ∷ 7 ∷ 0 ∷ 0 ∷ [])
     ∷ same (across 2 .tickets ++ across 2 .waiting) (zeros 264)
-    -- a count above 32, of a partition that is not there, or a place used that none waits in, is damage
+    -- [damage: queue count] above 32, or of a partition that is not there
     ∷ queuesWrong (withQueues two (lines (upTo 32) 33 [] 0))
+    ∷ queuesWrong (withQueues two (lines [] 0 (upTo 32) 33))
     ∷ queuesWrong (withQueues two (queues (zeros 256) (set (zeros 8) 2 1)))
+    ∷ queuesWrong (withQueues two (queues (zeros 256) (set (zeros 8) 7 1)))
+    -- [damage: queue place] used, where none waits
     ∷ queuesWrong (withQueues two (lines (4 ∷ 7 ∷ []) 1 [] 0))
     ∷ queuesWrong (withQueues two (queues (set (zeros 256) 255 1) (zeros 8)))
-    ∷ not (queuesWrong (withQueues two (lines (upTo 32) 32 (0 ∷ []) 1)))
+    ∷ queuesWrong (withQueues two (lines (ones 32) 31 [] 0))
+    ∷ not (queuesWrong (withQueues two (lines (ones 32) 32 (0 ∷ []) 1)))
     ∷ []
 
 -- a booted house is not damaged, nor one with nothing running; the house of no partitions is
