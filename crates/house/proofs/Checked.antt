@@ -29,7 +29,7 @@ use Rattle.house.specs.Damage.{outsideLimits, frameTwice, turnWrong, reg
 use Rattle.house.specs.Boot.{firstOf, sum, bootVerdict, laid, offset, bootedHouse}
 use Rattle.house.specs.Turns.{nextFrom, turnOf, requestNow, replyNow, queuesNext, guestStep, settledHouse, stepWith, hostStep, hostSteps}
 use Rattle.house.specs.Calls.{bootCall, runVerdict, runCall, oneVerdict, started, stopped, emptiedHouse, startCall, stopCall, emptyCall, readVerdict, readOut, readCall}
-use Rattle.house.specs.Examples.{alone, two, idle, three, uneven, seven, busy, pair, interrupt, current, answers, flags, fields, numbers, sameHouse, sameWorld, ran, once, mapped, papers, plain, unbooted, boots, widest, after, trapped, six, counts, stepping, comes, turns, missized, refuses, does, reading, gives, calls, beyond, within, twice, once-each, outOfTurn, inTurn, misset, set-right, astray, used, leftover, damages, places, leaves, across, exchanges, whole}
+use Rattle.house.specs.Examples.{alone, two, idle, three, uneven, seven, busy, pair, interrupt, current, answers, flags, fields, numbers, sameHouse, sameWorld, ran, once, mapped, papers, plain, unbooted, boots, widest, after, trapped, six, counts, stepping, comes, turns, missized, refuses, does, reading, gives, calls, beyond, within, twice, once-each, outOfTurn, inTurn, misset, set-right, astray, used, damages, places, leaves, across, exchanges, whole}
 use Rattle.house.proofs.Lists.{and-right}
 use Rattle.house.proofs.Searches.{getD-listFrom, length-listFrom}
 
@@ -65,7 +65,7 @@ joined (x ∷ a) b e f = rw (and-left x (all a) e) (joined a b (and-right x (all
 
 -- all that the examples compute with, but damage
 computing : ℕ
-unfolding all papers boots widest turns calls whole damages places exchanges leaves across alone two idle three uneven seven busy pair interrupt current answers same flags fields numbers sameHouse sameWorld ran once mapped plain unbooted after trapped six counts stepping comes missized refuses does reading gives beyond within twice once-each outOfTurn inTurn misset set-right astray used leftover inner outer listFrom any firstFrom firstOf sum bootVerdict laid offset bootedHouse nextFrom turnOf requestNow replyNow queuesNext desk sending taking asked requestOf guestStep settledHouse stepWith hostStep hostSteps bootCall runVerdict runCall oneVerdict started stopped emptiedHouse startCall stopCall emptyCall readVerdict readOut readCall judged composed walked direct hosted given filled looked served hostRead emptied hostWritten hostReads hostWrites step fetched executed loaded stored accessed received handed settled retabled instructionOf registerType effectOf written valueOf overflowsOf operated reached loads stores movedTo trapOf specialOf withSpecial interrupted levelOf trailingZeros extendedBy readIn holds
+unfolding all papers boots widest turns calls whole damages places exchanges leaves across alone two idle three uneven seven busy pair interrupt current answers same flags fields numbers sameHouse sameWorld ran once mapped plain unbooted after trapped six counts stepping comes missized refuses does reading gives beyond within twice once-each outOfTurn inTurn misset set-right astray used inner outer listFrom any firstFrom firstOf sum bootVerdict laid offset bootedHouse nextFrom turnOf requestNow replyNow queuesNext desk sending taking asked requestOf guestStep settledHouse stepWith hostStep hostSteps bootCall runVerdict runCall oneVerdict started stopped emptiedHouse startCall stopCall emptyCall readVerdict readOut readCall judged composed walked direct hosted given filled looked served hostRead emptied hostWritten hostReads hostWrites step fetched executed loaded stored accessed received handed settled retabled instructionOf registerType effectOf written valueOf overflowsOf operated reached loads stores movedTo trapOf specialOf withSpecial interrupted levelOf trailingZeros extendedBy readIn holds
 computing = 0
 
 -- how a call comes to its answer

@@ -611,6 +611,7 @@ beyond =
     -- [damage: count]
     withSizes two 0 5 2048 (two .frames)
     ∷ withSizes two 9 5 2048 (two .frames)
+    ∷ withSizes (houseAt two 0 5 (replicate 9 (freshOf 1)) (two .regs) (two .shadows)) 9 5 2048 (two .frames)
     -- [damage: pages]
     ∷ withPart two 0 (freshOf 0)
     ∷ withPart two 1 (freshOf 0)
@@ -740,26 +741,12 @@ used k =
       counter = one k 13;
     }
 
--- anything but 0 in an unused place
-unfoldable pub leftover : List House
-leftover =
-    -- [damage: unused flag]
-    withTurns (true ∷ true ∷ replicate 5 false ++ (true ∷ [])) 0 5
-    ∷ turning seven (replicate 8 true) 0 5
-    -- [damage: unused partition] each of its scalars, below
-    ∷ withPart seven 7 (used 0)
-    ∷ withPart two 7 (used 13)
-    -- [damage: unused register]
-    ∷ withRegister 255 1
-    ∷ withRegisters seven (set (zeros 256) 224 1)
-    -- [damage: unused frame place] and [damage: unused shadow place]
-    ∷ withFrame two 2047 1
-    ∷ []
-
 -- each by its own condition; and each is damage
 unfoldable pub damages : List Bool
 damages =
-    map outsideLimits beyond
+    map (λ k. partitionUsed (used k)) (upTo 14)
+    ++ (not (partitionUsed (used 14))
+    ∷ map outsideLimits beyond
     ++ (map (λ h. not (outsideLimits h)) within
     ++ (map frameTwice twice
     ++ (map (λ h. not (frameTwice h)) once-each
@@ -768,16 +755,24 @@ damages =
     ++ (map registersWrong misset
     ++ (map (λ h. not (registersWrong h)) set-right
     ++ (map shadowWrong astray
-    ++ (map unusedWrong leftover
-    ++ (map (λ k. partitionUsed (used k)) (upTo 14)
-    ++ (not (partitionUsed (used 14)) ∷ map damaged (beyond ++ (twice ++ (outOfTurn ++ (misset ++ astray)))))))))))))))
+    ++ map damaged (beyond ++ (twice ++ (outOfTurn ++ (misset ++ astray)))))))))))))
 
 unfoldable pub places : List Bool
 places =
+    -- [damage: unused flag]
+    unusedWrong (turning seven (replicate 8 true) 0 5)
+    ∷ unusedWrong (withTurns (true ∷ true ∷ true ∷ replicate 5 false) 0 5)
+    -- [damage: unused partition] each of its numbers, above
+    ∷ unusedWrong (withPart seven 7 (used 0))
+    ∷ unusedWrong (withPart two 7 (used 13))
+    -- [damage: unused register]
+    ∷ unusedWrong (withRegisters seven (set (zeros 256) 224 1))
+    ∷ unusedWrong (withRegister 255 1)
     -- [damage: unused frame place] behind a frame list, or of a partition that is not there
-    damaged (withFrame two 257 1)
+    ∷ damaged (withFrame two 257 1)
     ∷ unusedWrong (withFrame seven 255 1)
     ∷ unusedWrong (withFrame seven 1792 1)
+    ∷ unusedWrong (withFrame two 2047 1)
     -- [damage: unused shadow place]
     ∷ damaged (withEntry 767 (entryOf 0 0))
     ∷ unusedWrong (withShadows seven (set (zeros 2048) 1792 1))
