@@ -238,24 +238,15 @@ fn booted(pages: &[u32], q: u32, frames: &[u32], words: usize) -> House
     let running = all_running(pages.len());
     let parts = fresh_parts(pages);
     let places = lay(pages, frames);
-    let regs = [0u32; 256];
-    let shadows = [0u32; 2048];
-    let tickets = [0u32; 256];
-    let waiting = [0u32; 8];
-    House {
-        count: pages.len() as u32,
-        q,
-        words: words as u32,
-        current: 0,
-        left: q,
-        running,
-        parts,
-        regs,
-        frames: places,
-        shadows,
-        tickets,
-        waiting,
-    }
+    let mut r = House::none();
+    r.count = pages.len() as u32;
+    r.q = q;
+    r.words = words as u32;
+    r.left = q;
+    r.running = running;
+    r.parts = parts;
+    r.frames = places;
+    r
 }
 
 // The house of these partitions, all running, with turns of q steps, their frames in a memory of so many words; or the refusal's number and detail.

@@ -1,4 +1,4 @@
--- The processor: DPC, PC and the special registers. PTO and PTL stand apart, in the table.
+-- The processor: DPC, PC and the special registers. PTO and PTL stand apart, in the table. And the partition around it.
 use mathlib.Core.Bool.{Bool}
 use Prim.Native.Nat.{ℕ, _+_, _%_, _^_}
 use lib.Dec.{eqb}
@@ -19,6 +19,20 @@ freshProcessor =
 
 abbrev pub freshOf : ℕ → Partition
 freshOf n = record { pages = n; processor = freshProcessor; table = record { pto = 0; ptl = 0 }; counter = 0 }
+
+-- A partition made from another one is made by these alone.
+
+abbrev pub withPages : Partition → ℕ → Partition
+withPages p v = record { pages = v; processor = p .processor; table = p .table; counter = p .counter }
+
+abbrev pub withProcessor : Partition → Processor → Partition
+withProcessor p v = record { pages = p .pages; processor = v; table = p .table; counter = p .counter }
+
+abbrev pub withTable : Partition → Table → Partition
+withTable p v = record { pages = p .pages; processor = p .processor; table = v; counter = p .counter }
+
+abbrev pub withCounter : Partition → ℕ → Partition
+withCounter p v = record { pages = p .pages; processor = p .processor; table = p .table; counter = v }
 
 -- the special register of number n, at most 9
 unfoldable pub specialOf : Processor → Table → ℕ → ℕ

@@ -10,11 +10,10 @@ use Rattle.dlx.proofs.Kept.{either}
 use Rattle.translate.specs.Walk.{entries}
 use Rattle.dlx.proofs.Tests.{by-test}
 use Rattle.house.specs.Lists.{any}
-use Rattle.house.specs.House.{noHouse, pagesOf, runs, framesOf, shadowOf}
+use Rattle.house.specs.House.{noHouse, pagesOf, runs, framesOf, shadowOf, queuesOf}
 use Rattle.house.specs.Damage.{wholeFrames, outsideLimits, stands, frameTwice, turnWrong, registersWrong, shadowWrong, unusedWrong, queueWrong, queuesWrong, damaged}
 use Rattle.house.specs.Sound.{Undamaged}
 use Rattle.tickets.specs.Queues.{placesOf, waitingOf}
-use Rattle.house.specs.Tickets.{queuesOf}
 use Rattle.house.specs.declared.House.{House}
 use Rattle.house.proofs.Lists.{or-none, any-from}
 use Rattle.house.proofs.Conditions.{within-from, none-stands, zero-is, zeros-from, proper-entry, unused-partition, badPages, badFrames, frameStands, badCore, badEntry, badBehind, badUnused, badPlace}

@@ -11,13 +11,12 @@ use Rattle.dlx.specs.Machine.{steps}
 use Rattle.dlx.proofs.Feeds.{steps-same}
 use Rattle.translate.specs.Memory.{loneMemory}
 use Rattle.dlx.proofs.Tests.{by-eq}
-use Rattle.house.specs.House.{noHouse}
+use Rattle.house.specs.House.{noHouse, queuesOf}
 use Rattle.house.specs.Damage.{damaged}
 use Rattle.house.specs.Boot.{bootVerdict}
 use Rattle.house.specs.Turns.{World, world}
 use Rattle.house.specs.Calls.{bootCall, runVerdict, runCall, oneVerdict, startCall, stopCall, emptyCall, readVerdict, readCall}
 use Rattle.house.specs.Histories.{booted, history, turnsMade, loneAtBoot, queueIn, logOf, ticketsOff, feedOf}
-use Rattle.house.specs.Tickets.{queuesOf}
 use Rattle.house.specs.Demands.{RefusedMeansUntouched, Isolation, RunIsolation, EveryBoot, NeverDamaged, Step, WithinRuns, Reach, Histories, EqualGuests, EqualCounters, Tickets, TicketCounts, ReadsThosePages, Fairness}
 use Rattle.house.proofs.Verdicts.{run-done}
 use Rattle.house.proofs.Undamaged.{sound}

@@ -9,6 +9,7 @@ use Rattle.house.specs.House.{shadowOf}
 use Rattle.house.specs.Calls.{emptiedHouse}
 use Rattle.house.specs.Sound.{Shaped}
 use Rattle.house.specs.declared.House.{House}
+use Rattle.house.proofs.Updates.{guests-shaped}
 use Rattle.dlx.proofs.Parts.{inner-outer, outer-length, entries-apart}
 
 pub fresh-count : length freshShadow ≡ 256
@@ -20,15 +21,8 @@ module _ (h : House) (i : ℕ) (s : Shaped h) (small : i < 8) where
 
   pub emptied-shaped : Shaped (emptiedHouse h i)
   unfolding emptiedHouse
-  emptied-shaped = record {
-    running = s .running;
-    parts = s .parts;
-    regs = s .regs;
-    frames = s .frames;
-    shadows = outer-length (h .shadows) (i * 256) 256 room freshShadow fresh-count ∙ s .shadows;
-    tickets = s .tickets;
-    waiting = s .waiting;
-  }
+  emptied-shaped =
+      guests-shaped h s _ (s .parts) (s .regs) (outer-length (h .shadows) (i * 256) 256 room freshShadow fresh-count ∙ s .shadows)
 
   pub emptied-own : shadowOf (emptiedHouse h i) i ≡ freshShadow
   unfolding emptiedHouse

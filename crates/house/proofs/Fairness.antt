@@ -12,10 +12,10 @@ use Rattle.dlx.specs.Choice.{if_then_else_}
 use Rattle.dlx.proofs.Kept.{either}
 use Rattle.dlx.proofs.Tests.{either-both, by-eq, getD-set-default}
 use Rattle.house.specs.Lists.{any}
-use Rattle.house.specs.House.{runs}
+use Rattle.house.specs.House.{runs, turn}
 use Rattle.house.specs.Damage.{damaged}
 use Rattle.house.specs.Boot.{bootedHouse}
-use Rattle.house.specs.Turns.{World, world, nextOf, turn, turnOf, guestStep, settledHouse, stepWith, hostStep, hostSteps}
+use Rattle.house.specs.Turns.{World, world, nextOf, turnOf, guestStep, settledHouse, stepWith, hostStep, hostSteps}
 use Rattle.house.specs.Calls.{runVerdict, runCall, oneVerdict, started, stopped, emptiedHouse, startCall, stopCall, emptyCall, readCall}
 use Rattle.house.specs.Histories.{Boot, booted, Call, run, start, stop, empty, readOut, after, history, Grown, turnsIn, stepsOf, stepsMade, turnsMade, StaysRunning}
 use Rattle.house.specs.declared.House.{House}

@@ -15,13 +15,14 @@ use Rattle.translate.specs.Memory.{freshShadow}
 use Rattle.translate.proofs.Kept.{zeros-words}
 use Rattle.dlx.proofs.Tests.{by-test, getD-replicate-same}
 use Rattle.house.specs.Lists.{listFrom}
-use Rattle.house.specs.House.{noPartition, partition, pagesOf, runs, registersOf, framesOf, shadowOf}
+use Rattle.house.specs.House.{noPartition, noHouse, turn, partition, pagesOf, runs, registersOf, framesOf, shadowOf}
 use Rattle.house.specs.Damage.{damaged}
 use Rattle.house.specs.Boot.{bootVerdict, offset, laid, bootedHouse}
 use Rattle.house.specs.Sound.{Shaped, Unused, Undamaged, TypedPartition, Typed, Ready}
 use Rattle.house.specs.Calls.{bootCall}
 use Rattle.house.specs.Histories.{Boot, booted}
 use Rattle.house.specs.declared.House.{House}
+use Rattle.house.proofs.Updates.{none-shaped, layout-shaped, turn-shaped, guests-shaped, fresh-typed, unused-typed, none-typed, layout-typed, turn-typed, guests-typed}
 use Rattle.house.proofs.Lists.{by-order}
 use Rattle.house.proofs.Searches.{length-listFrom, listFrom-at}
 use Rattle.house.proofs.Conditions.{empty-proper}
@@ -29,36 +30,6 @@ use Rattle.dlx.proofs.Parts.{part-at, inner-replicate}
 use Rattle.house.proofs.Offsets.{offset-below, offset-in, laid-page, laid-behind, laid-after}
 use Rattle.house.proofs.Verdicts.{BootDone, boot-done}
 use Rattle.house.proofs.Damage.{undamaged-from}
-
--- a partition of zeros but its PC and its pages
-abbrev fresh : ℕ → ℕ → Partition
-fresh pc n = record {
-  pages = n;
-  processor = record { dpc = 0; pc = pc; sr = 0; esr = 0; eca = 0; epc = 0; edpc = 0; edata = 0; mode = 0; emode = 0 };
-  table = record { pto = 0; ptl = 0 };
-  counter = 0;
-}
-
-fresh-typed : (pc n : ℕ) → pc < 2 ^ 32 → n < 2 ^ 32 → TypedPartition (fresh pc n)
-fresh-typed pc n l m = record {
-  pages = m;
-  dpc = omega arith;
-  pc = l;
-  sr = omega arith;
-  esr = omega arith;
-  eca = omega arith;
-  epc = omega arith;
-  edpc = omega arith;
-  edata = omega arith;
-  mode = omega arith;
-  emode = omega arith;
-  pto = omega arith;
-  ptl = omega arith;
-  counter = omega arith;
-}
-
-none-typed : TypedPartition noPartition
-none-typed = fresh-typed 0 0 (omega arith) (omega arith)
 
 module _ (b : Boot) where
   abbrev ps : List ℕ
@@ -85,15 +56,11 @@ module _ (b : Boot) where
 
   pub booted-shaped : Shaped h
   unfolding bootedHouse
-  booted-shaped = record {
-    running = length-listFrom (λ i. ltb i (length ps)) 0 8;
-    parts = length-listFrom _ 0 8;
-    regs = length-replicate {A = ℕ} 256 0;
-    frames = length-listFrom (laid ps fr) 0 2048;
-    shadows = length-replicate {A = ℕ} 2048 0;
-    tickets = length-replicate {A = ℕ} 256 0;
-    waiting = length-replicate {A = ℕ} 8 0;
-  }
+  booted-shaped =
+      layout-shaped _
+      (guests-shaped _ (turn-shaped noHouse none-shaped _ _ (length-listFrom (λ i. ltb i (length ps)) 0 8)) _
+      (length-listFrom _ 0 8) (length-replicate {A = ℕ} 256 0) (length-replicate {A = ℕ} 2048 0))
+      _ (length-listFrom (laid ps fr) 0 2048)
 
   pub booted-runs : (i : ℕ) → i < 8 → runs h i ≡ ltb i (length ps)
   unfolding bootedHouse
@@ -216,27 +183,21 @@ module _ (b : Boot) where
   parts-typed : (i : ℕ) → TypedPartition (partition h i)
   parts-typed i =
       by-test (ltb i 8)
-      (λ t. rw (booted-place i (ltb-true i 8 t)) (either TypedPartition (ltb i (length ps)) (λ u. fresh-typed 4 (getD ps i 0) (omega arith) (omega (arith, d .pages i (ltb-true i (length ps) u) .1))) (λ _. none-typed)))
-      (λ t. rw (List·getD-eq-default (h .parts) noPartition {n = i} (omega (arith, booted-shaped .parts, ltb-false i 8 t))) none-typed)
+      (λ t. rw (booted-place i (ltb-true i 8 t)) (either TypedPartition (ltb i (length ps)) (λ u. fresh-typed (getD ps i 0) (omega (arith, d .pages i (ltb-true i (length ps) u) .1))) (λ _. unused-typed)))
+      (λ t. rw (List·getD-eq-default (h .parts) noPartition {n = i} (omega (arith, booted-shaped .parts, ltb-false i 8 t))) unused-typed)
 
   -- where the memory's words are what its type gives
   booted-typed : ((k : ℕ) → getD (b .memory) k 0 < 2 ^ 32) → Typed (booted b)
   unfolding bootedHouse
-  booted-typed t = record {
-    shaped = booted-shaped;
-    count = omega (arith, d .count .1);
-    q = omega (arith, d .turns .1);
-    words = omega (arith, d .size .1);
-    current = omega arith;
-    left = omega (arith, d .turns .1);
-    parts = parts-typed;
-    regs = zeros-words 256;
-    frames = frames-words;
-    shadows = zeros-words 2048;
-    tickets = zeros-words 256;
-    waiting = zeros-words 8;
-    memory = t;
-  }
+  booted-typed t =
+      let y = none-typed (b .memory) t in
+      let l = length-listFrom (λ i. ltb i (length ps)) 0 8 in
+      let x = turn-typed noHouse (b .memory) y _ (turn 0 q) l (omega arith) (omega (arith, d .turns .1)) in
+      layout-typed _ (b .memory)
+      (guests-typed _ (b .memory) x _
+      (guests-shaped _ (x .shaped) _ (length-listFrom _ 0 8) (length-replicate {A = ℕ} 256 0) (length-replicate {A = ℕ} 2048 0))
+      parts-typed (zeros-words 256) (zeros-words 2048))
+      _ (omega (arith, d .count .1)) (omega (arith, d .turns .1)) (omega (arith, d .size .1)) (length-listFrom (laid ps fr) 0 2048) frames-words
 
   pub booted-ready : ((k : ℕ) → getD (b .memory) k 0 < 2 ^ 32) → Ready (booted b)
   unfolding bootedHouse

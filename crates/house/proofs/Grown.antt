@@ -13,12 +13,13 @@ use Rattle.translate.specs.Memory.{given, freshShadow}
 use Rattle.translate.proofs.Entries.{fresh-invalid}
 use Rattle.dlx.proofs.Tests.{by-eq, getD-replicate-same}
 use Rattle.house.specs.Lists.{any}
-use Rattle.house.specs.House.{partition, framesOf, shadowOf}
+use Rattle.house.specs.House.{partition, framesOf, shadowOf, turn, withTurn}
 use Rattle.house.specs.Boot.{firstOf, bootedHouse}
-use Rattle.house.specs.Turns.{World, world, turn, hostSteps}
-use Rattle.house.specs.Calls.{runVerdict, runCall, withTurn, started, stopped, emptiedHouse}
+use Rattle.house.specs.Turns.{World, world, hostSteps}
+use Rattle.house.specs.Calls.{runVerdict, runCall, started, stopped, emptiedHouse}
 use Rattle.house.specs.Histories.{Boot, booted, Call, run, after, history, Grown}
 use Rattle.house.specs.declared.Turn.{Turn}
+use Rattle.house.proofs.Updates.{turn-shaped}
 use Rattle.house.proofs.FreshHouse.{booted-shaped, booted-shadow, booted-undamaged}
 use Rattle.house.proofs.Emptied.{emptied-shaped, emptied-own, emptied-other}
 use Rattle.house.proofs.SameLayout.{same-layout, layout-on, changed-layout}
@@ -50,7 +51,7 @@ module _ (b : Boot) (w : World) (st : Standing b w) where
   -- who runs, and whose turn it is
   standing-turn : (running : List Bool) (t : Turn) → length running ≡ 8 → t .current < w .house .count → Standing b (world (withTurn (w .house) running t) (w .memory))
   standing-turn running t l c = record {
-    shaped = record { running = l; parts = st .shaped .parts; regs = st .shaped .regs; frames = st .shaped .frames; shadows = st .shaped .shadows; tickets = st .shaped .tickets; waiting = st .shaped .waiting };
+    shaped = turn-shaped (w .house) (st .shaped) running t l;
     layout = layout-on (booted b .house) (w .house) _ (st .layout) (changed-layout (w .house) running t _);
     here = c;
     size = st .size;

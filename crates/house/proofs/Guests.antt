@@ -11,8 +11,7 @@ use Rattle.translate.proofs.Entries.{placed-listed}
 use Rattle.translate.proofs.Kept.{KeptHost}
 use Rattle.translate.proofs.Each.{Each, each-keeps}
 use Rattle.dlx.proofs.Tests.{by-test}
-use Rattle.house.specs.House.{pagesOf, framesOf, shadowOf}
-use Rattle.house.specs.Tickets.{queuesOf}
+use Rattle.house.specs.House.{pagesOf, framesOf, shadowOf, queuesOf}
 use Rattle.house.specs.Turns.{World, guest, guestMemory, requestNow, replyNow, queuesNext, guestStep}
 use Rattle.house.specs.Sound.{Sound, Proper, Ready}
 use Rattle.tickets.specs.Queues.{ProperQueue}

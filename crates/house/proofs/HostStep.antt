@@ -11,12 +11,12 @@ use Rattle.translate.specs.Memory.{Host}
 use Rattle.translate.proofs.Kept.{KeptHost}
 use Rattle.translate.proofs.Each.{Each}
 use Rattle.dlx.proofs.Tests.{by-eq}
-use Rattle.house.specs.House.{noPartition, partition, pagesOf, registersOf, framesOf, shadowOf}
+use Rattle.house.specs.House.{noPartition, partition, pagesOf, registersOf, framesOf, shadowOf, queuesOf}
 use Rattle.house.specs.Turns.{World, world, turnAfter, guestStep, queuedOn, counted, settledHouse, stepWith, hostStep, hostSteps}
-use Rattle.house.specs.Tickets.{queuesOf}
 use Rattle.house.specs.Sound.{Proper, Undamaged, TypedPartition, Typed, Ready, Stays}
 use Rattle.house.specs.declared.Turn.{Turn}
 use Rattle.dlx.proofs.Parts.{outer-each}
+use Rattle.house.proofs.Updates.{turn-typed, guests-typed, queues-typed, memory-typed}
 use Rattle.house.proofs.Turns.{queued-of, queued-next, queued-shaped, steps-keep, in-turn, in-turn-on, InTurn, settled-pages, settled-shaped, settled-partition, settled-registers, settled-shadow, other-partition, other-registers, other-shadow}
 use Rattle.house.proofs.Damage.{undamaged-from}
 use Rattle.house.proofs.Guests.{ready-sound, here, step-all, next-words, next-proper}
@@ -112,21 +112,13 @@ module _ (w : World) (r : Ready w) (o : Outcome × Host) (t : Turn) where
         let s = r .typed .shaped in
         let a = core .registers .count in
         let b = memory .shadowed .count in
-        record {
-          shaped = settled-shaped w i s small o a b t;
-          count = r .typed .count;
-          q = r .typed .q;
-          words = r .typed .words;
-          current = omega (arith, x .here, r .typed .count);
-          left = omega (arith, x .most, r .typed .q);
-          parts = λ j. getD-set-elim TypedPartition (w .house .parts) i j _ noPartition (λ _. counted-typed) (r .typed .parts j);
-          regs = outer-each (w .house .regs) (i * 32) 32 (omega (arith, s .regs, small)) (o .0 .core .registers) a (λ v. v < 2 ^ 32) (r .typed .regs) (core .registers .words);
-          frames = r .typed .frames;
-          shadows = outer-each (w .house .shadows) (i * 256) 256 (omega (arith, s .shadows, small)) (o .1 .shadow) b (λ v. v < 2 ^ 32) (r .typed .shadows) (memory .shadow);
-          tickets = r .typed .tickets;
-          waiting = r .typed .waiting;
-          memory = memory .words;
-        }
+        let y = turn-typed (w .house) (w .memory) (r .typed) (w .house .running) t (s .running) (omega (arith, x .here, r .typed .count)) (omega (arith, x .most, r .typed .q)) in
+        memory-typed _ (w .memory)
+        (guests-typed _ (w .memory) y _ (settled-shaped w i s small o a b t)
+        (λ j. getD-set-elim TypedPartition (w .house .parts) i j _ noPartition (λ _. counted-typed) (r .typed .parts j))
+        (outer-each (w .house .regs) (i * 32) 32 (omega (arith, s .regs, small)) (o .0 .core .registers) a (λ v. v < 2 ^ 32) (r .typed .regs) (core .registers .words))
+        (outer-each (w .house .shadows) (i * 256) 256 (omega (arith, s .shadows, small)) (o .1 .shadow) b (λ v. v < 2 ^ 32) (r .typed .shadows) (memory .shadow)))
+        (o .1 .words) (memory .words)
 
     settled-ready : Ready (world (settledHouse (w .house) i o t) (o .1 .words))
     unfolding settledHouse
@@ -145,21 +137,7 @@ queued-ready w r =
     let u = r .whole in
     let q = queued-next w (queued-of (w .house) (y .shaped) (ready-sound w r .most)) (u .few) (omega (arith, here w r, u .few)) in
     record {
-      typed = record {
-        shaped = queued-shaped (w .house) (y .shaped) _ q;
-        count = y .count;
-        q = y .q;
-        words = y .words;
-        current = y .current;
-        left = y .left;
-        parts = y .parts;
-        regs = y .regs;
-        frames = y .frames;
-        shadows = y .shadows;
-        tickets = next-words w r;
-        waiting = λ k. omega (arith, q .most k);
-        memory = y .memory;
-      };
+      typed = queues-typed (w .house) (w .memory) y _ (queued-shaped (w .house) (y .shaped) _ q) (next-words w r) (λ k. omega (arith, q .most k));
       whole = record {
         some = u .some;
         few = u .few;

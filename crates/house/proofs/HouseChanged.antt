@@ -13,6 +13,7 @@ use Rattle.house.specs.Turns.{world}
 use Rattle.house.specs.Sound.{Proper, Undamaged, Typed, Stays}
 use Rattle.house.specs.declared.House.{House}
 use Rattle.house.specs.declared.Turn.{Turn}
+use Rattle.house.proofs.Updates.{guests-shaped, turn-typed, guests-typed}
 use Rattle.house.proofs.SameLayout.{changed, changed-layout}
 use Rattle.house.proofs.Damage.{undamaged-from}
 
@@ -72,21 +73,9 @@ module _ (h : House) (m : List ℕ) (u : Undamaged h) (y : Typed (world h m)) wh
 
     pub changed-stays : Stays (world h m) (world (changed h running t shadows) m)
     changed-stays = record {
-      typed = record {
-        shaped = record { running = f .long; parts = y .shaped .parts; regs = y .shaped .regs; frames = y .shaped .frames; shadows = s .long; tickets = y .shaped .tickets; waiting = y .shaped .waiting };
-        count = y .count;
-        q = y .q;
-        words = y .words;
-        current = turn-word .0;
-        left = turn-word .1;
-        parts = y .parts;
-        regs = y .regs;
-        frames = y .frames;
-        shadows = s .words;
-        tickets = y .tickets;
-        waiting = y .waiting;
-        memory = y .memory;
-      };
+      typed =
+          let x = turn-typed h m y running t (f .long) (turn-word .0) (turn-word .1) in
+          guests-typed _ m x _ (guests-shaped _ (x .shaped) _ (y .shaped .parts) (y .shaped .regs) (s .long)) (y .parts) (y .regs) (s .words);
       whole = undamaged-from _ changed-undamaged;
       layout = changed-layout h running t shadows;
       size = refl;

@@ -11,10 +11,9 @@ use Rattle.translate.specs.Memory.{Host}
 use Rattle.translate.specs.Premises.{Own}
 use Rattle.translate.proofs.Shadow.{Untouched}
 use Rattle.translate.proofs.Isolation.{Alike, isolation}
-use Rattle.house.specs.House.{pagesOf, framesOf}
+use Rattle.house.specs.House.{pagesOf, framesOf, queuesOf, withQueues}
 use Rattle.house.specs.Turns.{world, guest, guestMemory, requestNow, replyNow, queuesNext, queuedOn, guestStep, turnAfter, settledHouse, stepWith, hostStep}
 use Rattle.tickets.specs.Queues.{Queues, desk}
-use Rattle.house.specs.Tickets.{queuesOf, withQueues}
 use Rattle.house.specs.Sound.{Sound}
 use Rattle.house.specs.Demands.{AgreeOn, OwnAndOneTicket, OwnFramesAlone}
 use Rattle.house.specs.declared.House.{House}

@@ -30,4 +30,5 @@ pub mod Stretch
 pub mod TicketInstance
 pub mod Turns
 pub mod Undamaged
+pub mod Updates
 pub mod Verdicts

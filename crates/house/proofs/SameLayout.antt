@@ -5,7 +5,7 @@ use mathlib.Core.List.{List}
 use Prim.Native.Nat.{ℕ}
 use Rattle.house.specs.Turns.{World, turnAfter, guestStep, settledHouse, stepWith, queuedOn, hostStep, hostSteps, houseAt}
 use Rattle.house.specs.Sound.{LaidOut}
-use Rattle.house.specs.Calls.{withTurn}
+use Rattle.house.specs.House.{withTurn}
 use Rattle.house.specs.declared.House.{House}
 use Rattle.house.specs.declared.Turn.{Turn}
 use Rattle.house.proofs.Turns.{settled-pages, steps-keep}

@@ -21,13 +21,12 @@ use Rattle.translate.proofs.Entries.{walked-same}
 use Rattle.translate.proofs.Simulation.{Right, simulation}
 use Rattle.dlx.proofs.Tests.{by-eq}
 use Rattle.house.specs.Lists.{listFrom}
-use Rattle.house.specs.House.{partition, pagesOf, registersOf, framesOf, shadowOf}
+use Rattle.house.specs.House.{partition, pagesOf, registersOf, framesOf, shadowOf, queuesOf}
 use Rattle.house.specs.Turns.{World, turnAfter, guest, requestNow, replyNow, queuesNext, guestStep, queuedOn, counted, settledHouse, stepWith, hostStep}
 use Rattle.house.specs.Sound.{Shaped, LaidOut}
 use Rattle.house.specs.Boot.{bootedHouse}
 use Rattle.house.specs.Histories.{Boot, booted, loneOf, queueIn, loneAsks, loneAnswer}
 use Rattle.tickets.specs.Queues.{waitingOf, ruled, sentTo, takenBy, lined}
-use Rattle.house.specs.Tickets.{queuesOf}
 use Rattle.house.specs.Demands.{StepOf}
 use Rattle.house.specs.declared.Turn.{Turn}
 use Rattle.dlx.proofs.Parts.{inner-length}

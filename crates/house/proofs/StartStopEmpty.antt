@@ -14,9 +14,9 @@ use Rattle.translate.specs.Memory.{freshShadow}
 use Rattle.dlx.proofs.Tests.{by-test, by-eq, getD-replicate-same}
 use Rattle.translate.proofs.Kept.{zeros-words}
 use Rattle.house.specs.Lists.{any}
-use Rattle.house.specs.House.{runs, pagesOf, framesOf}
+use Rattle.house.specs.House.{runs, pagesOf, framesOf, turn}
 use Rattle.house.specs.Calls.{started, stopped, emptiedHouse}
-use Rattle.house.specs.Turns.{World, world, turn}
+use Rattle.house.specs.Turns.{World, world}
 use Rattle.house.specs.Sound.{Undamaged, Typed, Stays}
 use Rattle.house.specs.declared.House.{House}
 use Rattle.house.proofs.Conditions.{empty-proper}

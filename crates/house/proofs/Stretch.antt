@@ -1,21 +1,23 @@
 -- A stretch of the current partition, of at most the steps left, is so many host steps.
 use mathlib.Core.Path.{_≡_, refl, sym, ap, subst, _∙_}
+use mathlib.Core.List.{List}
 use mathlib.Core.Bool.{Bool, true, false}
 use Prim.Native.Nat.{ℕ, zero, suc, _+_, _-_, _*_, _%_, _^_, _<_, _≤_}
 use native.Mathlib.Nat.{add-zero, add-suc}
 use native.Mathlib.Omega.{arith}
 use borrow.Author.Tests.{eq-eqb, ne-eqb}
 use lib.Dec.{eqb}
-use lib.ListN.{length}
-use lib.Seq.{set-set, getD-set-same}
+use lib.ListN.{length, set}
+use lib.Seq.{set-set}
+use Rattle.dlx.specs.declared.partition.Partition.{Partition}
 use Rattle.dlx.specs.Machine.{Ops, Core, core, Outcome, Desk, stepAt, Stretch, stretchFrom}
+use Rattle.dlx.specs.Processor.{withProcessor, withTable, withCounter}
 use Rattle.dlx.proofs.Kept.{either}
 use Rattle.translate.specs.Memory.{Host, hostMemory}
 use Rattle.dlx.proofs.Tests.{by-eq}
-use Rattle.house.specs.House.{noPartition, partition, pagesOf, framesOf}
-use Rattle.house.specs.Turns.{World, world, turn, turnAfter, guest, guestMemory, requestNow, replyNow, queuesNext, guestStep, queuedOn, counted, settledHouse, stepWith, hostStep, hostSteps, stretchedHouse, turnOf}
+use Rattle.house.specs.House.{noPartition, guests, turn, withTurn, withGuests, withQueues, partition, pagesOf, framesOf, queuesOf}
+use Rattle.house.specs.Turns.{World, world, turnAfter, guest, guestMemory, requestNow, replyNow, queuesNext, guestStep, queuedOn, counted, countedOn, settledHouse, stepWith, hostStep, hostSteps, stretchedHouse, turnOf}
 use Rattle.tickets.specs.Queues.{Queues, desk}
-use Rattle.house.specs.Tickets.{queuesOf}
 use Rattle.house.specs.Sound.{Shaped, Sound}
 use Rattle.house.specs.declared.House.{House}
 use Rattle.house.specs.declared.Turn.{Turn}
@@ -47,18 +49,24 @@ steps-from (suc n) w = ap hostStep (steps-from n w)
 carried : (c j : ℕ) → ((c + 1) % 2 ^ 64 + j) % 2 ^ 64 ≡ (c + suc j) % 2 ^ 64
 carried c j = omega arith
 
+counted-on : (p : Partition) (o : Outcome × Host) (r : Stretch Host Queues) → countedOn (counted p o) r ≡ countedOn p (bumped r)
+unfolding bumped
+counted-on p o r = ap (withCounter (withTable (withProcessor p (r .core .processor)) (r .memory .table))) (carried (p .counter) (r .made))
+
+-- a house with guests, the turn and the queues, by the guests' lists
+same-guests : (h : House) (t : Turn) (k : Queues) {p p′ : List Partition} {r r′ z z′ : List ℕ} → p ≡ p′ → r ≡ r′ → z ≡ z′
+    → withQueues (withGuests (withTurn h (h .running) t) (guests p r z)) k ≡ withQueues (withGuests (withTurn h (h .running) t) (guests p′ r′ z′)) k
+same-guests h t k e f g = rw (e, f, g)
+
 module _ (w : World) (i : ℕ) (s : Shaped (w .house)) (few : i < 8) (o : Outcome × Host) (regs : length (o .0 .core .registers) ≡ 32) (shadow : length (o .1 .shadow) ≡ 256) (t₀ : Turn) where
   -- the stretched house of the stepped one
   joined : (r : Stretch Host Queues) (t : Turn) → stretchedHouse (settledHouse (w .house) i o t₀) i r t ≡ stretchedHouse (w .house) i (bumped r) t
   unfolding stretchedHouse settledHouse bumped
   joined r t =
-      simp (
-        getD-set-same (w .house .parts) i (counted (partition (w .house) i) o) noPartition (omega (arith, s .parts)),
-        set-set,
-        outer-outer (w .house .regs) (i * 32) 32 (omega (arith, s .regs)) (o .0 .core .registers) (r .core .registers) regs,
-        outer-outer (w .house .shadows) (i * 256) 256 (omega (arith, s .shadows)) (o .1 .shadow) (r .memory .shadow) shadow,
-        carried,
-      )
+      same-guests (w .house) t (r .desk)
+      (set-set (w .house .parts) i _ _ ∙ ap (set (w .house .parts) i) (ap (λ (p : Partition). countedOn p r) (settled-partition w i s few o regs shadow t₀) ∙ counted-on (partition (w .house) i) o r))
+      (outer-outer (w .house .regs) (i * 32) 32 (omega (arith, s .regs)) (o .0 .core .registers) (r .core .registers) regs)
+      (outer-outer (w .house .shadows) (i * 256) 256 (omega (arith, s .shadows)) (o .1 .shadow) (r .memory .shadow) shadow)
 
   -- and its guest
   hopped : guest (world (settledHouse (w .house) i o t₀) (o .1 .words)) i ≡ (o .0 .core, o .1)

@@ -18,7 +18,7 @@ use Rattle.translate.specs.Memory.{loneFound, loneRead, hosted, given, filled, 
 use Rattle.dlx.specs.Parts.{inner, outer}
 use Rattle.house.specs.Lists.{listFrom, any, firstFrom}
 use Rattle.tickets.specs.Queues.{waitingOf, sending, taking, desk, queueOf, oldest, ruled, sentTo, takenBy}
-use Rattle.house.specs.Tickets.{queuesOf}
+use Rattle.house.specs.House.{queuesOf}
 use Rattle.house.specs.Boot.{sum, firstOf, bootVerdict, laid, offset, bootedHouse}
 use Rattle.house.specs.Turns.{World, nextFrom, turnOf, requestNow, replyNow, queuesNext, guestStep, settledHouse, stepWith, hostStep, hostSteps}
 use Rattle.house.specs.Calls.{runVerdict, runCall}

@@ -17,13 +17,13 @@ use Rattle.translate.specs.Memory.{Host}
 use Rattle.translate.proofs.Steps.{Whole, step-whole}
 use Rattle.dlx.proofs.Tests.{by-test, by-eq}
 use Rattle.dlx.specs.Parts.{inner, outer}
-use Rattle.house.specs.House.{noPartition, partition, pagesOf, registersOf, framesOf, shadowOf}
-use Rattle.house.specs.Turns.{World, world, following, nextFrom, nextOf, turn, turnAfter, guestMemory, requestNow, queuesNext, guestStep, queuedOn, counted, settledHouse, stepWith, hostStep, hostSteps, turnOf}
+use Rattle.house.specs.House.{noPartition, turn, withTurn, withQueues, partition, pagesOf, registersOf, framesOf, shadowOf, queuesOf}
+use Rattle.house.specs.Turns.{World, world, following, nextFrom, nextOf, turnAfter, guestMemory, requestNow, queuesNext, guestStep, queuedOn, counted, settledHouse, stepWith, hostStep, hostSteps, turnOf}
 use Rattle.house.specs.Sound.{Shaped, SoundPartition, Sound, Undamaged}
 use Rattle.tickets.specs.Queues.{Queues, waitingOf}
-use Rattle.house.specs.Tickets.{queuesOf, withQueues}
 use Rattle.house.specs.declared.House.{House}
 use Rattle.house.specs.declared.Turn.{Turn}
+use Rattle.house.proofs.Updates.{turn-shaped, guests-shaped, queues-shaped}
 use Rattle.house.proofs.Lists.{or-left, one-way}
 use Rattle.tickets.specs.Queues.{Queued}
 use Rattle.tickets.proofs.Queues.{desk-queued}
@@ -149,15 +149,11 @@ settled-pages h i o t j = getD-set-elim (λ (p : Partition). p .pages ≡ pagesO
 module _ (w : World) (i : ℕ) (s : Shaped (w .house)) (few : i < 8) (o : Outcome × Host) (regs : length (o .0 .core .registers) ≡ 32) (shadow : length (o .1 .shadow) ≡ 256) (t : Turn) where
   pub settled-shaped : Shaped (settledHouse (w .house) i o t)
   unfolding settledHouse
-  settled-shaped = record {
-    running = s .running;
-    parts = length-set (w .house .parts) i _ ∙ s .parts;
-    regs = outer-length (w .house .regs) (i * 32) 32 (omega (arith, s .regs)) _ regs ∙ s .regs;
-    frames = s .frames;
-    shadows = outer-length (w .house .shadows) (i * 256) 256 (omega (arith, s .shadows)) _ shadow ∙ s .shadows;
-    tickets = s .tickets;
-    waiting = s .waiting;
-  }
+  settled-shaped =
+      guests-shaped (withTurn (w .house) (w .house .running) t) (turn-shaped (w .house) s (w .house .running) t (s .running)) _
+      (length-set (w .house .parts) i _ ∙ s .parts)
+      (outer-length (w .house .regs) (i * 32) 32 (omega (arith, s .regs)) _ regs ∙ s .regs)
+      (outer-length (w .house .shadows) (i * 256) 256 (omega (arith, s .shadows)) _ shadow ∙ s .shadows)
 
   pub settled-partition : partition (settledHouse (w .house) i o t) i ≡ counted (partition (w .house) i) o
   unfolding settledHouse
@@ -194,15 +190,7 @@ unfolding queuesNext
 queued-next w q few small = desk-queued (w .house .count) (w .house .current) (queuesOf (w .house)) q few small (requestNow w (w .house .current))
 
 pub queued-shaped : (h : House) → Shaped h → (t : Queues) → Queued t → Shaped (withQueues h t)
-queued-shaped h s t q = record {
-  running = s .running;
-  parts = s .parts;
-  regs = s .regs;
-  frames = s .frames;
-  shadows = s .shadows;
-  tickets = q .tickets;
-  waiting = q .waiting;
-}
+queued-shaped h s t q = queues-shaped h s t (q .tickets) (q .waiting)
 
 -- ---- soundness
 

@@ -12,13 +12,12 @@ use Rattle.translate.specs.Walk.{entries}
 use Rattle.translate.proofs.Entries.{empty-invalid}
 use Rattle.dlx.proofs.Tests.{by-test, and-left}
 use Rattle.house.specs.Lists.{any, between}
-use Rattle.house.specs.House.{partition, pagesOf, runs, registersOf, framesOf, shadowOf}
+use Rattle.house.specs.House.{partition, pagesOf, runs, registersOf, framesOf, shadowOf, queuesOf}
 use Rattle.house.specs.Damage.{wholeFrames, outsideLimits, stands, frameTwice, turnWrong, registersWrong, shadowWrong, notZero, partitionUsed, unusedWrong, queueWrong, queuesWrong, damaged}
 use Rattle.house.specs.Turns.{world}
 use Rattle.house.specs.Sound.{Shaped, SoundPartition, Sound, Proper, Unused, Undamaged}
 use Rattle.tickets.specs.Queues.{ProperQueue}
 use Rattle.tickets.specs.Queues.{placesOf, waitingOf}
-use Rattle.house.specs.Tickets.{queuesOf}
 use Rattle.house.specs.declared.House.{House}
 use Rattle.house.proofs.Lists.{or-left, or-right, and-right, by-order, any-none}
 use Rattle.dlx.proofs.Parts.{inner-length}

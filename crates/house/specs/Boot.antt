@@ -7,7 +7,7 @@ use lib.ListN.{length, getD, replicate}
 use Rattle.dlx.specs.Choice.{if_then_else_}
 use Rattle.dlx.specs.Processor.{freshOf}
 use Rattle.house.specs.Lists.{listFrom, any, firstFrom, between}
-use Rattle.house.specs.House.{noPartition, noHouse}
+use Rattle.house.specs.House.{noPartition, noHouse, layout, guests, turn, withLayout, withTurn, withGuests}
 use Rattle.house.specs.Damage.{wholeFrames}
 use Rattle.house.specs.declared.House.{House}
 
@@ -74,17 +74,12 @@ laid ps fr j =
 
 -- all registers zero but PC = 4, every shadow empty, all running, partition 0 current with q steps left; unused places 0
 unfoldable pub bootedHouse : List ℕ → ℕ → List ℕ → ℕ → House
-bootedHouse ps q fr words = record {
-  count = length ps;
-  q = q;
-  words = words;
-  current = 0;
-  left = q;
-  running = listFrom (λ i. ltb i (length ps)) 0 8;
-  parts = listFrom (λ i. if ltb i (length ps) then freshOf (getD ps i 0) else noPartition) 0 8;
-  regs = replicate 256 0;
-  frames = listFrom (laid ps fr) 0 2048;
-  shadows = replicate 2048 0;
-  tickets = replicate 256 0;
-  waiting = replicate 8 0;
-}
+bootedHouse ps q fr words =
+    withLayout
+    (withGuests
+    (withTurn noHouse (listFrom (λ i. ltb i (length ps)) 0 8) (turn 0 q))
+    (guests
+    (listFrom (λ i. if ltb i (length ps) then freshOf (getD ps i 0) else noPartition) 0 8)
+    (replicate 256 0)
+    (replicate 2048 0)))
+    (layout (length ps) q words (listFrom (laid ps fr) 0 2048))

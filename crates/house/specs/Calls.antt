@@ -9,10 +9,10 @@ use Rattle.translate.specs.Walk.{entries}
 use Rattle.translate.specs.Memory.{hostWord}
 use Rattle.dlx.specs.Parts.{outer}
 use Rattle.house.specs.Lists.{listFrom, any}
-use Rattle.house.specs.House.{noHouse, pagesOf, runs, framesOf}
+use Rattle.house.specs.House.{noHouse, turn, withTurn, withShadows, pagesOf, runs, framesOf}
 use Rattle.house.specs.Damage.{damaged}
 use Rattle.house.specs.Boot.{Verdict, verdict, case, firstOf, bootVerdict, bootedHouse}
-use Rattle.house.specs.Turns.{World, world, nextOf, turn, hostSteps}
+use Rattle.house.specs.Turns.{World, world, nextOf, hostSteps}
 use Rattle.house.specs.declared.House.{House}
 use Rattle.house.specs.declared.Turn.{Turn}
 
@@ -59,22 +59,6 @@ oneVerdict h i =
     ∷ [])
     (verdict 0 0)
 
-abbrev pub withTurn : House → List Bool → Turn → House
-withTurn h running t = record {
-  count = h .count;
-  q = h .q;
-  words = h .words;
-  current = t .current;
-  left = t .left;
-  running = running;
-  parts = h .parts;
-  regs = h .regs;
-  frames = h .frames;
-  shadows = h .shadows;
-  tickets = h .tickets;
-  waiting = h .waiting;
-}
-
 -- starting when none is current makes that one current with q left
 unfoldable pub started : House → ℕ → House
 started h i =
@@ -91,20 +75,7 @@ stopped h i =
     else turn (h .current) (h .left))
 
 unfoldable pub emptiedHouse : House → ℕ → House
-emptiedHouse h i = record {
-  count = h .count;
-  q = h .q;
-  words = h .words;
-  current = h .current;
-  left = h .left;
-  running = h .running;
-  parts = h .parts;
-  regs = h .regs;
-  frames = h .frames;
-  shadows = outer (i * 256) 256 (h .shadows) (replicate entries 0);
-  tickets = h .tickets;
-  waiting = h .waiting;
-}
+emptiedHouse h i = withShadows h (outer (i * 256) 256 (h .shadows) (replicate entries 0))
 
 unfoldable pub startCall : World → ℕ → Answered
 startCall w i = unlessRefused (oneVerdict (w .house) i) w (world (started (w .house) i) (w .memory))

@@ -9,9 +9,8 @@ use Rattle.dlx.specs.declared.partition.Partition.{Partition}
 use Rattle.translate.specs.Entries.{number, valid}
 use Rattle.translate.specs.Walk.{entries}
 use Rattle.house.specs.Lists.{all, any, between}
-use Rattle.house.specs.House.{partition, pagesOf, runs, registersOf, framesOf, shadowOf}
+use Rattle.house.specs.House.{partition, pagesOf, runs, registersOf, framesOf, shadowOf, queuesOf}
 use Rattle.tickets.specs.Queues.{placesOf, waitingOf}
-use Rattle.house.specs.Tickets.{queuesOf}
 use Rattle.house.specs.declared.House.{House}
 
 -- boot's limits

@@ -11,14 +11,13 @@ use Rattle.translate.specs.Entries.{number, valid, protection, refused, Found, 
 use Rattle.translate.specs.Memory.{wordIn, loneFound, loneMemory, served}
 use Rattle.translate.specs.Premises.{Own}
 use Rattle.house.specs.Lists.{listFrom}
-use Rattle.house.specs.House.{noHouse, partition, pagesOf, registersOf, framesOf, shadowOf}
+use Rattle.house.specs.House.{noHouse, partition, pagesOf, registersOf, framesOf, shadowOf, queuesOf, turn}
 use Rattle.house.specs.Damage.{damaged}
-use Rattle.house.specs.Turns.{World, world, turn, turnOf, guest, hostStep, hostSteps}
+use Rattle.house.specs.Turns.{World, world, turnOf, guest, hostStep, hostSteps}
 use Rattle.house.specs.Sound.{Shaped, LaidOut}
 use Rattle.house.specs.Calls.{Answered, bootCall, runCall, startCall, stopCall, emptyCall, readCall}
 use Rattle.house.specs.Histories.{Boot, booted, Call, history, Grown, turnsMade, stepsMade, StaysRunning, loneOf, loneAtBoot, queueIn, loneAsks, loneAnswer, logOf, ticketsTo, ticketsOff, feedOf}
 use Rattle.tickets.specs.Queues.{waitingOf, queueOf, lined, Moved}
-use Rattle.house.specs.Tickets.{queuesOf}
 use Rattle.house.specs.declared.House.{House}
 
 -- ---- demand 1

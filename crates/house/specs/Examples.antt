@@ -6,17 +6,16 @@ use Prim.Native.Nat.{ℕ, _+_, _-_, _*_, _^_}
 use lib.Dec.{eqb}
 use lib.ListN.{length, getD, set, take, drop, replicate}
 use mir.Val.{boolByte}
-use Rattle.dlx.specs.Processor.{freshOf}
+use Rattle.dlx.specs.Processor.{freshOf, withProcessor, withTable, withCounter}
 use Rattle.dlx.specs.Examples.{same}
 use Rattle.dlx.specs.Interrupts.{levelOf}
 use Rattle.dlx.specs.declared.partition.Partition.{Partition}
 use Rattle.dlx.specs.declared.partition.Processor.{Processor}
 use Rattle.translate.specs.Entries.{entryOf, faultWord, compositionOf}
 use Rattle.house.specs.Lists.{listFrom}
-use Rattle.house.specs.House.{noHouse, partition, registersOf}
+use Rattle.house.specs.House.{noHouse, layout, guests, turn, withLayout, withTurn, withGuests, withQueues, withFrames, withParts, withRegisters, withShadows, partition, registersOf, queuesOf}
 use Rattle.house.specs.Damage.{outsideLimits, frameTwice, turnWrong, registersWrong, shadowWrong, partitionUsed, unusedWrong, queuesWrong, damaged}
 use Rattle.tickets.specs.Queues.{Queues, queues}
-use Rattle.house.specs.Tickets.{queuesOf, withQueues}
 use Rattle.house.specs.Boot.{Verdict, bootVerdict, bootedHouse}
 use Rattle.house.specs.Turns.{World, world, hostStep, hostSteps, houseAt}
 use Rattle.house.specs.Calls.{Answered, bootCall, runVerdict, runCall, oneVerdict, started, stopped, emptiedHouse, startCall, stopCall, emptyCall, readVerdict, readOut, Read, readCall}
@@ -68,48 +67,16 @@ told n = listFrom word 0 n
 
 -- with flags, the current partition and its steps left
 abbrev turning : House → List Bool → ℕ → ℕ → House
-turning h running c l = record {
-  count = h .count;
-  q = h .q;
-  words = h .words;
-  current = c;
-  left = l;
-  running = running;
-  parts = h .parts;
-  regs = h .regs;
-  frames = h .frames;
-  shadows = h .shadows;
-  tickets = h .tickets;
-  waiting = h .waiting;
-}
+turning h running c l = withTurn h running (turn c l)
 
 abbrev withSizes : House → ℕ → ℕ → ℕ → List ℕ → House
-withSizes h count q words frames = record {
-  count = count;
-  q = q;
-  words = words;
-  current = h .current;
-  left = h .left;
-  running = h .running;
-  parts = h .parts;
-  regs = h .regs;
-  frames = frames;
-  shadows = h .shadows;
-  tickets = h .tickets;
-  waiting = h .waiting;
-}
+withSizes h count q words frames = withLayout h (layout count q words frames)
 
 abbrev withFrame : House → ℕ → ℕ → House
-withFrame h j f = withSizes h (h .count) (h .q) (h .words) (set (h .frames) j f)
+withFrame h j f = withFrames h (set (h .frames) j f)
 
 abbrev withPart : House → ℕ → Partition → House
-withPart h i p = houseAt h (h .current) (h .left) (set (h .parts) i p) (h .regs) (h .shadows)
-
-abbrev withRegisters : House → List ℕ → House
-withRegisters h regs = houseAt h (h .current) (h .left) (h .parts) regs (h .shadows)
-
-abbrev withShadows : House → List ℕ → House
-withShadows h shadows = houseAt h (h .current) (h .left) (h .parts) (h .regs) shadows
+withPart h i p = withParts h (set (h .parts) i p)
 
 -- at DPC and PC, with SR, MODE and EMODE; what an interrupt saves or keeps is told apart by 91 to 100
 abbrev at : ℕ → ℕ → ℕ → ℕ → ℕ → Processor
@@ -119,50 +86,36 @@ at dpc pc sr mode emode =
 -- with so many pages, PTO and PTL, and so many steps made
 abbrev part : ℕ → Processor → ℕ → ℕ → ℕ → Partition
 part pages p pto ptl counter =
-    record { pages = pages; processor = p; table = record { pto = pto; ptl = ptl }; counter = counter }
+    withCounter (withTable (withProcessor (freshOf pages) p) (record { pto = pto; ptl = ptl })) counter
 
 -- Four partitions of two pages, turns of 9 steps, of which c is current with l left. Every place holds another number; partition 1 has the frames 1 and
 -- 0, and no shadow entry is valid. What the examples do not reach of its lists is left out.
 abbrev numbered : ℕ → Partition
 numbered i =
-    record {
-      pages = 2;
-      processor =
-          record {
-            dpc = 100 + i;
-            pc = 110 + i;
-            sr = 120 + i;
-            esr = 130 + i;
-            eca = 140 + i;
-            epc = 150 + i;
-            edpc = 160 + i;
-            edata = 170 + i;
-            mode = 180 + i;
-            emode = 190 + i;
-          };
-      table = record { pto = 200 + i; ptl = 210 + i };
-      counter = 220 + i;
-    }
+    part 2
+    (record {
+      dpc = 100 + i;
+      pc = 110 + i;
+      sr = 120 + i;
+      esr = 130 + i;
+      eca = 140 + i;
+      epc = 150 + i;
+      edpc = 160 + i;
+      edata = 170 + i;
+      mode = 180 + i;
+      emode = 190 + i;
+    })
+    (200 + i) (210 + i) (220 + i)
 
 abbrev alternate : List Bool
 alternate = true ∷ true ∷ false ∷ true ∷ replicate 4 false
 
 unfoldable pub busy : List Bool → ℕ → ℕ → House
 busy running c l =
-    record {
-      count = 4;
-      q = 9;
-      words = 2048;
-      current = c;
-      left = l;
-      running = running;
-      parts = listFrom numbered 0 8;
-      regs = set (listFrom (λ j. 1000 + j) 0 128) 32 0;
-      frames = set (set (listFrom (λ j. 10000 + j) 0 300) 256 1) 257 0;
-      shadows = listFrom (λ j. 0x8000 + j) 0 800;
-      tickets = listFrom (λ j. 40000 + j) 0 64;
-      waiting = listFrom (λ j. 4 + j) 0 8;
-    }
+    withQueues
+    (withGuests (turning (withSizes noHouse 4 9 2048 (set (set (listFrom (λ j. 10000 + j) 0 300) 256 1) 257 0)) running c l)
+    (guests (listFrom numbered 0 8) (set (listFrom (λ j. 1000 + j) 0 128) 32 0) (listFrom (λ j. 0x8000 + j) 0 800)))
+    (queues (listFrom (λ j. 40000 + j) 0 64) (listFrom (λ j. 4 + j) 0 8))
 
 -- ---- what is looked at
 
@@ -722,24 +675,20 @@ one k j = boolByte (eqb k j)
 
 unfoldable pub used : ℕ → Partition
 used k =
-    record {
-      pages = one k 0;
-      processor =
-          record {
-            dpc = one k 1;
-            pc = one k 2;
-            sr = one k 3;
-            esr = one k 4;
-            eca = one k 5;
-            epc = one k 6;
-            edpc = one k 7;
-            edata = one k 8;
-            mode = one k 9;
-            emode = one k 10;
-          };
-      table = record { pto = one k 11; ptl = one k 12 };
-      counter = one k 13;
-    }
+    part (one k 0)
+    (record {
+      dpc = one k 1;
+      pc = one k 2;
+      sr = one k 3;
+      esr = one k 4;
+      eca = one k 5;
+      epc = one k 6;
+      edpc = one k 7;
+      edata = one k 8;
+      mode = one k 9;
+      emode = one k 10;
+    })
+    (one k 11) (one k 12) (one k 13)
 
 -- each by its own condition; and each is damage
 unfoldable pub damages : List Bool

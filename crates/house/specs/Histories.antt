@@ -11,9 +11,8 @@ use Rattle.dlx.specs.Machine.{Core, core, Request, asked, reply}
 use Rattle.dlx.specs.declared.execute.Reply.{Reply}
 use Rattle.translate.specs.Memory.{Lone, lone, loneMemory, hostWord}
 use Rattle.house.specs.Lists.{listFrom}
-use Rattle.house.specs.House.{partition, pagesOf, runs, registersOf, framesOf}
+use Rattle.house.specs.House.{partition, pagesOf, runs, registersOf, framesOf, queuesOf}
 use Rattle.tickets.specs.Queues.{queueOf, ruled, sentTo, takenBy}
-use Rattle.house.specs.Tickets.{queuesOf}
 use Rattle.house.specs.Boot.{bootVerdict, bootedHouse, offset}
 use Rattle.house.specs.Turns.{World, world, hostSteps}
 use Rattle.house.specs.Calls.{runCall, startCall, stopCall, emptyCall, readCall}

@@ -1,6 +1,5 @@
 pub mod Lists
 pub mod House
-pub mod Tickets
 pub mod Damage
 pub mod Boot
 pub mod Turns

@@ -8,11 +8,10 @@ use Rattle.dlx.specs.declared.partition.Partition.{Partition}
 use Rattle.translate.specs.Entries.{number, valid}
 use Rattle.translate.specs.Walk.{entries}
 use Rattle.translate.specs.Premises.{Placed, Own, Shadowed}
-use Rattle.house.specs.House.{noPartition, partition, pagesOf, runs, registersOf, framesOf, shadowOf}
+use Rattle.house.specs.House.{noPartition, partition, pagesOf, runs, registersOf, framesOf, shadowOf, queuesOf}
 use Rattle.house.specs.Damage.{damaged}
 use Rattle.house.specs.Turns.{World}
 use Rattle.tickets.specs.Queues.{waitingOf, ProperQueue}
-use Rattle.house.specs.Tickets.{queuesOf}
 use Rattle.house.specs.declared.House.{House}
 
 -- the lengths of a house's arrays

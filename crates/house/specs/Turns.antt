@@ -6,13 +6,13 @@ use lib.Dec.{eqb}
 use lib.ListN.{getD, set}
 use Rattle.dlx.specs.Choice.{if_then_else_}
 use Rattle.dlx.specs.Machine.{Ops, Core, core, Outcome, Request, asked, step, Stretch}
+use Rattle.dlx.specs.Processor.{withProcessor, withTable, withCounter}
 use Rattle.dlx.specs.declared.execute.Reply.{Reply}
 use Rattle.dlx.specs.declared.partition.Partition.{Partition}
 use Rattle.translate.specs.Memory.{Host, host, hostMemory}
 use Rattle.dlx.specs.Parts.{inner, outer}
-use Rattle.house.specs.House.{partition, pagesOf, registersOf, framesOf, shadowOf}
+use Rattle.house.specs.House.{guests, turn, withTurn, withGuests, withQueues, partition, pagesOf, registersOf, framesOf, shadowOf, queuesOf}
 use Rattle.tickets.specs.Queues.{Queues, desk}
-use Rattle.house.specs.Tickets.{queuesOf, withQueues}
 use Rattle.house.specs.declared.House.{House}
 use Rattle.house.specs.declared.Turn.{Turn}
 
@@ -36,9 +36,6 @@ nextFrom r n i (suc k) = if getD r (following n i) false then following n i else
 
 abbrev pub nextOf : List Bool → ℕ → ℕ → ℕ
 nextOf r n i = nextFrom r n i n
-
-abbrev pub turn : ℕ → ℕ → Turn
-turn c l = record { current = c; left = l }
 
 -- The turn of c, who had l left, after so many steps of it: at 0 left, or after a trap taken in system mode, it passes, with q left.
 unfoldable pub turnOf : List Bool → ℕ → ℕ → ℕ → ℕ → ℕ → Bool → Turn
@@ -73,29 +70,16 @@ guestStep w i = step (guestMemory (w .house) i) (replyNow w i) (guest w i)
 
 -- the partition after its step: its counter goes up by 1, modulo 2^64
 abbrev pub counted : Partition → Outcome × Host → Partition
-counted p o = record {
-  pages = p .pages;
-  processor = o .0 .core .processor;
-  table = o .1 .table;
-  counter = (p .counter + 1) % 2 ^ 64;
-}
+counted p o = withCounter (withTable (withProcessor p (o .0 .core .processor)) (o .1 .table)) ((p .counter + 1) % 2 ^ 64)
 
 -- the house in which partition i's step came to o, and the turn to t
 unfoldable pub settledHouse : House → ℕ → Outcome × Host → Turn → House
-settledHouse h i o t = record {
-  count = h .count;
-  q = h .q;
-  words = h .words;
-  current = t .current;
-  left = t .left;
-  running = h .running;
-  parts = set (h .parts) i (counted (partition h i) o);
-  regs = outer (i * 32) 32 (h .regs) (o .0 .core .registers);
-  frames = h .frames;
-  shadows = outer (i * 256) 256 (h .shadows) (o .1 .shadow);
-  tickets = h .tickets;
-  waiting = h .waiting;
-}
+settledHouse h i o t =
+    withGuests (withTurn h (h .running) t)
+    (guests
+    (set (h .parts) i (counted (partition h i) o))
+    (outer (i * 32) 32 (h .regs) (o .0 .core .registers))
+    (outer (i * 256) 256 (h .shadows) (o .1 .shadow)))
 
 unfoldable pub stepWith : House → Outcome × Host → World
 stepWith h o = world (settledHouse h (h .current) o (turnAfter h 1 (o .0 .calls))) (o .1 .words)
@@ -115,43 +99,19 @@ hostSteps (suc n) w = hostStep (hostSteps n w)
 
 -- partition i after a stretch
 abbrev pub countedOn : Partition → Stretch Host Queues → Partition
-countedOn p r = record {
-  pages = p .pages;
-  processor = r .core .processor;
-  table = r .memory .table;
-  counter = (p .counter + r .made) % 2 ^ 64;
-}
+countedOn p r = withCounter (withTable (withProcessor p (r .core .processor)) (r .memory .table)) ((p .counter + r .made) % 2 ^ 64)
 
 -- the house in which a stretch of partition i came to r, and the turn to t
 unfoldable pub stretchedHouse : House → ℕ → Stretch Host Queues → Turn → House
-stretchedHouse h i r t = record {
-  count = h .count;
-  q = h .q;
-  words = h .words;
-  current = t .current;
-  left = t .left;
-  running = h .running;
-  parts = set (h .parts) i (countedOn (partition h i) r);
-  regs = outer (i * 32) 32 (h .regs) (r .core .registers);
-  frames = h .frames;
-  shadows = outer (i * 256) 256 (h .shadows) (r .memory .shadow);
-  tickets = r .desk .tickets;
-  waiting = r .desk .waiting;
-}
+stretchedHouse h i r t =
+    withQueues
+    (withGuests (withTurn h (h .running) t)
+    (guests
+    (set (h .parts) i (countedOn (partition h i) r))
+    (outer (i * 32) 32 (h .regs) (r .core .registers))
+    (outer (i * 256) 256 (h .shadows) (r .memory .shadow))))
+    (r .desk)
 
 -- the house h with what a host step may change
 abbrev pub houseAt : House → ℕ → ℕ → List Partition → List ℕ → List ℕ → House
-houseAt h current left parts regs shadows = record {
-  count = h .count;
-  q = h .q;
-  words = h .words;
-  current = current;
-  left = left;
-  running = h .running;
-  parts = parts;
-  regs = regs;
-  frames = h .frames;
-  shadows = shadows;
-  tickets = h .tickets;
-  waiting = h .waiting;
-}
+houseAt h current left parts regs shadows = withGuests (withTurn h (h .running) (turn current left)) (guests parts regs shadows)

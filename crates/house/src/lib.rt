@@ -2,8 +2,6 @@
 ghost use mathlib.Core.Path.{_≡_};
 ghost use Rattle.house.specs.House.{noHouse};
 use dlx::partition::Partition;
-use dlx::partition::Processor;
-use dlx::partition::Table;
 
 pub struct House {
     pub count: u32,
@@ -38,23 +36,8 @@ impl House {
     pub fn none() -> House
         ensures { λ r. ⌜ r ≡ noHouse ⌝ }
     {
-        let unused = Partition {
-            pages: 0,
-            processor: Processor {
-                dpc: 0,
-                pc: 0,
-                sr: 0,
-                esr: 0,
-                eca: 0,
-                epc: 0,
-                edpc: 0,
-                edata: 0,
-                mode: 0,
-                emode: 0,
-            },
-            table: Table { pto: 0, ptl: 0 },
-            counter: 0,
-        };
+        let mut unused = Partition::fresh(0);
+        unused.processor.pc = 0;
         let running = [false; 8];
         let parts = [unused; 8];
         let regs = [0u32; 256];

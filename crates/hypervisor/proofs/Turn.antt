@@ -18,8 +18,7 @@ use Rattle.engine.specs.declared.Stretched.{Stretched}
 use Rattle.engine.specs.Answers.{stretchOf}
 use Rattle.dlx.specs.Parts.{inner, outer}
 use Rattle.tickets.specs.Queues.{queues, desk, Seated}
-use Rattle.house.specs.Tickets.{withQueues}
-use Rattle.house.specs.House.{noPartition}
+use Rattle.house.specs.House.{noPartition, withQueues}
 use Rattle.house.specs.Turns.{World, world, turnOf, hostSteps, stretchedHouse, houseAt}
 use Rattle.house.specs.Sound.{Sound}
 use Rattle.house.specs.declared.House.{House}

@@ -5,10 +5,10 @@ use Prim.Native.Nat.{ℕ, _-_, _^_}
 use Prim.Native.String.{String}
 use lib.Dec.{eqb}
 use lib.ListN.{replicate}
-use Rattle.dlx.specs.Processor.{freshOf}
+use Rattle.dlx.specs.Processor.{freshOf, withProcessor, withCounter}
 use Rattle.dlx.specs.declared.partition.Partition.{Partition}
 use Rattle.house.specs.Lists.{listFrom}
-use Rattle.house.specs.House.{noPartition, noHouse}
+use Rattle.house.specs.House.{noPartition, noHouse, layout, guests, turn, withLayout, withTurn, withGuests}
 use Rattle.house.specs.Boot.{bootedHouse}
 use Rattle.house.specs.Turns.{World, world, hostSteps}
 use Rattle.house.specs.declared.House.{House}
@@ -50,29 +50,17 @@ eight = bootedHouse (1 ∷ 2 ∷ 3 ∷ 4 ∷ 5 ∷ 6 ∷ 7 ∷ 8 ∷ []) 1 (list
 
 -- every number as large as it can be
 abbrev largest : Partition
-largest = record {
-  pages = 2 ^ 32 - 1;
-  processor = record { dpc = 2 ^ 32 - 1; pc = 2 ^ 32 - 1; sr = 0; esr = 0; eca = 0; epc = 0; edpc = 0; edata = 0; mode = 2 ^ 32 - 1; emode = 0 };
-  table = record { pto = 0; ptl = 0 };
-  counter = 2 ^ 64 - 1;
-}
+largest =
+    withCounter
+    (withProcessor (freshOf (2 ^ 32 - 1))
+    (record { dpc = 2 ^ 32 - 1; pc = 2 ^ 32 - 1; sr = 0; esr = 0; eca = 0; epc = 0; edpc = 0; edata = 0; mode = 2 ^ 32 - 1; emode = 0 }))
+    (2 ^ 64 - 1)
 
 -- a house made by hand, whose count names more partitions than it has
 unfoldable pub byHand : House
-byHand = record {
-  count = 2 ^ 32 - 1;
-  q = 0;
-  words = 0;
-  current = 0;
-  left = 0;
-  running = replicate 8 true;
-  parts = replicate 6 noPartition ++ (largest ∷ freshOf 256 ∷ []);
-  regs = replicate 256 0;
-  frames = replicate 2048 0;
-  shadows = replicate 2048 0;
-  tickets = replicate 256 0;
-  waiting = replicate 8 0;
-}
+byHand =
+    withGuests (withTurn (withLayout noHouse (layout (2 ^ 32 - 1) 0 0 (replicate 2048 0))) (replicate 8 true) (turn 0 0))
+    (guests (replicate 6 noPartition ++ (largest ∷ freshOf 256 ∷ [])) (replicate 256 0) (replicate 2048 0))
 
 unfoldable pub reports : List (List ℕ × String)
 reports =

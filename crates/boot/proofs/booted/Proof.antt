@@ -12,17 +12,20 @@ fresh-parts-requires c κs = search needs
 lay-requires : tie.Need-lay-requires
 lay-requires c κs = search needs
 
-cast-t13 : tie.Need-cast-t13
-cast-t13 c = search needs
+none-requires : tie.Need-none-requires
+none-requires c κs = search needs
 
-cast-t14 : tie.Need-cast-t14
-cast-t14 c = search needs
+cast-r : tie.Need-cast-r
+cast-r c = search needs
+
+cast-r-2 : tie.Need-cast-r-2
+cast-r-2 c = search needs
 
 returns : tie.Need-returns
 unfolding bootedHouse
-returns c = simp (c .before .before .all-running .ensures, c .before .fresh-parts .ensures, c .lay .ensures)
+returns c = simp (c .before .before .before .all-running .ensures, c .before .before .fresh-parts .ensures, c .before .lay .ensures, c .none .ensures)
 
 pub booted-spec : {M : Type 1} → statement M
 booted-spec =
     tie.close
-    (tie.spec all-running-requires fresh-parts-requires lay-requires cast-t13 cast-t14 returns)
+    (tie.spec all-running-requires fresh-parts-requires lay-requires none-requires cast-r cast-r-2 returns)

@@ -14,7 +14,7 @@ use borrow.Author.Needs.{needs}
 use Rattle.hypervisor.proofs.run.steps.Statement.{statement}
 use Rattle.hypervisor.proofs.run.steps.Tie as tie
 use Rattle.tickets.specs.Queues.{queues}
-use Rattle.house.specs.Tickets.{withQueues}
+use Rattle.house.specs.House.{withQueues}
 
 abbrev Inv-loop : tie.InvT-loop
 Inv-loop h memory₀ k count q running frames parts₀ regs₀ shadows₀ tickets₀ waiting₀ current₀ left₀ made₀ memory parts regs shadows tickets waiting current left made =
