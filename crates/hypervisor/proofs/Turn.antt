@@ -58,7 +58,12 @@ module _ (h : House) (current left : ℕ) (parts : List Partition) (regs shadows
 
     pub after-turn : (i : ℕ) (t : Turn) (counter : ℕ) → i ≡ current → Turned here n (stretchOf s regs′ m′ shadow′ (queues tickets′ waiting′)) → t ≡ turnOf (h .running) (h .count) (h .q) current left (s .made) (s .called) → counter ≡ (getD parts i noPartition .counter + s .made) % 2 ^ 64 → Made t counter i ≡ hostSteps (s .made) here
     unfolding stretchedHouse outer
-    after-turn i t counter q d e c = rw q (simp (add-sub-cancel-left, e, rw q at c) (sym (d .steps)))
+    after-turn i t counter q d e c =
+        let now = turnOf (h .running) (h .count) (h .q) current left (s .made) (s .called) in
+        subst (λ (u : Turn). Made u counter i ≡ hostSteps (s .made) here) (sym e)
+        (subst (λ (n : ℕ). Made now n i ≡ hostSteps (s .made) here) (sym c)
+        (subst (λ (j : ℕ). Made now ((getD parts j noPartition .counter + s .made) % 2 ^ 64) j ≡ hostSteps (s .made) here) (sym q)
+        (simp add-sub-cancel-left (sym (d .steps)))))
 
   seated : Sound here → Seated (h .count) current (queues tickets waiting)
   seated o = record { queued = record { tickets = o .shaped .tickets; waiting = o .shaped .waiting; most = o .most }; few = o .few; small = omega (arith, o .here, o .few) }
