@@ -11,10 +11,10 @@ use Rattle.dlx.specs.Choice.{if_then_else_}
 use Rattle.dlx.proofs.Tests.{by-test}
 use Rattle.house.specs.Lists.{listFrom, any}
 use Rattle.house.specs.Boot.{pagesWrong, bootVerdict}
-use Rattle.house.proofs.Lists.{any-none}
-use Rattle.house.proofs.Conditions.{within}
-use Rattle.house.proofs.Verdicts.{boot-done}
-use Rattle.house.proofs.Searches.{listFrom-same, listFrom-replicate, set-listFrom}
+use Rattle.house.proofs.Lists.Bounded.{any-none}
+use Rattle.house.proofs.Damage.Conditions.{within}
+use Rattle.house.proofs.Calls.Verdicts.{boot-done}
+use Rattle.house.proofs.Lists.ByRule.{listFrom-same, listFrom-replicate, set-listFrom}
 use Rattle.boot.specs.Places.{filled, Few, Fitting}
 
 -- ---- a list filled from the front

@@ -18,7 +18,7 @@ use Rattle.translate.specs.Walk.{entries}
 use Rattle.dlx.specs.Parts.{inner}
 use Rattle.house.specs.Lists.{any, between}
 use Rattle.house.specs.Damage.{stands, entryWrong, wholeFrames}
-use Rattle.house.proofs.Lists.{one-way, same-test, or-left, or-right, any-yes, any-at, any-none, any-same, and-right}
+use Rattle.house.proofs.Lists.Bounded.{one-way, same-test, or-left, or-right, any-yes, any-at, any-none, any-same, and-right}
 use Rattle.damage.specs.Marks.{Within, shadowMarked, shadowOutside, pagesAt, partAt, pagesOutside, frameOutside, framesOutside, marked, ownersOf, twiceMarked, twiceAt, twiceIn, entryMarked, outside}
 
 -- partition i's part of a list, as the code lends it

@@ -16,7 +16,7 @@ use Rattle.house.specs.Turns.{World}
 use Rattle.house.specs.declared.House.{House}
 use Rattle.house.specs.Calls.{Read, read, beyondOf, readVerdict, readCall}
 use Rattle.house.specs.Lists.{listFrom}
-use Rattle.house.proofs.Searches.{length-listFrom}
+use Rattle.house.proofs.Lists.ByRule.{length-listFrom}
 use Rattle.script.specs.declared.commands.Command.{Command}
 use Rattle.script.specs.Words.{markedOf}
 use Rattle.drill.specs.Told.{shownOf}

@@ -6,7 +6,7 @@ use native.Mathlib.Omega.{arith}
 use lib.ListN.{length, take, drop, length-append}
 use lib.Seq.{length-take-le, take-at}
 use Rattle.house.specs.Lists.{listFrom}
-use Rattle.house.proofs.Searches.{length-listFrom, listFrom-same}
+use Rattle.house.proofs.Lists.ByRule.{length-listFrom, listFrom-same}
 use Rattle.script.specs.Words.{wordAt}
 
 -- n places at the front of a space, k of which is n

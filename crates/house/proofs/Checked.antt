@@ -30,8 +30,8 @@ use Rattle.house.specs.Boot.{firstOf, sum, bootVerdict, laid, offset, bo
 use Rattle.house.specs.Turns.{nextFrom, turnOf, requestNow, replyNow, queuesNext, guestStep, settledHouse, stepWith, hostStep, hostSteps}
 use Rattle.house.specs.Calls.{bootCall, runVerdict, runCall, oneVerdict, started, stopped, emptiedHouse, startCall, stopCall, emptyCall, readVerdict, readOut, readCall}
 use Rattle.house.specs.Examples.{alone, two, idle, three, uneven, seven, busy, pair, interrupt, current, answers, flags, fields, numbers, sameHouse, sameWorld, ran, once, mapped, papers, plain, unbooted, boots, widest, after, trapped, six, counts, stepping, comes, turns, missized, refuses, does, reading, gives, calls, beyond, within, twice, once-each, outOfTurn, inTurn, misset, set-right, astray, used, damages, places, leaves, across, exchanges, whole}
-use Rattle.house.proofs.Lists.{and-right}
-use Rattle.house.proofs.Searches.{getD-listFrom, length-listFrom}
+use Rattle.house.proofs.Lists.Bounded.{and-right}
+use Rattle.house.proofs.Lists.ByRule.{getD-listFrom, length-listFrom}
 
 -- ---- what stands at a place of a list, without walking there
 

@@ -5,6 +5,4 @@ pub mod Boot
 pub mod Turns
 pub mod Sound
 pub mod Calls
-pub mod Histories
-pub mod Demands
 pub mod Examples

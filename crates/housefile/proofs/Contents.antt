@@ -11,7 +11,7 @@ use lib.ListN.{length, take, drop}
 use lib.Seq.{sets, sets-eq, take-nil, take-take, drop-drop, length-take-le}
 use Rattle.dlx.proofs.Tests.{by-test, and-left}
 use Rattle.dlx.specs.Parts.{outer}
-use Rattle.house.proofs.Lists.{and-right, one-way}
+use Rattle.house.proofs.Lists.Bounded.{and-right, one-way}
 use Rattle.housefile.specs.Records.{number, wordsOf, mayCome, File, file, withRecord}
 
 -- ---- which records may come

@@ -10,7 +10,7 @@ use lib.ListN.{length, getD, set, take, drop, replicate, length-append, length-d
 use lib.Seq.{sets, sets-eq, length-sets, take-suc-set, take-at, take-take, drop-drop}
 use Rattle.dlx.specs.Choice.{if_then_else_}
 use Rattle.dlx.proofs.Tests.{by-test, and-left}
-use Rattle.house.proofs.Lists.{and-right, one-way}
+use Rattle.house.proofs.Lists.Bounded.{and-right, one-way}
 use Rattle.housefile.specs.Records.{number, wordsOf, size, kind, body, mayCome, recordRight, File, noFile, withRecord, wrong, right, readFrom, readingOf}
 use Rattle.housefile.specs.Reader.{Read, read, noRecord, noRead, completed, took, fed, answerOf}
 use Rattle.housefile.specs.declared.Reader.{Reader}

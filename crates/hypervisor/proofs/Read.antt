@@ -19,8 +19,8 @@ use Rattle.house.specs.Boot.{verdict, firstOf}
 use Rattle.house.specs.Turns.{world}
 use Rattle.house.specs.Calls.{beyondOf, read, readVerdict, readOut, readCall}
 use Rattle.house.specs.declared.House.{House}
-use Rattle.house.proofs.Verdicts.{not-beyond}
-use Rattle.house.proofs.Searches.{length-listFrom}
+use Rattle.house.proofs.Calls.Verdicts.{not-beyond}
+use Rattle.house.proofs.Lists.ByRule.{length-listFrom}
 
 listFrom-last : (f : ℕ → ℕ) (k n : ℕ) → listFrom f k (suc n) ≡ listFrom f k n ++ (f (k + n) ∷ [])
 unfolding listFrom

@@ -24,7 +24,7 @@ use Rattle.house.specs.Sound.{Sound}
 use Rattle.house.specs.declared.House.{House}
 use Rattle.house.specs.declared.Turn.{Turn}
 use Rattle.dlx.proofs.Parts.{inner-length}
-use Rattle.house.proofs.Stretch.{Turned, turned, stretched}
+use Rattle.house.proofs.Turns.Stretch.{Turned, turned, stretched}
 
 -- the part of a list that is lent from i * s on, and the list when it is back
 abbrev lent : ℕ → ℕ → List ℕ → List ℕ

@@ -12,7 +12,7 @@ use lib.Seq.{ext-getD}
 use Rattle.dlx.specs.Choice.{if_then_else_}
 use Rattle.dlx.proofs.Tests.{by-test}
 use Rattle.house.specs.Lists.{listFrom}
-use Rattle.house.proofs.Searches.{length-listFrom, getD-listFrom, listFrom-same, set-listFrom}
+use Rattle.house.proofs.Lists.ByRule.{length-listFrom, getD-listFrom, listFrom-same, set-listFrom}
 
 module _ (f : ℕ → ℕ) (m : List ℕ) (from : ℕ) where
   -- word j where the words from `from` up to i are set

@@ -5,7 +5,7 @@ use mathlib.Core.List.{List}
 use Prim.Native.Nat.{ℕ}
 use borrow.Author.Tests.{eq-eqb}
 use Rattle.dlx.specs.declared.partition.Partition.{Partition}
-use Rattle.house.proofs.Lists.{one-way}
+use Rattle.house.proofs.Lists.Bounded.{one-way}
 use Rattle.text.specs.Partitions.{specialsOf, zerosOf, blankOf}
 
 pub fails : (r : Bool) {x : Bool} → r ≡ x → not r ≡ true → x ≡ false

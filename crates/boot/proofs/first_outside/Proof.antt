@@ -8,8 +8,8 @@ use lib.ListN.{length}
 use borrow.Author.Tests.{le-leb, lt-leb}
 use Rattle.house.specs.Lists.{any}
 use Rattle.house.specs.Boot.{frameOutside}
-use Rattle.house.proofs.Lists.{any-more}
-use Rattle.house.proofs.Searches.{first-is, first-none}
+use Rattle.house.proofs.Lists.Bounded.{any-more}
+use Rattle.house.proofs.Lists.ByRule.{first-is, first-none}
 use Rattle.boot.proofs.first_outside.Statement.{statement}
 use Rattle.boot.proofs.first_outside.Tie as tie
 

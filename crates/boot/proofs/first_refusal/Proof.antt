@@ -3,8 +3,8 @@ use borrow.Author.Tests.{not-true, not-false, eq-eqb, ne-eqb, leb-true}
 use lib.Dec.{leb}
 use lib.ListN.{length}
 use Rattle.house.specs.Boot.{pagesWrong, frameOutside, stoodEarlier, firstOf, bootVerdict}
-use Rattle.house.proofs.Lists.{and-right}
-use Rattle.house.proofs.Searches.{any-found, any-missed}
+use Rattle.house.proofs.Lists.Bounded.{and-right}
+use Rattle.house.proofs.Lists.ByRule.{any-found, any-missed}
 use Rattle.boot.proofs.Places.{few}
 use borrow.Author.Needs.{needs}
 use Rattle.boot.proofs.first_refusal.Statement.{statement}

@@ -9,8 +9,8 @@ use lib.Dec.{eqb}
 use borrow.Author.Tests.{eq-eqb, ne-eqb}
 use Rattle.house.specs.Lists.{any}
 use Rattle.house.specs.Boot.{stoodEarlier}
-use Rattle.house.proofs.Lists.{any-more, any-yes}
-use Rattle.house.proofs.Searches.{first-is, first-none}
+use Rattle.house.proofs.Lists.Bounded.{any-more, any-yes}
+use Rattle.house.proofs.Lists.ByRule.{first-is, first-none}
 use Rattle.boot.proofs.first_repeat.Statement.{statement}
 use Rattle.boot.proofs.first_repeat.Tie as tie
 

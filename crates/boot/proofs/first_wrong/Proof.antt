@@ -7,8 +7,8 @@ use borrow.Author.Needs.{needs}
 use lib.ListN.{length}
 use Rattle.house.specs.Lists.{any}
 use Rattle.house.specs.Boot.{pagesWrong}
-use Rattle.house.proofs.Lists.{any-more}
-use Rattle.house.proofs.Searches.{first-is, first-none}
+use Rattle.house.proofs.Lists.Bounded.{any-more}
+use Rattle.house.proofs.Lists.ByRule.{first-is, first-none}
 use Rattle.boot.proofs.first_wrong.Statement.{statement}
 use Rattle.boot.proofs.first_wrong.Tie as tie
 

@@ -4,7 +4,7 @@ use native.Mathlib.Omega.{arith}
 use lib.ListN.{length}
 use Rattle.house.specs.Boot.{offset, laid}
 use Rattle.boot.specs.Places.{filled}
-use Rattle.house.proofs.Offsets.{laid-after}
+use Rattle.house.proofs.Boot.Offsets.{laid-after}
 use Rattle.boot.proofs.Places.{filled-none, filled-whole}
 use Rattle.boot.proofs.lay.Statement.{statement}
 use Rattle.boot.proofs.lay.Tie as tie

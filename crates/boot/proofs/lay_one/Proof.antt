@@ -6,7 +6,7 @@ use borrow.Author.Needs.{needs}
 use lib.ListN.{length, getD}
 use Rattle.house.specs.Boot.{laid}
 use Rattle.boot.specs.Places.{filled}
-use Rattle.house.proofs.Offsets.{offset-more, offset-in, laid-page, laid-behind}
+use Rattle.house.proofs.Boot.Offsets.{offset-more, offset-in, laid-page, laid-behind}
 use Rattle.boot.proofs.Places.{filled-more, filled-rest}
 use Rattle.boot.proofs.lay_one.Statement.{statement}
 use Rattle.boot.proofs.lay_one.Tie as tie

@@ -5,7 +5,7 @@ use native.Mathlib.Omega.{arith}
 use borrow.Author.Needs.{needs}
 use lib.ListN.{length}
 use Rattle.house.specs.Boot.{offset}
-use Rattle.house.proofs.Offsets.{offset-more, offset-sum}
+use Rattle.house.proofs.Boot.Offsets.{offset-more, offset-sum}
 use Rattle.boot.proofs.total.Statement.{statement}
 use Rattle.boot.proofs.total.Tie as tie
 

@@ -1,4 +1,4 @@
-use Rattle.house.proofs.Lists.{any-more, any-yes}
+use Rattle.house.proofs.Lists.Bounded.{any-more, any-yes}
 use Rattle.house.specs.Lists.{any}
 use lib.ListN.{getD}
 use Prim.Native.Nat.{ℕ, _≤_, _-_, zero-le}

@@ -5,7 +5,7 @@ use mathlib.Core.Path.{_≡_, sym}
 use Prim.Native.Nat.{_≤_, _-_}
 use borrow.Author.Tests.{eq-eqb, ne-eqb, le-leb, lt-leb}
 use Rattle.house.specs.Lists.{any}
-use Rattle.house.proofs.Lists.{any-more, any-yes, any-none, any-from}
+use Rattle.house.proofs.Lists.Bounded.{any-more, any-yes, any-none, any-from}
 use Rattle.damage.specs.Marks.{behind}
 use Rattle.damage.proofs.behind_used.Statement.{statement}
 use Rattle.damage.proofs.behind_used.Tie as tie

@@ -5,7 +5,7 @@ use mathlib.Core.Path.{_≡_, refl, sym}
 use Prim.Native.Nat.{_≤_, _-_, zero-le}
 use borrow.Author.Tests.{le-leb, lt-leb}
 use Rattle.house.specs.Lists.{any}
-use Rattle.house.proofs.Lists.{any-more, any-yes}
+use Rattle.house.proofs.Lists.Bounded.{any-more, any-yes}
 use Rattle.damage.specs.Marks.{frameOutside}
 use Rattle.damage.proofs.frame_outside.Statement.{statement}
 use Rattle.damage.proofs.frame_outside.Tie as tie

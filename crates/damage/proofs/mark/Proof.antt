@@ -5,9 +5,9 @@ use mathlib.Core.Bool.{true, false}
 use mathlib.Core.Path.{_≡_, refl, sym}
 use Prim.Native.Nat.{_≤_, _-_, zero-le}
 use Rattle.house.specs.Lists.{any}
-use Rattle.house.proofs.Lists.{any-more, any-yes}
+use Rattle.house.proofs.Lists.Bounded.{any-more, any-yes}
 use Rattle.damage.specs.Marks.{marked, twiceMarked}
-use Rattle.house.proofs.Lists.{one-way}
+use Rattle.house.proofs.Lists.Bounded.{one-way}
 use Rattle.damage.proofs.Marks.{marked-more, mark-found, mark-free}
 use Rattle.damage.proofs.mark.Statement.{statement}
 use Rattle.damage.proofs.mark.Tie as tie

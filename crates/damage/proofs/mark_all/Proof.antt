@@ -8,9 +8,9 @@ use mathlib.Core.Path.{_≡_, refl, _∙_, ap, sym}
 use Prim.Native.Nat.{_≤_, _-_, _+_, zero-le}
 use Rattle.dlx.specs.Parts.{inner}
 use Rattle.house.specs.Lists.{any}
-use Rattle.house.proofs.Lists.{any-more, any-yes}
+use Rattle.house.proofs.Lists.Bounded.{any-more, any-yes}
 use Rattle.damage.specs.Marks.{ownersOf, twiceIn}
-use Rattle.house.proofs.Lists.{one-way}
+use Rattle.house.proofs.Lists.Bounded.{one-way}
 use Rattle.damage.proofs.Marks.{owners-length}
 use Rattle.damage.proofs.mark_all.Statement.{statement}
 use Rattle.damage.proofs.mark_all.Tie as tie

@@ -8,7 +8,7 @@ use Prim.Native.Nat.{_≤_, _-_, _+_, zero-le}
 use borrow.Author.Tests.{eq-eqb, ne-eqb}
 use Rattle.house.specs.Lists.{any}
 use Rattle.house.specs.Damage.{notZero}
-use Rattle.house.proofs.Lists.{any-more, any-yes}
+use Rattle.house.proofs.Lists.Bounded.{any-more, any-yes}
 use Rattle.damage.proofs.not_zero.Statement.{statement}
 use Rattle.damage.proofs.not_zero.Tie as tie
 

@@ -4,7 +4,7 @@ use mathlib.Core.Bool.{false}
 use mathlib.Core.Path.{_≡_, refl, _∙_, sym}
 use Prim.Native.Nat.{_≤_, _-_, _*_, zero-le}
 use Rattle.house.specs.Lists.{any}
-use Rattle.house.proofs.Lists.{any-more, any-yes}
+use Rattle.house.proofs.Lists.Bounded.{any-more, any-yes}
 use Rattle.dlx.proofs.Parts.{part-at}
 use Rattle.damage.specs.Marks.{registersAt}
 use Rattle.damage.proofs.registers_wrong.Statement.{statement}

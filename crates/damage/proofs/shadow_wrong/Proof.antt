@@ -5,7 +5,7 @@ use mathlib.Core.Bool.{false}
 use mathlib.Core.Path.{_≡_, refl, _∙_, sym}
 use Prim.Native.Nat.{_≤_, _-_, zero-le}
 use Rattle.house.specs.Lists.{any}
-use Rattle.house.proofs.Lists.{any-more, any-yes}
+use Rattle.house.proofs.Lists.Bounded.{any-more, any-yes}
 use Rattle.damage.specs.Marks.{entryMarked}
 use Rattle.damage.proofs.shadow_wrong.Statement.{statement}
 use Rattle.damage.proofs.shadow_wrong.Tie as tie

@@ -6,7 +6,7 @@ use mathlib.Core.Path.{_≡_, refl, _∙_, sym}
 use Prim.Native.Nat.{_≤_, _-_, zero-le}
 use Rattle.house.specs.Lists.{any}
 use Rattle.house.specs.House.{noPartition}
-use Rattle.house.proofs.Lists.{any-more, any-yes}
+use Rattle.house.proofs.Lists.Bounded.{any-more, any-yes}
 use Rattle.damage.specs.Marks.{roomWrong}
 use Rattle.damage.proofs.unused_wrong.Statement.{statement}
 use Rattle.damage.proofs.unused_wrong.Tie as tie

@@ -2,7 +2,7 @@ use Rattle.hypervisor.proofs.Read.{read-done}
 use Rattle.house.specs.Boot.{firstOf}
 use Rattle.house.specs.Calls.{readVerdict, readCall}
 use Rattle.hypervisor.proofs.Read.{unmapped, lent-placed, within-pages}
-use Rattle.house.proofs.Undamaged.{count-within, sound-partition}
+use Rattle.house.proofs.Damage.Undamaged.{count-within, sound-partition}
 use lib.ListN.{length}
 use mathlib.Core.Path.{_≡_, sym, _∙_}
 use borrow.Author.Tests.{lt-ltb, lt-leb, le-leb, eq-eqb, ne-eqb}

@@ -2,7 +2,7 @@ use Rattle.house.specs.Turns.{hostSteps}
 use Rattle.house.specs.Boot.{firstOf}
 use Rattle.house.specs.Calls.{runVerdict, runCall}
 use Rattle.hypervisor.proofs.Read.{unmapped}
-use Rattle.house.proofs.Undamaged.{sound}
+use Rattle.house.proofs.Damage.Undamaged.{sound}
 use mathlib.Core.Path.{sym, _∙_}
 use borrow.Author.Tests.{lt-ltb, le-ltb, eq-eqb, ne-eqb}
 use borrow.Author.Needs.{needs}

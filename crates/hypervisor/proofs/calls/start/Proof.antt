@@ -1,6 +1,6 @@
 use Rattle.house.specs.Boot.{firstOf}
 use Rattle.house.specs.Calls.{oneVerdict, startCall}
-use Rattle.house.proofs.Undamaged.{count-within}
+use Rattle.house.proofs.Damage.Undamaged.{count-within}
 use mathlib.Core.Path.{sym, _∙_}
 use borrow.Author.Tests.{lt-leb, le-leb}
 use native.Mathlib.Omega.{arith}

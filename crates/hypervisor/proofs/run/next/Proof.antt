@@ -1,4 +1,4 @@
-use Rattle.house.proofs.Turns.{following-below, next-done, next-found, next-on}
+use Rattle.house.proofs.Turns.Kept.{following-below, next-done, next-found, next-on}
 use Rattle.house.specs.Turns.{nextFrom}
 use mathlib.Core.Path.{_≡_, _∙_}
 use Prim.Native.Nat.{_-_, _<_, _≤_, zero-le}

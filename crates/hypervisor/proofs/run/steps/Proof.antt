@@ -1,7 +1,7 @@
 use Prim.Native.Nat.{ℕ}
 use Rattle.hypervisor.proofs.Turn.{asked-turned, after-turn, asked-sound, limited}
-use Rattle.house.proofs.Stretch.{steps-add}
-use Rattle.house.proofs.Turns.{sound-steps}
+use Rattle.house.proofs.Turns.Stretch.{steps-add}
+use Rattle.house.proofs.Turns.Kept.{sound-steps}
 use mathlib.Core.Path.{sym, subst}
 use Rattle.house.specs.Sound.{Sound}
 use Rattle.house.specs.Turns.{world, hostSteps, houseAt}

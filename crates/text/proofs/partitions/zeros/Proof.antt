@@ -7,7 +7,7 @@ use borrow.Author.Tests.{eq-eqb, ne-eqb}
 use lib.Dec.{eqb}
 use lib.ListN.{length, getD}
 use Rattle.house.specs.Lists.{all}
-use Rattle.house.proofs.Lists.{all-more, all-no}
+use Rattle.house.proofs.Lists.Bounded.{all-more, all-no}
 use Rattle.text.specs.Partitions.{zerosOf}
 use Rattle.text.proofs.partitions.zeros.Statement.{statement}
 use Rattle.text.proofs.partitions.zeros.Tie as tie

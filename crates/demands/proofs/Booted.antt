@@ -1,0 +1,2 @@
+pub mod FreshGuests
+pub mod FreshHouse

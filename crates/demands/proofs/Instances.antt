@@ -1,0 +1,4 @@
+pub mod ClosedCalls
+pub mod ThreeGuests
+pub mod Tickets
+pub mod TwoGuests

@@ -1,0 +1,3 @@
+pub mod Emptied
+pub mod StartStopEmpty
+pub mod Verdicts
