@@ -8,7 +8,7 @@ ghost use Rattle.translate.specs.Entries.{compositionOf};
 pub extern "C" fn house_compose(entry: u32, pages: u32, access: u32) -> u32
     ensures { λ r. ⌜ r ≡ compositionOf entry pages access ⌝ }
 {
-    translate::compose(entry, pages, access)
+    shadow::compose(entry, pages, access)
 }
 
 // The level of a cause word, 32 for 0.

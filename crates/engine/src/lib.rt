@@ -47,7 +47,7 @@ fn fetch(
     if dpc % 4 != 0 {
         return Effect::Done(Change::Cause(Partition::MAL, 0));
     }
-    match translate::load(words, frames, shadow, pages, t, p.mode == 1, dpc) {
+    match shadow::load(words, frames, shadow, pages, t, p.mode == 1, dpc) {
         Access::Fault => Effect::Done(Change::Cause(Partition::PFF, dpc)),
         Access::Word(w) => processor::execute::execute(
             p,
@@ -92,7 +92,7 @@ fn access(
     let next = std::num::wrapping_add_u32(p.pc, 4);
     match e {
         Effect::Done(c) => c,
-        Effect::Load(rd, a) => match translate::load(
+        Effect::Load(rd, a) => match shadow::load(
             words,
             frames,
             shadow,
@@ -105,7 +105,7 @@ fn access(
             Access::Word(w) => Change::Plain(rd, w, next),
         },
         Effect::Store(a, v) => {
-            if translate::store(words, frames, shadow, pages, t, p.mode == 1, a, v) {
+            if shadow::store(words, frames, shadow, pages, t, p.mode == 1, a, v) {
                 return Change::Plain(0, 0, next);
             }
             Change::Cause(Partition::PFLS, a)
@@ -130,7 +130,7 @@ fn retable(t: Table, shadow: &mut [u32], c: Change) -> Table
         Change::Plain(_, _, _) => t,
         Change::Special(_, _) => t,
         Change::Retable(n) => {
-            translate::clear(shadow);
+            shadow::clear(shadow);
             n
         }
         Change::Cause(_, _) => t,

@@ -64,7 +64,7 @@ pub fn empty(h: House, i: u32) -> House
     let mut shadows = h.shadows;
     let a = wide(i) * 256;
     let b = a + 256;
-    translate::clear(&mut shadows[a..b]);
+    shadow::clear(&mut shadows[a..b]);
     let mut r = h;
     r.shadows = shadows;
     r

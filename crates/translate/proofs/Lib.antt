@@ -4,8 +4,6 @@ pub mod Entries
 pub mod Instance
 pub mod Isolation
 pub mod Kept
-pub mod Places
-pub mod Served
 pub mod Shadow
 pub mod Simulation
 pub mod Steps

@@ -1,10 +1,10 @@
 use mathlib.Core.Path.{sym}
-use Rattle.translate.proofs.Served.{looked-none}
+use Rattle.shadow.proofs.Served.{looked-none}
 use Rattle.translate.specs.Memory.{looked, filled}
 use borrow.Author.Tests.{eq-eqb, ne-eqb}
 use borrow.Author.Needs.{needs}
-use Rattle.translate.proofs.look.Statement.{statement}
-use Rattle.translate.proofs.look.Tie as tie
+use Rattle.shadow.proofs.look.Statement.{statement}
+use Rattle.shadow.proofs.look.Tie as tie
 
 returns : tie.Need-returns
 unfolding looked filled

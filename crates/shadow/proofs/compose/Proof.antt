@@ -1,7 +1,7 @@
 use Rattle.translate.specs.Entries.{judged, composed}
 use borrow.Author.Tests.{lt-leb, le-leb, eq-eqb, ne-eqb}
-use Rattle.translate.proofs.compose.Statement.{statement}
-use Rattle.translate.proofs.compose.Tie as tie
+use Rattle.shadow.proofs.compose.Statement.{statement}
+use Rattle.shadow.proofs.compose.Tie as tie
 
 returns : tie.Need-returns
 unfolding judged composed

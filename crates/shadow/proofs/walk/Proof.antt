@@ -1,12 +1,12 @@
-use Rattle.translate.proofs.Places.{entry-page, entry-word, entry-outside, entry-inside}
+use Rattle.shadow.proofs.Places.{entry-page, entry-word, entry-outside, entry-inside}
 use Rattle.translate.specs.Memory.{given, hosted}
 use Rattle.translate.specs.Walk.{walked}
 use Rattle.translate.specs.Entries.{judged}
 use native.Mathlib.Omega.{arith}
 use borrow.Author.Tests.{lt-leb, le-leb, eq-eqb, ne-eqb}
 use borrow.Author.Needs.{needs}
-use Rattle.translate.proofs.walk.Statement.{statement}
-use Rattle.translate.proofs.walk.Tie as tie
+use Rattle.shadow.proofs.walk.Statement.{statement}
+use Rattle.shadow.proofs.walk.Tie as tie
 
 returns : tie.Need-returns
 unfolding given walked hosted judged

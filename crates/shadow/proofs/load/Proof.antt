@@ -1,10 +1,10 @@
-use Rattle.translate.proofs.Served.{served-inside}
+use Rattle.shadow.proofs.Served.{served-inside}
 use Rattle.translate.specs.Memory.{hostReads, hostRead}
 use native.Mathlib.Omega.{arith}
 use borrow.Author.Tests.{eq-eqb, ne-eqb}
 use borrow.Author.Needs.{needs}
-use Rattle.translate.proofs.load.Statement.{statement}
-use Rattle.translate.proofs.load.Tie as tie
+use Rattle.shadow.proofs.load.Statement.{statement}
+use Rattle.shadow.proofs.load.Tie as tie
 
 serve-requires : tie.Need-serve-requires
 serve-requires c κs = search needs

@@ -1,11 +1,11 @@
 use Rattle.translate.specs.Memory.{hosted}
 use Rattle.translate.specs.Walk.{direct}
 use Prim.Native.Nat.{_*_, _/_, _+_, _%_}
 use native.Mathlib.Omega.{arith}
 use borrow.Author.Tests.{lt-ltb, le-ltb}
 use borrow.Author.Needs.{needs}
-use Rattle.translate.proofs.straight.Statement.{statement}
-use Rattle.translate.proofs.straight.Tie as tie
+use Rattle.shadow.proofs.straight.Statement.{statement}
+use Rattle.shadow.proofs.straight.Tie as tie
 
 returns : tie.Need-returns
 unfolding hosted direct

@@ -4,8 +4,8 @@ use lib.ListN.{length, getD, set, length-set}
 use mathlib.Core.Path.{_≡_, refl, _∙_}
 use Prim.Native.Nat.{ℕ, _≤_, _<_, _-_, zero-le}
 use native.Mathlib.Omega.{arith}
-use Rattle.translate.proofs.copy.Statement.{statement}
-use Rattle.translate.proofs.copy.Tie as tie
+use Rattle.shadow.proofs.copy.Statement.{statement}
+use Rattle.shadow.proofs.copy.Tie as tie
 
 abbrev Inv-loop : tie.InvT-loop
 Inv-loop to₀ from i₀ to i = ((k : ℕ) → k < i → getD to k 0 ≡ getD from k 0) × (i ≤ length from) × (length to ≡ length to₀)

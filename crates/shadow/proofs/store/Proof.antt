@@ -1,15 +1,15 @@
-use Rattle.translate.proofs.Served.{served-inside, written-is}
+use Rattle.shadow.proofs.Served.{served-inside, written-is}
 use Rattle.translate.proofs.Entries.{placed-listed}
 use mathlib.Core.Path.{_∙_}
 use Prim.Native.Nat.{_+_, _-_, _*_}
 use lib.ListN.{length-take, length-drop}
 use borrow.Rule.Slice.PartMut.{set-mid-at}
 use Rattle.translate.specs.Memory.{hostWrites, hostWritten}
 use native.Mathlib.Omega.{arith}
 use borrow.Author.Tests.{eq-eqb, ne-eqb}
 use borrow.Author.Needs.{needs}
-use Rattle.translate.proofs.store.Statement.{statement}
-use Rattle.translate.proofs.store.Tie as tie
+use Rattle.shadow.proofs.store.Statement.{statement}
+use Rattle.shadow.proofs.store.Tie as tie
 
 serve-requires : tie.Need-serve-requires
 serve-requires c κs = search needs

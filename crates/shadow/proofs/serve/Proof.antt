@@ -1,8 +1,8 @@
 use Rattle.translate.proofs.Entries.{placed-listed}
 use Rattle.translate.specs.Memory.{served}
 use borrow.Author.Needs.{needs}
-use Rattle.translate.proofs.serve.Statement.{statement}
-use Rattle.translate.proofs.serve.Tie as tie
+use Rattle.shadow.proofs.serve.Statement.{statement}
+use Rattle.shadow.proofs.serve.Tie as tie
 
 look-requires : tie.Need-look-requires
 look-requires c κs = search needs

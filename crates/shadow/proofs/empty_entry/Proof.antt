@@ -1,8 +1,8 @@
 use Rattle.translate.specs.Memory.{emptied}
 use borrow.Author.Tests.{lt-ltb, le-ltb, eq-eqb, ne-eqb}
 use borrow.Author.Needs.{needs}
-use Rattle.translate.proofs.empty_entry.Statement.{statement}
-use Rattle.translate.proofs.empty_entry.Tie as tie
+use Rattle.shadow.proofs.empty_entry.Statement.{statement}
+use Rattle.shadow.proofs.empty_entry.Tie as tie
 
 returns : tie.Need-returns
 unfolding emptied

@@ -1,0 +1,219 @@
+// Address translation and shadow tables, by the definitions of `translate`. The arrays are lent: a partition's frame list, its shadow table, and the host's words.
+ghost use mathlib.Core.Path.{_≡_};
+ghost use Prim.Native.Nat.{ℕ, _+_, _*_, _/_, _%_, _^_, _<_, _≤_};
+ghost use lib.ListN.{length, getD, set};
+ghost use Rattle.dlx.specs.declared.partition.Table.{Table};
+ghost use Rattle.translate.specs.Entries.{compositionOf, judged, valid, number};
+ghost use Rattle.translate.specs.Walk.{direct};
+ghost use Rattle.translate.specs.Memory.{host, hosted, given, looked, served, hostReads, hostWrites, emptied, freshShadow};
+ghost use Rattle.translate.specs.Premises.{Listed, Placed, Shadowed};
+use dlx::execute::Access;
+use dlx::partition::Table;
+use dlx::words::wide;
+
+// How many entries a shadow table has, and how many pages a user's address can name.
+pub const ENTRIES: u32 = 256;
+
+// Entry composition: 0 is load, all else store. Answers the guest page, or 4,294,967,295 for a fault.
+pub fn compose(entry: u32, pages: u32, access: u32) -> u32
+    ensures { λ r. ⌜ r ≡ compositionOf entry pages access ⌝ }
+{
+    if entry / 2048 % 2 != 1 {
+        return 4294967295;
+    }
+    if entry / 4096 >= pages {
+        return 4294967295;
+    }
+    if access == 0 {
+        return entry / 4096;
+    }
+    if entry / 1024 % 2 == 1 {
+        return 4294967295;
+    }
+    entry / 4096
+}
+
+// The shadow entry that the guest's table and the host's list give now for page px, or 0.
+fn walk(words: &[u32], frames: &[u32], pages: u32, t: Table, px: u32) -> u32
+    requires { ⌜ Placed (now frames) pages (length (now words)) ⌝ }
+    ensures { λ r. ⌜ r ≡ given (now (frames .entry)) pages t (now (words .entry)) px ⌝ }
+{
+    if px >= t.ptl {
+        return 0;
+    }
+    if px >= ENTRIES {
+        return 0;
+    }
+    let pto = t.pto;
+    if pto >= pages {
+        return 0;
+    }
+    let entry = words[wide(frames[wide(pto)]) * 1024 + wide(px)];
+    if entry / 2048 % 2 != 1 {
+        return 0;
+    }
+    let page = entry / 4096;
+    if page >= pages {
+        return 0;
+    }
+    let frame = frames[wide(page)];
+    frame * 4096 + 2048 + entry / 1024 % 2 * 1024
+}
+
+// The entry of the shadow for page px, filled from the guest's table where it is empty; or 0.
+fn look(words: &[u32], frames: &[u32], shadow: &mut [u32], pages: u32, t: Table, px: u32) -> u32
+    requires { ⌜ Placed (now frames) pages (length (now words)) ⌝ ∗ ⌜ Shadowed (now frames) pages (now shadow) ⌝ }
+    ensures { λ r. ⌜ (r, host t (now (words .entry)) (now (shadow .exit))) ≡ looked (now (frames .entry)) pages (host t (now (words .entry)) (now (shadow .entry))) px ⌝ }
+{
+    if px >= ENTRIES {
+        return 0;
+    }
+    let e = shadow[wide(px)];
+    if e / 2048 % 2 == 1 {
+        return e;
+    }
+    let w = walk(words, frames, pages, t, px);
+    if w / 2048 % 2 == 1 {
+        shadow[wide(px)] = w;
+        return w;
+    }
+    w
+}
+
+// The entry of a system-mode address, or 0.
+fn straight(frames: &[u32], pages: u32, a: u32) -> u32
+    requires { ⌜ Listed (now frames) pages ⌝ }
+    ensures { λ r. ⌜ r ≡ hosted (now (frames .entry)) (direct pages a) ⌝ }
+{
+    let page = a / 4096;
+    if page >= pages {
+        return 0;
+    }
+    let frame = frames[wide(page)];
+    frame * 4096 + 2048
+}
+
+// The entry that serves an access at address a, or 0.
+fn serve(
+    words: &[u32],
+    frames: &[u32],
+    shadow: &mut [u32],
+    pages: u32,
+    t: Table,
+    user: bool,
+    a: u32,
+) -> u32
+    requires { ⌜ Placed (now frames) pages (length (now words)) ⌝ ∗ ⌜ Shadowed (now frames) pages (now shadow) ⌝ }
+    ensures { λ r. ⌜ (r, host t (now (words .entry)) (now (shadow .exit))) ≡ served (now (frames .entry)) pages (host t (now (words .entry)) (now (shadow .entry))) user a ⌝ }
+{
+    if user {
+        return look(words, frames, shadow, pages, t, a / 4096);
+    }
+    straight(frames, pages, a)
+}
+
+// The word at address a.
+pub fn load(
+    words: &[u32],
+    frames: &[u32],
+    shadow: &mut [u32],
+    pages: u32,
+    t: Table,
+    user: bool,
+    a: u32,
+) -> Access
+    requires { ⌜ Placed (now frames) pages (length (now words)) ⌝ ∗ ⌜ Shadowed (now frames) pages (now shadow) ⌝ }
+    ensures { λ r. ⌜ (r, host t (now (words .entry)) (now (shadow .exit))) ≡ hostReads (now (frames .entry)) pages (host t (now (words .entry)) (now (shadow .entry))) user a ⌝ }
+{
+    let e = serve(words, frames, shadow, pages, t, user, a);
+    if e / 2048 % 2 == 1 {
+        return Access::Word(words[wide(e / 4096) * 1024 + wide(a / 4 % 1024)]);
+    }
+    Access::Fault
+}
+
+// One word of a frame.
+fn put(frame: &mut [u32], off: usize, v: u32)
+    requires { ⌜ off < length (now frame) ⌝ }
+    ensures { λ r. ⌜ now (frame .exit) ≡ set (now (frame .entry)) off v ⌝ }
+{
+    frame[off] = v;
+}
+
+// What a store into a frame empties: entry `off`, where the frame holds the table.
+fn empty_entry(frames: &[u32], shadow: &mut [u32], pages: u32, t: Table, frame: u32, off: u32)
+    requires { ⌜ Listed (now frames) pages ⌝ ∗ ⌜ length (now shadow) ≡ 256 ⌝ }
+    ensures { λ r. ⌜ now (shadow .exit) ≡ emptied (now (frames .entry)) pages t frame off (now (shadow .entry)) ⌝ }
+{
+    let pto = t.pto;
+    if pto >= pages {
+        return;
+    }
+    if frames[wide(pto)] != frame {
+        return;
+    }
+    if off >= t.ptl {
+        return;
+    }
+    if off >= ENTRIES {
+        return;
+    }
+    shadow[wide(off)] = 0;
+}
+
+// The word at address a becomes v. Answers whether the store was made.
+pub fn store(
+    words: &mut [u32],
+    frames: &[u32],
+    shadow: &mut [u32],
+    pages: u32,
+    t: Table,
+    user: bool,
+    a: u32,
+    v: u32,
+) -> bool
+    requires { ⌜ Placed (now frames) pages (length (now words)) ⌝ ∗ ⌜ Shadowed (now frames) pages (now shadow) ⌝ }
+    ensures { λ r. ⌜ (r, host t (now (words .exit)) (now (shadow .exit))) ≡ hostWrites (now (frames .entry)) pages (host t (now (words .entry)) (now (shadow .entry))) user a (λ _. v) ⌝ }
+{
+    let e = serve(words, frames, shadow, pages, t, user, a);
+    if e / 2048 % 2 != 1 {
+        return false;
+    }
+    if e / 1024 % 2 == 1 {
+        return false;
+    }
+    let off = a / 4 % 1024;
+    let base = wide(e / 4096) * 1024;
+    let end = base + 1024;
+    put(&mut words[base..end], wide(off), v);
+    empty_entry(frames, shadow, pages, t, e / 4096, off);
+    true
+}
+
+// A fresh shadow table.
+pub fn fresh_shadow() -> [u32; 256]
+    ensures { λ r. ⌜ r ≡ freshShadow ⌝ }
+{
+    [0; 256]
+}
+
+// The words of one list, written over another of the same length.
+pub fn copy(to: &mut [u32], from: &[u32])
+    requires { ⌜ length (now to) ≡ length (now from) ⌝ }
+    ensures { λ r. ⌜ now (to .exit) ≡ now (from .entry) ⌝ }
+{
+    let mut i = 0;
+    while i < from.len() {
+        to[i] = from[i];
+        i += 1;
+    }
+}
+
+// All entries become empty.
+pub fn clear(shadow: &mut [u32])
+    requires { ⌜ length (now shadow) ≡ 256 ⌝ }
+    ensures { λ r. ⌜ now (shadow .exit) ≡ freshShadow ⌝ }
+{
+    let fresh = fresh_shadow();
+    copy(shadow, &fresh);
+}
