@@ -92,15 +92,7 @@ fn access(
     let next = std::num::wrapping_add_u32(p.pc, 4);
     match e {
         Effect::Done(c) => c,
-        Effect::Load(rd, a) => match shadow::load(
-            words,
-            frames,
-            shadow,
-            pages,
-            t,
-            p.mode == 1,
-            a,
-        ) {
+        Effect::Load(rd, a) => match shadow::load(words, frames, shadow, pages, t, p.mode == 1, a) {
             Access::Fault => Change::Cause(Partition::PFLS, a),
             Access::Word(w) => Change::Plain(rd, w, next),
         },
