@@ -1,5 +1,5 @@
 -- What a word's reading, and a sum and a difference of two, are bounded by; that bits tell a number; that an extended field reads as the field.
-use mathlib.Core.Path.{_≡_, refl, sym, ap, _∙_}
+use mathlib.Core.Path.{_≡_, refl, sym, ap, subst, _∙_}
 use mathlib.Core.Bool.{Bool, true, false, cond}
 use Prim.Native.Nat.{ℕ, zero, suc, _+_, _-_, _*_, _%_, _^_, _≤_, _<_}
 use native.Mathlib.Nat.{mod-lt}
@@ -12,7 +12,7 @@ use mir.Syntax.{w64}
 use mir.Val.{SFits, ofZ, toZ}
 use mir.ValLaws.{toZ-ofZ}
 use Rattle.dlx.specs.Choice.{if_then_else_}
-use Rattle.dlx.specs.Words.{readIn, readingOf, eqZ, extendedBy}
+use Rattle.dlx.specs.Words.{readIn, readingOf, eqZ, outsideOf, extendedBy}
 
 cut : (t : Bool) (x : ℕ) → ltb x (2 ^ 31) ≡ t → x < 2 ^ 32 → mag (if t then pos x else subℕ x (2 ^ 32)) < 2 ^ 31
 cut true x e h = omega (arith, ltb-true x (2 ^ 31) e)
@@ -38,17 +38,30 @@ mag-add (negsuc a) (pos b) = omega (arith, mag-cond (ltb b (suc a)) b (suc a))
 mag-add (negsuc a) (negsuc b) = omega arith
 
 -- the exact sum and the exact difference of two words' readings fit an i64
+fits : (x y : ℤ) → mag x + mag y < 2 ^ 32 → SFits w64 (x +ℤ y)
+fits x y h = record { sfits = omega (arith, mag-add x y) }
+
 module _ (a b : ℕ) (h : a < 2 ^ 32) (k : b < 2 ^ 32) where
   pub sum-fits : SFits w64 (readingOf a +ℤ readingOf b)
-  sum-fits = record { sfits = omega (arith, mag-add (readingOf a) (readingOf b), mag-read a h, mag-read b k) }
+  sum-fits = fits (readingOf a) (readingOf b) (omega (arith, mag-read a h, mag-read b k))
 
   pub difference-fits : SFits w64 (readingOf a -ℤ readingOf b)
-  difference-fits =
-      record { sfits = omega (arith, mag-add (readingOf a) (negℤ (readingOf b)), mag-neg (readingOf b), mag-read a h, mag-read b k) }
+  difference-fits = fits (readingOf a) (negℤ (readingOf b)) (omega (arith, mag-neg (readingOf b), mag-read a h, mag-read b k))
 
 -- what a local of a signed number z is read back as
 pub kept : {z v : ℤ} → z ≡ v → mag z < 2 ^ 63 → toZ w64 (ofZ w64 z) ≡ v
 kept {z} e h = toZ-ofZ w64 z (record { sfits = h }) ∙ e
+
+-- the result of an operation on two such locals fits one too, and is outside where the exact result is
+module _ (op : ℤ → ℤ → ℤ) {x y u v : ℤ} (p : x ≡ u) (q : y ≡ v) (h : mag x < 2 ^ 63) (k : mag y < 2 ^ 63) (f : SFits w64 (op u v)) where
+  exact : op (toZ w64 (ofZ w64 x)) (toZ w64 (ofZ w64 y)) ≡ op u v
+  exact = simp (kept p h, kept q k)
+
+  pub result-fits : SFits w64 (op (toZ w64 (ofZ w64 x)) (toZ w64 (ofZ w64 y)))
+  result-fits = subst (λ (z : ℤ). SFits w64 z) (sym exact) f
+
+  pub result-outside : {b : Bool} → b ≡ outsideOf (toZ w64 (ofZ w64 (op (toZ w64 (ofZ w64 x)) (toZ w64 (ofZ w64 y))))) → b ≡ outsideOf (op u v)
+  result-outside e = e ∙ ap outsideOf (toZ-ofZ w64 _ result-fits ∙ exact)
 
 -- a number's bits tell it
 module _ (a b : ℕ) where

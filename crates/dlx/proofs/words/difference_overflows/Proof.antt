@@ -1,6 +1,5 @@
-use mir.ValLaws.{toZ-ofZ}
-use mir.Syntax.{w64}
-use Rattle.dlx.proofs.Signed.{kept, difference-fits}
+use lib.IntN.{_-ℤ_}
+use Rattle.dlx.proofs.Signed.{difference-fits, result-fits, result-outside}
 use borrow.Author.Needs.{needs}
 use Rattle.dlx.proofs.words.difference_overflows.Statement.{statement}
 use Rattle.dlx.proofs.words.difference_overflows.Tie as tie
@@ -13,8 +12,8 @@ reading-requires-2 c κs = search needs
 
 sub-z : tie.Need-sub-z
 sub-z c =
-    simp (kept (c .before .reading .ensures) (c .before .reading .ok), kept (c .reading2 .ensures) (c .reading2 .ok))
-    (difference-fits _ _ (c .before .before .fits .x .fits) (c .before .before .fits .y .fits))
+    let f = c .before .before .fits in
+    result-fits _-ℤ_ (c .before .reading .ensures) (c .reading2 .ensures) (c .before .reading .ok) (c .reading2 .ok) (difference-fits _ _ (f .x .fits) (f .y .fits))
 
 outside-requires : tie.Need-outside-requires
 outside-requires c κs = search needs
@@ -23,7 +22,8 @@ returns : tie.Need-returns
 returns c =
     let s = c .before in
     let f = s .before .before .fits in
-    simp (c .outside .ensures, kept (s .before .reading .ensures) (s .before .reading .ok), kept (s .reading2 .ensures) (s .reading2 .ok), toZ-ofZ w64 _ (difference-fits _ _ (f .x .fits) (f .y .fits)))
+    result-outside _-ℤ_ (s .before .reading .ensures) (s .reading2 .ensures) (s .before .reading .ok) (s .reading2 .ok) (difference-fits _ _ (f .x .fits) (f .y .fits))
+    (c .outside .ensures)
 
 pub difference-overflows-spec : {M : Type 1} → statement M
 difference-overflows-spec =
