@@ -6,4 +6,3 @@ pub mod Parts
 pub mod Places
 pub mod Signed
 pub mod Tests
-pub mod Xor

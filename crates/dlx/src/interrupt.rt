@@ -1,59 +1,10 @@
-// Interrupts: the level, entry and return.
+// The level of a cause word.
 ghost use mathlib.Core.Path.{_≡_};
-ghost use Rattle.dlx.specs.Interrupts.{levelOf, entered, interrupted, returned};
-use crate::partition::Processor;
+ghost use Rattle.dlx.specs.Interrupts.{levelOf};
 
 // The lowest set bit of a cause word, 32 for 0.
 pub fn level(causes: u32) -> u32
     ensures { λ r. ⌜ r ≡ levelOf causes ⌝ }
 {
     u32::trailing_zeros(causes)
-}
-
-// The handler's state, with the pair and the datum that it finds saved.
-fn enter(p: Processor, causes: u32, edpc: u32, epc: u32, edata: u32) -> Processor
-    ensures { λ r. ⌜ r ≡ entered p causes edpc epc edata ⌝ }
-{
-    Processor {
-        dpc: 0,
-        pc: 4,
-        sr: 0,
-        esr: p.sr,
-        eca: causes,
-        epc,
-        edpc,
-        edata,
-        mode: 0,
-        emode: p.mode,
-    }
-}
-
-// Interrupt entry by the masked cause word. The datum is what its level brings for EDATA, if it brings one.
-pub fn interrupt(p: Processor, causes: u32, datum: u32) -> Processor
-    ensures { λ r. ⌜ r ≡ interrupted p causes datum ⌝ }
-{
-    let l = level(causes);
-    if l == 3 {
-        return enter(p, causes, p.dpc, p.pc, datum);
-    }
-    if l == 4 {
-        return enter(p, causes, p.dpc, p.pc, datum);
-    }
-    let behind = std::num::wrapping_add_u32(p.pc, 4);
-    if l == 5 {
-        return enter(p, causes, p.pc, behind, datum);
-    }
-    enter(p, causes, p.pc, behind, p.edata)
-}
-
-// rfe.
-pub fn return_from_exception(p: Processor) -> Processor
-    ensures { λ r. ⌜ r ≡ returned p ⌝ }
-{
-    let mut r = p;
-    r.dpc = p.edpc;
-    r.pc = p.epc;
-    r.sr = p.esr;
-    r.mode = p.emode;
-    r
 }

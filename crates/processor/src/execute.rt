@@ -8,23 +8,23 @@ ghost use Rattle.dlx.specs.declared.execute.Change.the-variants.{Plain};
 ghost use Rattle.dlx.specs.declared.execute.Effect.the-variants.{Done};
 ghost use Rattle.dlx.specs.Execute.{valueOf, overflowsOf, operated, reached, loads, stores, jumped, inSystem, movedTo, trapOf, effectOf, written};
 ghost use Rattle.dlx.specs.Machine.{core, outcome, Places, settled};
+use crate::interrupt::interrupt;
+use crate::interrupt::return_from_exception;
+use crate::special::go;
+use crate::special::set_special;
+use crate::special::special;
+use crate::words::difference_overflows;
+use crate::words::sum_overflows;
+use crate::words::test;
 use dlx::execute::Change;
 use dlx::execute::Effect;
 use dlx::execute::Settled;
 use dlx::instruction::Instruction;
 use dlx::instruction::Operation;
-use dlx::interrupt::interrupt;
 use dlx::interrupt::level;
-use dlx::interrupt::return_from_exception;
 use dlx::partition::Partition;
 use dlx::partition::Processor;
 use dlx::partition::Table;
-use dlx::partition::go;
-use dlx::partition::set_special;
-use dlx::partition::special;
-use dlx::words::difference_overflows;
-use dlx::words::sum_overflows;
-use dlx::words::test;
 
 fn value(op: Operation, x: u32, y: u32) -> u32
     ensures { λ r. ⌜ r ≡ valueOf op x y ⌝ }

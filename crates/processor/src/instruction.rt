@@ -1,9 +1,9 @@
 // The instruction tables: a word is first read as an instruction.
 ghost use mathlib.Core.Path.{_≡_};
 ghost use Rattle.dlx.specs.Instructions.{instructionOf, registerType};
+use crate::words::extend;
 use dlx::instruction::Instruction;
 use dlx::instruction::Operation;
-use dlx::words::extend;
 use dlx::words::wide;
 
 // The words of opcode 0.

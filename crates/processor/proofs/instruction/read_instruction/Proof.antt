@@ -9,7 +9,7 @@ use Rattle.processor.proofs.instruction.read_instruction.Tie as tie
 use Rattle.processor.proofs.instruction.read_instruction.Reads as reads
 use Rattle.processor.proofs.instruction.read_instruction.Lts as lts
 use Rattle.processor.proofs.instruction.read_register_type.Reads as read-register-type-reads
-use Rattle.dlx.proofs.words.extend.Reads as extend-reads
+use Rattle.processor.proofs.words.extend.Reads as extend-reads
 use Rattle.dlx.proofs.words.wide.Reads as wide-reads
 
 -- the range's lower test is made where 22 and 23 are told apart already

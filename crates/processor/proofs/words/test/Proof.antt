@@ -1,7 +1,7 @@
 use Rattle.dlx.proofs.Signed.{kept}
 use borrow.Author.Needs.{needs}
-use Rattle.dlx.proofs.words.test.Statement.{statement}
-use Rattle.dlx.proofs.words.test.Tie as tie
+use Rattle.processor.proofs.words.test.Statement.{statement}
+use Rattle.processor.proofs.words.test.Tie as tie
 
 reading-requires : tie.Need-reading-requires
 reading-requires c κs = search needs

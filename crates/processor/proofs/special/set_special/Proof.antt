@@ -1,7 +1,7 @@
 use Rattle.dlx.specs.Processor.{withSpecial}
 use borrow.Author.Tests.{ne-eqb}
-use Rattle.dlx.proofs.partition.set_special.Statement.{statement}
-use Rattle.dlx.proofs.partition.set_special.Tie as tie
+use Rattle.processor.proofs.special.set_special.Statement.{statement}
+use Rattle.processor.proofs.special.set_special.Tie as tie
 
 returns : tie.Need-returns
 unfolding withSpecial

@@ -1,8 +1,8 @@
 use lib.IntN.{_+ℤ_}
 use Rattle.dlx.proofs.Signed.{sum-fits, result-fits, result-outside}
 use borrow.Author.Needs.{needs}
-use Rattle.dlx.proofs.words.sum_overflows.Statement.{statement}
-use Rattle.dlx.proofs.words.sum_overflows.Tie as tie
+use Rattle.processor.proofs.words.sum_overflows.Statement.{statement}
+use Rattle.processor.proofs.words.sum_overflows.Tie as tie
 
 reading-requires : tie.Need-reading-requires
 reading-requires c κs = search needs

@@ -1,8 +1,8 @@
 use Rattle.dlx.specs.Interrupts.{interrupted}
 use borrow.Author.Tests.{eq-eqb, ne-eqb}
 use borrow.Author.Needs.{needs}
-use Rattle.dlx.proofs.interrupt.interrupt.Statement.{statement}
-use Rattle.dlx.proofs.interrupt.interrupt.Tie as tie
+use Rattle.processor.proofs.interrupt.interrupt.Statement.{statement}
+use Rattle.processor.proofs.interrupt.interrupt.Tie as tie
 
 level-requires : tie.Need-level-requires
 level-requires c κs = search needs

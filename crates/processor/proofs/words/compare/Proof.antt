@@ -1,10 +1,10 @@
 use borrow.Author.Tests.{ne-eqb}
 use mir.Syntax.{w64}
 use mir.ValLaws.{toZ-ofZ}
 use Rattle.dlx.specs.Words.{holds}
 use Rattle.dlx.proofs.Signed.{same-bits}
-use Rattle.dlx.proofs.words.compare.Statement.{statement}
-use Rattle.dlx.proofs.words.compare.Tie as tie
+use Rattle.processor.proofs.words.compare.Statement.{statement}
+use Rattle.processor.proofs.words.compare.Tie as tie
 
 returns : tie.Need-returns
 unfolding holds

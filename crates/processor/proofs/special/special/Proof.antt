@@ -1,7 +1,7 @@
 use Rattle.dlx.specs.Processor.{specialOf}
 use borrow.Author.Tests.{ne-eqb}
-use Rattle.dlx.proofs.partition.special.Statement.{statement}
-use Rattle.dlx.proofs.partition.special.Tie as tie
+use Rattle.processor.proofs.special.special.Statement.{statement}
+use Rattle.processor.proofs.special.special.Tie as tie
 
 returns : tie.Need-returns
 unfolding specialOf

@@ -4,9 +4,9 @@ use borrow.Author.Tests.{lt-ltb, le-ltb}
 use borrow.Author.Needs.{needs}
 use mir.Syntax.{w64}
 use mir.ValLaws.{toZ-pos, toZ-ofZ}
 use Rattle.dlx.specs.Words.{readIn}
-use Rattle.dlx.proofs.words.reading.Statement.{statement}
-use Rattle.dlx.proofs.words.reading.Tie as tie
+use Rattle.processor.proofs.words.reading.Statement.{statement}
+use Rattle.processor.proofs.words.reading.Tie as tie
 
 cast-result : tie.Need-cast-result
 cast-result c = search needs

@@ -1,14 +1,14 @@
-use Rattle.dlx.proofs.Xor.{flip-extends, half-small}
+use Rattle.processor.proofs.Xor.{flip-extends, half-small}
 use Rattle.dlx.specs.Words.{extendedBy}
 use lib.Bits.{bitXor}
 use Prim.Native.Nat.{ℕ, _+_, _*_, _%_, _^_}
 use mathlib.Core.Path.{_≡_, sym, subst}
 use native.Mathlib.Omega.{arith}
 use borrow.Author.Needs.{needs}
-use Rattle.dlx.proofs.words.extend.Statement.{statement}
-use Rattle.dlx.proofs.words.extend.Tie as tie
-use Rattle.dlx.proofs.words.extend.Reads as reads
-use Rattle.dlx.proofs.words.extend.Lts as lts
+use Rattle.processor.proofs.words.extend.Statement.{statement}
+use Rattle.processor.proofs.words.extend.Tie as tie
+use Rattle.processor.proofs.words.extend.Reads as reads
+use Rattle.processor.proofs.words.extend.Lts as lts
 use Rattle.std.proofs.num.wrapping_sub_u32.Reads as wrapping-sub-u32-reads
 
 -- src/words.rt:66:22
