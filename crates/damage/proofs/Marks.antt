@@ -1,12 +1,12 @@
 -- Laws of the marks: what a frame's mark says of the lists, and that the looks by marks are the definition's searches.
 use mathlib.Core.Path.{_≡_, refl, sym, subst, ap, _∙_}
 use mathlib.Core.Bool.{Bool, true, false, not, Bool·not-not, _||_, or-true}
-use mathlib.Core.List.{List}
+use mathlib.Core.List.{List, [], _∷_}
 use Prim.Native.Nat.{ℕ, zero, suc, _+_, _-_, _*_, _/_, _%_, _<_, _≤_}
 use native.Mathlib.Numerals.{add-one}
 use native.Mathlib.Nat.{add-sub-cancel-left}
 use native.Mathlib.Omega.{arith}
-use borrow.Author.Tests.{not-false, eqb-true, eq-eqb, ne-eqb, leb-true, leb-false}
+use borrow.Author.Tests.{not-false, eqb-true, eq-eqb, ne-eqb, le-leb, lt-leb, leb-true, leb-false}
 use lib.Dec.{eqb, leb}
 use lib.ListN.{length, getD, set, take, drop, length-set, length-replicate, getD-replicate, List·getD-eq-default}
 use lib.Seq.{getD-set-same, getD-set-other}
@@ -17,9 +17,11 @@ use Rattle.translate.specs.Entries.{number}
 use Rattle.translate.specs.Walk.{entries}
 use Rattle.dlx.specs.Parts.{inner}
 use Rattle.house.specs.Lists.{any, between}
-use Rattle.house.specs.Damage.{stands, entryWrong, wholeFrames}
+use Rattle.house.specs.House.{noPartition}
+use Rattle.house.specs.Damage.{stands, entryWrong, wholeFrames, notZero, partitionUsed, damaged, outsideLimits, frameTwice, turnWrong, registersWrong, shadowWrong, unusedWrong, queuesWrong}
+use Rattle.house.specs.declared.House.{House}
 use Rattle.house.proofs.Lists.Bounded.{one-way, same-test, or-left, or-right, any-yes, any-at, any-none, any-same, and-right}
-use Rattle.damage.specs.Marks.{Within, shadowMarked, shadowOutside, pagesAt, partAt, pagesOutside, frameOutside, framesOutside, marked, ownersOf, twiceMarked, twiceAt, twiceIn, entryMarked, outside}
+use Rattle.damage.specs.Marks.{Within, shadowMarked, shadowOutside, pagesAt, partAt, pagesOutside, frameOutside, framesOutside, marked, ownersOf, twiceMarked, twiceAt, twiceIn, entryMarked, sizesOutside, outside, turnOutside, registersAt, roomWrong, queueAt, inside}
 
 -- partition i's part of a list, as the code lends it
 pub part-is : (l : List ℕ) (i : ℕ) → take (i * 256 + 256 - i * 256) (drop (i * 256) l) ≡ partAt l i
@@ -154,24 +156,38 @@ pages-within ps n h i l =
     leb-true (pagesAt ps i) 256
     (and-right (leb 1 (pagesAt ps i)) _ (not-false _ (any-none (pagesOutside ps) n h i l)))
 
-none-of-five : (a b c d e : Bool) → (a || b || c || d || e) ≡ false → (a ≡ false) × (b ≡ false) × (c ≡ false) × (d ≡ false) × (e ≡ false)
-none-of-five true b c d e h = one-way true refl h
-none-of-five false true c d e h = one-way true refl h
-none-of-five false false true d e h = one-way true refl h
-none-of-five false false false true e h = one-way true refl h
-none-of-five false false false false e h = (refl, refl, refl, refl, h)
+module _ (ps : List Partition) (i n : ℕ) (e : n ≡ pagesAt ps i) where
+  pub few-pages : n < 1 → pagesOutside ps i ≡ true
+  few-pages l = subst (λ (x : ℕ). not (between 1 x 256) ≡ true) e (rw (lt-leb 1 n l))
+
+  pub many-pages : 1 ≤ n → 256 < n → pagesOutside ps i ≡ true
+  many-pages l m = subst (λ (x : ℕ). not (between 1 x 256) ≡ true) e (rw (le-leb 1 n l, lt-leb n 256 m))
+
+  pub fit-pages : 1 ≤ n → n ≤ 256 → pagesOutside ps i ≡ false
+  fit-pages l m = subst (λ (x : ℕ). not (between 1 x 256) ≡ false) e (rw (le-leb 1 n l, le-leb n 256 m))
+
+pub sizes-within : (count q words : ℕ) → sizesOutside count q words ≡ false → (count ≤ 8) × (words / 1024 ≤ 1024)
+sizes-within count q words h =
+    let n = not (between 1 count 8) in
+    let t = not (between 1 q 10000) in
+    let s = words / 1024 in (
+      leb-true count 8 (and-right (leb 1 count) (leb count 8) (not-false (between 1 count 8) (or-left n t (or-left (n || t) (not (wholeFrames words)) h)))),
+      leb-true s 1024 (and-right (leb 1 s) (leb s 1024) (and-right (eqb (words % 1024) 0) (between 1 s 1024) (not-false (wholeFrames words) (or-right (n || t) (not (wholeFrames words)) h)))),
+    )
 
 pub within : (count q words : ℕ) (ps : List Partition) (fr : List ℕ) → outside count q words ps fr ≡ false → Within count ps fr
 within count q words ps fr h =
     let size = words / 1024 in
-    let f = none-of-five (not (between 1 count 8)) (any (pagesOutside ps) count) (not (between 1 q 10000)) (not (wholeFrames words)) (any (framesOutside ps fr size) count) h in
+    let pages = any (pagesOutside ps) count in
+    let frames = any (framesOutside ps fr size) count in
+    let first = or-left (sizesOutside count q words || pages) frames h in
+    let sizes = sizes-within count q words (or-left (sizesOutside count q words) pages first) in
     record {
-      few = leb-true count 8 (and-right (leb 1 count) (leb count 8) (not-false (between 1 count 8) (f .0)));
-      pages = pages-within ps count (f .1);
+      few = sizes .0;
+      pages = pages-within ps count (or-right (sizesOutside count q words) pages first);
       below = λ i l k m.
-          let small : size ≤ 1024 = leb-true size 1024 (and-right (leb 1 size) (leb size 1024) (and-right (eqb (words % 1024) 0) (between 1 size 1024) (not-false (wholeFrames words) (f .3)))) in
-          let less : getD (partAt fr i) k 0 < size = leb-false size (getD (partAt fr i) k 0) (any-none (frameOutside (partAt fr i) size) (pagesAt ps i) (any-none (framesOutside ps fr size) count (f .4) i l) k m) in
-          omega (arith, small, less);
+          let less : getD (partAt fr i) k 0 < size = leb-false size (getD (partAt fr i) k 0) (any-none (frameOutside (partAt fr i) size) (pagesAt ps i) (any-none (framesOutside ps fr size) count (or-right (sizesOutside count q words || pages) frames h) i l) k m) in
+          omega (arith, sizes .1, less);
     }
 
 pub shadows-by-marks : (count : ℕ) (ps : List Partition) (fr sh o : List ℕ) → Within count ps fr → any (twiceIn ps fr) count ≡ false → o ≡ ownersOf ps fr count → any (shadowMarked o sh) count ≡ any (shadowOutside ps fr sh) count
@@ -182,3 +198,124 @@ shadows-by-marks count ps fr sh o w once e =
     (λ px. entryWrong (partAt fr i) (pagesAt ps i) (getD (partAt sh i) px 0))
     entries
     (λ px m. entry-by-marks ps fr count i (w .below i l) once l (getD (partAt sh i) px 0))))
+
+-- ---- the conditions in the order in which the code looks
+
+module _ (count q words n : ℕ) (ps : List Partition) (fr : List ℕ) (w : n ≡ count) where
+  pub sizes-found : sizesOutside count q words ≡ true → true ≡ outside count q words ps fr
+  sizes-found a = rw a refl
+
+  pub pages-found : sizesOutside count q words ≡ false → any (pagesOutside ps) n ≡ true → true ≡ outside count q words ps fr
+  pages-found a b = rw (a, rw w at b) refl
+
+  pub frames-found : (r : Bool) → sizesOutside count q words ≡ false → any (pagesOutside ps) n ≡ false → r ≡ any (framesOutside ps fr (words / 1024)) n → r ≡ outside count q words ps fr
+  frames-found r a b e = rw (a, rw w at b) (rw w at e)
+
+module _ (count q current left n : ℕ) (running : List Bool) (ps : List Partition) (rs fr sh : List ℕ) (w : n ≡ count) where
+  abbrev within-limits : Bool
+  within-limits = inside count q current left running ps rs fr sh
+
+  pub twice-found : any (twiceIn ps fr) n ≡ true → true ≡ within-limits
+  twice-found a = simp (rw w at a)
+
+  module _ (once : any (twiceIn ps fr) n ≡ false) where
+    pub turn-found : turnOutside count q current left running ≡ true → true ≡ within-limits
+    turn-found b = simp (rw w at once, b)
+
+    module _ (turn : turnOutside count q current left running ≡ false) where
+      pub registers-found : any (registersAt ps rs) n ≡ true → true ≡ within-limits
+      registers-found b = simp (rw w at once, turn, rw w at b)
+
+      module _ (registers : any (registersAt ps rs) n ≡ false) (good : Within count ps fr) (o : List ℕ) (marks : o ≡ ownersOf ps fr n) where
+        by-marks : any (shadowMarked o sh) n ≡ any (shadowOutside ps fr sh) count
+        by-marks = rw w (shadows-by-marks count ps fr sh o good (rw w at once) (rw w at marks))
+
+        pub shadow-found : any (shadowMarked o sh) n ≡ true → true ≡ within-limits
+        shadow-found b = simp (rw w at once, turn, rw w at registers, sym by-marks ∙ b)
+
+        pub unused-found : (r : Bool) → any (shadowMarked o sh) n ≡ false → r ≡ any (λ i. roomWrong n i (getD running i false) (getD ps i noPartition) rs fr sh) 8 → r ≡ within-limits
+        unused-found r b e = simp (rw w at once, turn, rw w at registers, sym by-marks ∙ b) (rw w at e)
+
+-- the definition's conditions, as the code groups them
+regrouped : (a b c d e f t r s u q : Bool) → ((a || b || c || d || e) || f || t || r || s || u || q) ≡ ((a || c || d) || b || e || (f || t || r || s || u) || q)
+regrouped true b c d e f t r s u q = refl
+regrouped false true true d e f t r s u q = refl
+regrouped false true false true e f t r s u q = refl
+regrouped false true false false e f t r s u q = refl
+regrouped false false true d e f t r s u q = refl
+regrouped false false false true e f t r s u q = refl
+regrouped false false false false true f t r s u q = refl
+regrouped false false false false false f t r s u q = refl
+
+module _ (h : House) where
+  abbrev limits : Bool
+  limits = outside (h .count) (h .q) (h .words) (h .parts) (h .frames)
+
+  abbrev parts-wrong : Bool
+  parts-wrong = inside (h .count) (h .q) (h .current) (h .left) (h .running) (h .parts) (h .regs) (h .frames) (h .shadows)
+
+  abbrev queues : Bool
+  queues = any (queueAt (h .count) (h .tickets) (h .waiting)) 8
+
+  grouped : damaged h ≡ (limits || parts-wrong || queues)
+  unfolding damaged outsideLimits frameTwice turnWrong registersWrong shadowWrong unusedWrong queuesWrong
+  grouped =
+      regrouped
+      (not (between 1 (h .count) 8))
+      (any (pagesOutside (h .parts)) (h .count))
+      (not (between 1 (h .q) 10000))
+      (not (wholeFrames (h .words)))
+      (any (framesOutside (h .parts) (h .frames) (h .words / 1024)) (h .count))
+      (any (twiceIn (h .parts) (h .frames)) (h .count))
+      (turnOutside (h .count) (h .q) (h .current) (h .left) (h .running))
+      (any (registersAt (h .parts) (h .regs)) (h .count))
+      (any (shadowOutside (h .parts) (h .frames) (h .shadows)) (h .count))
+      (any (λ i. roomWrong (h .count) i (getD (h .running) i false) (getD (h .parts) i noPartition) (h .regs) (h .frames) (h .shadows)) 8)
+      queues
+
+  pub limits-found : limits ≡ true → true ≡ damaged h
+  limits-found a = sym (grouped ∙ rw a refl)
+
+  pub inside-found : limits ≡ false → parts-wrong ≡ true → true ≡ damaged h
+  inside-found a b = sym (grouped ∙ rw (a, b) refl)
+
+  pub queues-found : (r : Bool) → limits ≡ false → parts-wrong ≡ false → r ≡ queues → r ≡ damaged h
+  queues-found r a b e = e ∙ sym (grouped ∙ rw (a, b) refl)
+
+-- ---- a partition that isn't there
+
+or-false : (b : Bool) → (b || false) ≡ b
+or-false true = refl
+or-false false = refl
+
+-- a search looks at the last place first
+or-turned : (a x y : Bool) → x ≡ y → (a || x) ≡ (y || a)
+or-turned true x y e = sym (or-true y)
+or-turned false x y e = e ∙ sym (or-false y)
+
+abbrev some : ℕ → Bool
+some n = not (eqb n 0)
+
+turned : (a b c d e f g h i j k l m : ℕ) → notZero (a ∷ b ∷ c ∷ d ∷ e ∷ f ∷ g ∷ h ∷ i ∷ j ∷ k ∷ l ∷ m ∷ []) 0 13 ≡ (some a || some b || some c || some d || some e || some f || some g || some h || some i || some j || some k || some l || some m)
+unfolding any
+turned a b c d e f g h i j k l m =
+    or-turned (some m) _ _ (or-turned (some l) _ _ (or-turned (some k) _ _ (or-turned (some j) _ _ (or-turned (some i) _ _ (or-turned (some h) _ _ (or-turned (some g) _ _ (or-turned (some f) _ _ (or-turned (some e) _ _ (or-turned (some d) _ _ (or-turned (some c) _ _ (or-turned (some b) _ _ (or-false (some a)))))))))))))
+
+module _ (p : Partition) (r : Bool) where
+  abbrev numbers : List ℕ
+  numbers =
+      p .pages ∷ p .processor .dpc ∷ p .processor .pc ∷ p .processor .sr ∷ p .processor .esr ∷ p .processor .eca ∷ p .processor .epc
+      ∷ p .processor .edpc ∷ p .processor .edata ∷ p .processor .mode ∷ p .processor .emode ∷ p .table .pto ∷ p .table .ptl ∷ []
+
+  used-is : partitionUsed p ≡ (notZero numbers 0 13 || some (p .counter))
+  unfolding partitionUsed
+  used-is =
+      let s = p .processor in
+      ap (λ (b : Bool). b || some (p .counter))
+      (sym (turned (p .pages) (s .dpc) (s .pc) (s .sr) (s .esr) (s .eca) (s .epc) (s .edpc) (s .edata) (s .mode) (s .emode) (p .table .pto) (p .table .ptl)))
+
+  pub number-used : r ≡ notZero numbers 0 13 → r ≡ true → true ≡ partitionUsed p
+  number-used e t = sym (used-is ∙ rw (sym e ∙ t) refl)
+
+  pub counter-used : r ≡ notZero numbers 0 13 → r ≡ false → not (eqb (p .counter) 0) ≡ partitionUsed p
+  counter-used e t = sym (used-is ∙ rw (sym e ∙ t) refl)

@@ -7,7 +7,7 @@ ghost use Rattle.translate.specs.Walk.{entries};
 ghost use Rattle.house.specs.Lists.{any};
 ghost use Rattle.house.specs.House.{noPartition};
 ghost use Rattle.house.specs.Damage.{damaged, partitionUsed, notZero};
-ghost use Rattle.damage.specs.Marks.{Within, inside, pagesAt, partAt, pagesOutside, frameOutside, framesOutside, outside, marked, ownersOf, twiceMarked, twiceIn, entryMarked, shadowMarked, turnOutside, processorWrong, registersAt, behind, roomWrong, countWrong, queueOutside, queueAt};
+ghost use Rattle.damage.specs.Marks.{Within, inside, pagesAt, partAt, pagesOutside, frameOutside, framesOutside, sizesOutside, outside, marked, ownersOf, twiceMarked, twiceIn, entryMarked, shadowMarked, turnOutside, processorWrong, registersAt, behind, roomWrong, countWrong, queueOutside, queueAt};
 use dlx::partition::Partition;
 use dlx::partition::Processor;
 use dlx::words::wide;
@@ -28,6 +28,15 @@ pub fn any_runs(running: &[bool; 8], n: usize) -> bool
     false
 }
 
+// Partition i's page count.
+fn pages_at(parts: [Partition; 8], i: usize) -> u32
+    requires { ⌜ i < 8 ⌝ }
+    ensures { λ r. ⌜ r ≡ pagesAt parts i ⌝ }
+{
+    let p = parts[i];
+    return p.pages;
+}
+
 // A page count of the first n partitions isn't 1 to 256.
 fn pages_outside(parts: [Partition; 8], n: usize) -> bool
     requires { ⌜ n ≤ 8 ⌝ }
@@ -35,11 +44,11 @@ fn pages_outside(parts: [Partition; 8], n: usize) -> bool
 {
     let mut i = 0;
     while i < n {
-        let p = parts[i];
-        if p.pages < 1 {
+        let pages = pages_at(parts, i);
+        if pages < 1 {
             return true;
         }
-        if p.pages > 256 {
+        if pages > 256 {
             return true;
         }
         i += 1;
@@ -69,10 +78,10 @@ fn frames_outside(parts: [Partition; 8], frames: &[u32], n: usize, size: u32) ->
 {
     let mut i: usize = 0;
     while i < n {
-        let p = parts[i];
+        let pages = wide(pages_at(parts, i));
         let a = i * 256;
         let e = a + 256;
-        if frame_outside(&frames[a..e], wide(p.pages), size) {
+        if frame_outside(&frames[a..e], pages, size) {
             return true;
         }
         i += 1;
@@ -80,19 +89,14 @@ fn frames_outside(parts: [Partition; 8], frames: &[u32], n: usize, size: u32) ->
     false
 }
 
-// The house is outside boot's limits.
-fn outside_limits(count: u32, q: u32, words: u32, parts: [Partition; 8], frames: &[u32]) -> bool
-    requires { ⌜ length (now frames) ≡ 2048 ⌝ }
-    ensures { λ r. ⌜ r ≡ outside count q words parts (now (frames .entry)) ⌝ }
+// The count, q or the memory's size is outside boot's limits.
+fn sizes_outside(count: u32, q: u32, words: u32) -> bool
+    ensures { λ r. ⌜ r ≡ sizesOutside count q words ⌝ }
 {
     if count < 1 {
         return true;
     }
     if count > 8 {
-        return true;
-    }
-    let n = wide(count);
-    if pages_outside(parts, n) {
         return true;
     }
     if q < 1 {
@@ -111,7 +115,22 @@ fn outside_limits(count: u32, q: u32, words: u32, parts: [Partition; 8], frames:
     if size > 1024 {
         return true;
     }
-    frames_outside(parts, frames, n, size)
+    false
+}
+
+// The house is outside boot's limits.
+fn outside_limits(count: u32, q: u32, words: u32, parts: [Partition; 8], frames: &[u32]) -> bool
+    requires { ⌜ length (now frames) ≡ 2048 ⌝ }
+    ensures { λ r. ⌜ r ≡ outside count q words parts (now (frames .entry)) ⌝ }
+{
+    if sizes_outside(count, q, words) {
+        return true;
+    }
+    let n = wide(count);
+    if pages_outside(parts, n) {
+        return true;
+    }
+    frames_outside(parts, frames, n, words / 1024)
 }
 
 // Marks the first n frames of a list with the tag, their partition's number + 1, up to one that has an owner already.
@@ -139,10 +158,10 @@ fn mark_all(parts: [Partition; 8], frames: &[u32], n: usize, owners: &mut [u32; 
     let mut tag: u32 = 1;
     let mut i: usize = 0;
     while i < n {
-        let p = parts[i];
+        let pages = wide(pages_at(parts, i));
         let a = i * 256;
         let e = a + 256;
-        if mark(&frames[a..e], wide(p.pages), tag, owners) {
+        if mark(&frames[a..e], pages, tag, owners) {
             return true;
         }
         tag += 1;
@@ -257,57 +276,6 @@ fn shadows_wrong(shadows: &[u32], n: usize, owners: &[u32; 1024]) -> bool
     false
 }
 
-// Anything but 0 in a partition that isn't there.
-fn partition_used(p: Partition) -> bool
-    ensures { λ r. ⌜ r ≡ partitionUsed p ⌝ }
-{
-    if p.pages != 0 {
-        return true;
-    }
-    let s = p.processor;
-    if s.dpc != 0 {
-        return true;
-    }
-    if s.pc != 0 {
-        return true;
-    }
-    if s.sr != 0 {
-        return true;
-    }
-    if s.esr != 0 {
-        return true;
-    }
-    if s.eca != 0 {
-        return true;
-    }
-    if s.epc != 0 {
-        return true;
-    }
-    if s.edpc != 0 {
-        return true;
-    }
-    if s.edata != 0 {
-        return true;
-    }
-    if s.mode != 0 {
-        return true;
-    }
-    if s.emode != 0 {
-        return true;
-    }
-    let t = p.table;
-    if t.pto != 0 {
-        return true;
-    }
-    if t.ptl != 0 {
-        return true;
-    }
-    if p.counter != 0 {
-        return true;
-    }
-    false
-}
-
 // Anything but 0 in the size places from base on.
 fn not_zero(l: &[u32], base: usize, size: usize) -> bool
     requires { ⌜ base + size ≤ length (now l) ⌝ }
@@ -321,6 +289,33 @@ fn not_zero(l: &[u32], base: usize, size: usize) -> bool
         k += 1;
     }
     false
+}
+
+// Anything but 0 in a partition that isn't there.
+fn partition_used(p: Partition) -> bool
+    ensures { λ r. ⌜ r ≡ partitionUsed p ⌝ }
+{
+    let s = p.processor;
+    let t = p.table;
+    let numbers = [
+        p.pages,
+        s.dpc,
+        s.pc,
+        s.sr,
+        s.esr,
+        s.eca,
+        s.epc,
+        s.edpc,
+        s.edata,
+        s.mode,
+        s.emode,
+        t.pto,
+        t.ptl,
+    ];
+    if not_zero(&numbers, 0, 13) {
+        return true;
+    }
+    return p.counter != 0;
 }
 
 // Anything but 0 behind the first n of a list: behind the frames, or behind the tickets.

@@ -1,6 +1,5 @@
 use mathlib.Core.Path.{_∙_, sym}
-use Rattle.damage.proofs.Marks.{within}
-use Rattle.house.specs.Damage.{damaged, outsideLimits, frameTwice, turnWrong, registersWrong, shadowWrong, unusedWrong, queuesWrong}
+use Rattle.damage.proofs.Marks.{within, limits-found, inside-found, queues-found}
 use borrow.Author.Needs.{needs}
 use Rattle.damage.proofs.damaged.Statement.{statement}
 use Rattle.damage.proofs.damaged.Tie as tie
@@ -12,8 +11,7 @@ outside-limits-requires : tie.Need-outside-limits-requires
 outside-limits-requires c κs = search needs
 
 returns : tie.Need-returns
-unfolding damaged outsideLimits
-returns c = simp (sym (c .before .outside-limits .ensures) ∙ c .if1 .taken)
+returns c = limits-found (c .before .before .before .before .before .before .before .before .before .before .args .h) (sym (c .before .outside-limits .ensures) ∙ c .if1 .taken)
 
 slice-aggregate-inside-wrong : tie.Need-slice-aggregate-inside-wrong
 slice-aggregate-inside-wrong c = search needs
@@ -28,8 +26,7 @@ inside-wrong-requires : tie.Need-inside-wrong-requires
 inside-wrong-requires c κs = let h = c .before .before .before .before .before .before .before .before .before .before .before .before .before .before .args .h in (within (h .count) (h .q) (h .words) (h .parts) (h .frames) (sym (c .before .before .before .before .before .outside-limits .ensures) ∙ c .before .before .before .before .if1 .left), search needs, search needs, search needs)
 
 returns-2 : tie.Need-returns-2
-unfolding damaged outsideLimits frameTwice turnWrong registersWrong shadowWrong unusedWrong
-returns-2 c = simp (sym (c .before .before .before .before .before .before .before .outside-limits .ensures) ∙ c .before .before .before .before .before .before .if1 .left, sym (c .before .inside-wrong .ensures) ∙ c .if2 .taken)
+returns-2 c = inside-found (c .before .before .before .before .before .before .before .before .before .before .before .before .before .before .before .before .args .h) (sym (c .before .before .before .before .before .before .before .outside-limits .ensures) ∙ c .before .before .before .before .before .before .if1 .left) (sym (c .before .inside-wrong .ensures) ∙ c .if2 .taken)
 
 slice-aggregate-queues-wrong : tie.Need-slice-aggregate-queues-wrong
 slice-aggregate-queues-wrong c = search needs
@@ -38,8 +35,7 @@ queues-wrong-requires : tie.Need-queues-wrong-requires
 queues-wrong-requires c κs = search (needs, c .before .before .before .before .before .before .before .before .before .before .before .before .before .before .before .before .before .before .good)
 
 returns-3 : tie.Need-returns-3
-unfolding damaged outsideLimits frameTwice turnWrong registersWrong shadowWrong unusedWrong queuesWrong
-returns-3 c = simp (sym (c .before .before .before .before .before .before .before .before .before .before .outside-limits .ensures) ∙ c .before .before .before .before .before .before .before .before .before .if1 .left, sym (c .before .before .before .before .inside-wrong .ensures) ∙ c .before .before .before .if2 .left) (c .queues-wrong .ensures)
+returns-3 c = queues-found (c .before .before .before .before .before .before .before .before .before .before .before .before .before .before .before .before .before .before .before .args .h) _ (sym (c .before .before .before .before .before .before .before .before .before .before .outside-limits .ensures) ∙ c .before .before .before .before .before .before .before .before .before .if1 .left) (sym (c .before .before .before .before .inside-wrong .ensures) ∙ c .before .before .before .if2 .left) (c .queues-wrong .ensures)
 
 pub damaged-spec : {M : Type 1} → statement M
 damaged-spec =

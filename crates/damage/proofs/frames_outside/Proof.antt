@@ -11,20 +11,20 @@ use Rattle.damage.proofs.frames_outside.Statement.{statement}
 use Rattle.damage.proofs.frames_outside.Tie as tie
 
 abbrev Inv-loop : tie.InvT-loop
-Inv-loop frames n size parts i₀ i = (any (framesOutside parts frames size) i ≡ false) × (i ≤ n)
+Inv-loop parts frames n size i₀ i = (any (framesOutside parts frames size) i ≡ false) × (i ≤ n)
 
 abbrev μ-loop : tie.MeasureT-loop
-μ-loop frames n size parts i₀ i = n - i
+μ-loop parts frames n size i₀ i = n - i
 
 loop-holds : tie.Need-loop-holds Inv-loop μ-loop
 unfolding any
 loop-holds c = (refl, zero-le)
 
-mul-p : tie.Need-mul-p Inv-loop μ-loop
-mul-p c = omega arith
+pages-at-requires : tie.Need-pages-at-requires Inv-loop μ-loop
+pages-at-requires c κs = omega arith
 
-array-copy-out-p : tie.Need-array-copy-out-p Inv-loop μ-loop
-array-copy-out-p c = omega arith
+wide-requires : tie.Need-wide-requires Inv-loop μ-loop
+wide-requires c κs = omega arith
 
 mul-a : tie.Need-mul-a Inv-loop μ-loop
 mul-a c = omega arith
@@ -44,15 +44,13 @@ part-frame-outside-start c = omega arith
 part-frame-outside-end : tie.Need-part-frame-outside-end Inv-loop μ-loop
 part-frame-outside-end c = omega arith
 
-wide-requires : tie.Need-wide-requires Inv-loop μ-loop
-wide-requires c κs = omega arith
-
 frame-outside-requires : tie.Need-frame-outside-requires Inv-loop μ-loop
-frame-outside-requires c κs = omega (arith, c .wide .ensures, c .before .before .before .before .before .before .pre .2 (c .before .before .before .before .loop .i) (c .before .before .before .loop-test .taken))
+frame-outside-requires c κs = omega (arith, c .before .wide .ensures, c .before .before .pages-at .ensures, c .before .before .before .before .before .before .pre .2 (c .before .before .before .before .loop .i) (c .before .before .before .loop-test .taken))
 
 returns : tie.Need-returns Inv-loop μ-loop
 unfolding inner
-returns c = let a = c .before .before .before .before .before .before .before .before .args in sym (any-yes (framesOutside (a .t1) (a .frames .now) (a .size)) _ (c .before .before .before .before .before .before .loop .i) (c .before .before .before .before .before .loop-test .taken) (simp (add-sub-cancel-left, c .before .before .wide .ensures) at (sym (c .before .frame-outside .ensures) ∙ c .if1 .taken)))
+returns c = let a = c .before .before .before .before .before .before .before .before .args in let l = c .before .before .before .before .before .before .loop in
+    sym (any-yes (framesOutside (a .parts) (a .frames .now) (a .size)) (a .n) (l .i) (c .before .before .before .before .before .loop-test .taken) (simp (add-sub-cancel-left, c .before .before .before .wide .ensures ∙ c .before .before .before .before .pages-at .ensures) at (sym (c .before .frame-outside .ensures) ∙ c .if1 .taken)))
 
 add-i : tie.Need-add-i Inv-loop μ-loop
 add-i c = omega arith
@@ -62,7 +60,8 @@ loop-less c = omega arith
 
 loop-again : tie.Need-loop-again Inv-loop μ-loop
 unfolding inner
-loop-again c = let a = c .before .before .before .before .before .before .before .before .args in (any-more (framesOutside (a .t1) (a .frames .now) (a .size)) (c .before .before .before .before .before .before .loop .i) (c .before .before .before .before .before .before .loop .inv .0) (simp (add-sub-cancel-left, c .before .before .wide .ensures) at (sym (c .before .frame-outside .ensures) ∙ c .if1 .left)), omega arith)
+loop-again c = let a = c .before .before .before .before .before .before .before .before .args in let l = c .before .before .before .before .before .before .loop in
+    (any-more (framesOutside (a .parts) (a .frames .now) (a .size)) (l .i) (l .inv .0) (simp (add-sub-cancel-left, c .before .before .before .wide .ensures ∙ c .before .before .before .before .pages-at .ensures) at (sym (c .before .frame-outside .ensures) ∙ c .if1 .left)), omega arith)
 
 returns-2 : tie.Need-returns-2 Inv-loop μ-loop
 returns-2 c = sym (rw (le-antisymm (c .loop-test .left) (c .before .loop .inv .1)) (c .before .loop .inv .0))
@@ -74,15 +73,14 @@ frames-outside-spec =
     Inv-loop
     μ-loop
     loop-holds
-    mul-p
-    array-copy-out-p
+    pages-at-requires
+    wide-requires
     mul-a
     add-e
     mul-frame-outside
     sub-frame-outside
     part-frame-outside-start
     part-frame-outside-end
-    wide-requires
     frame-outside-requires
     returns
     add-i

@@ -16,20 +16,20 @@ use Rattle.damage.proofs.mark_all.Statement.{statement}
 use Rattle.damage.proofs.mark_all.Tie as tie
 
 abbrev Inv-loop : tie.InvT-loop
-Inv-loop frames n owners₀ parts tag₀ i₀ owners tag i = (any (twiceIn parts frames) i ≡ false) × (owners ≡ ownersOf parts frames i) × (tag ≡ i + 1) × (i ≤ n)
+Inv-loop parts frames n owners₀ tag₀ i₀ owners tag i = (any (twiceIn parts frames) i ≡ false) × (owners ≡ ownersOf parts frames i) × (tag ≡ i + 1) × (i ≤ n)
 
 abbrev μ-loop : tie.MeasureT-loop
-μ-loop frames n owners₀ parts tag₀ i₀ owners tag i = n - i
+μ-loop parts frames n owners₀ tag₀ i₀ owners tag i = n - i
 
 loop-holds : tie.Need-loop-holds Inv-loop μ-loop
 unfolding any ownersOf
 loop-holds c = (refl, c .before .pre .3, refl, zero-le)
 
-mul-p : tie.Need-mul-p Inv-loop μ-loop
-mul-p c = omega arith
+pages-at-requires : tie.Need-pages-at-requires Inv-loop μ-loop
+pages-at-requires c κs = omega arith
 
-array-copy-out-p : tie.Need-array-copy-out-p Inv-loop μ-loop
-array-copy-out-p c = omega arith
+wide-requires : tie.Need-wide-requires Inv-loop μ-loop
+wide-requires c κs = search needs
 
 mul-a : tie.Need-mul-a Inv-loop μ-loop
 mul-a c = omega arith
@@ -49,23 +49,21 @@ part-mark-start c = omega arith
 part-mark-end : tie.Need-part-mark-end Inv-loop μ-loop
 part-mark-end c = omega arith
 
-wide-requires : tie.Need-wide-requires Inv-loop μ-loop
-wide-requires c κs = search needs
-
 mark-requires : tie.Need-mark-requires Inv-loop μ-loop
 unfolding inner
 mark-requires c κs = let l = c .before .before .before .before .before .loop in
-    let b = c .before .before .before .before .before .before .before .pre .2 (l .i) (c .before .before .before .before .loop-test .taken) in (
-      omega (arith, c .before .wide .ensures, b .0),
+    let b = c .before .before .before .before .before .before .before .pre .2 (l .i) (c .before .before .before .before .loop-test .taken) in
+    let w = c .before .before .wide .ensures ∙ c .before .before .before .pages-at .ensures in (
+      omega (arith, w, b .0),
       omega (arith, l .inv .2),
-      ap length (l .inv .1) ∙ owners-length (c .before .before .before .before .before .before .before .args .t1) (c .before .before .before .before .before .before .before .args .frames .now) (l .i),
-      λ k h. simp add-sub-cancel-left (b .1 k (rw (c .before .wide .ensures) at h)),
+      ap length (l .inv .1) ∙ owners-length (c .before .before .before .before .before .before .before .args .parts) (c .before .before .before .before .before .before .before .args .frames .now) (l .i),
+      λ k h. simp add-sub-cancel-left (b .1 k (rw w at h)),
     )
 
 returns : tie.Need-returns Inv-loop μ-loop
 returns c = let a = c .before .before .before .before .before .before .before .before .before .args in let l = c .before .before .before .before .before .before .before .loop in
-    let m = mark-part (a .t1) (a .frames .now) (a .n) (l .i) (c .before .before .before .before .before .before .before .before .before .pre .2 (l .i) (c .before .before .before .before .before .before .loop-test .taken) .1) _ _ _ _ _ _ (part-is (a .frames .now) (l .i)) (c .before .before .before .wide .ensures) (l .inv .2) (l .inv .1) (c .before .mark .ensures) in
-    (sym (any-yes (twiceIn (a .t1) (a .frames .now)) (a .n) (l .i) (c .before .before .before .before .before .before .loop-test .taken) (sym (m .0) ∙ c .if1 .taken)), λ e. one-way true refl e)
+    let m = mark-part (a .parts) (a .frames .now) (a .n) (l .i) (c .before .before .before .before .before .before .before .before .before .pre .2 (l .i) (c .before .before .before .before .before .before .loop-test .taken) .1) _ _ _ _ _ _ (part-is (a .frames .now) (l .i)) (c .before .before .before .before .wide .ensures ∙ c .before .before .before .before .before .pages-at .ensures) (l .inv .2) (l .inv .1) (c .before .mark .ensures) in
+    (sym (any-yes (twiceIn (a .parts) (a .frames .now)) (a .n) (l .i) (c .before .before .before .before .before .before .loop-test .taken) (sym (m .0) ∙ c .if1 .taken)), λ e. one-way true refl e)
 
 add-tag : tie.Need-add-tag Inv-loop μ-loop
 add-tag c = omega arith
@@ -78,8 +76,8 @@ loop-less c = omega arith
 
 loop-again : tie.Need-loop-again Inv-loop μ-loop
 loop-again c = let a = c .before .before .before .before .before .before .before .before .before .args in let l = c .before .before .before .before .before .before .before .loop in
-    let m = mark-part (a .t1) (a .frames .now) (a .n) (l .i) (c .before .before .before .before .before .before .before .before .before .pre .2 (l .i) (c .before .before .before .before .before .before .loop-test .taken) .1) _ _ _ _ _ _ (part-is (a .frames .now) (l .i)) (c .before .before .before .wide .ensures) (l .inv .2) (l .inv .1) (c .before .mark .ensures) in
-    (any-more (twiceIn (a .t1) (a .frames .now)) (l .i) (l .inv .0) (sym (m .0) ∙ c .if1 .left), m .1 (c .if1 .left), omega arith, omega arith)
+    let m = mark-part (a .parts) (a .frames .now) (a .n) (l .i) (c .before .before .before .before .before .before .before .before .before .pre .2 (l .i) (c .before .before .before .before .before .before .loop-test .taken) .1) _ _ _ _ _ _ (part-is (a .frames .now) (l .i)) (c .before .before .before .before .wide .ensures ∙ c .before .before .before .before .before .pages-at .ensures) (l .inv .2) (l .inv .1) (c .before .mark .ensures) in
+    (any-more (twiceIn (a .parts) (a .frames .now)) (l .i) (l .inv .0) (sym (m .0) ∙ c .if1 .left), m .1 (c .if1 .left), omega arith, omega arith)
 
 returns-2 : tie.Need-returns-2 Inv-loop μ-loop
 returns-2 c = let l = c .before .loop in
@@ -93,15 +91,14 @@ mark-all-spec =
     Inv-loop
     μ-loop
     loop-holds
-    mul-p
-    array-copy-out-p
+    pages-at-requires
+    wide-requires
     mul-a
     add-e
     mul-mark
     sub-mark
     part-mark-start
     part-mark-end
-    wide-requires
     mark-requires
     returns
     add-tag
