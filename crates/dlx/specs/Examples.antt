@@ -1,4 +1,4 @@
--- Worked examples, as one list that proofs/Checked.antt checks by a single claim: first 01's that need no house, then rows for every line of its tables.
+-- Worked examples, as one list that proofs/Checked.antt checks by a single claim: first the request's own that need no house, then rows for every line of the rules' tables.
 use mathlib.Core.Bool.{Bool, true, false, not, _&&_}
 use mathlib.Core.List.{List, [], _∷_, _++_}
 use Prim.Native.Nat.{ℕ, _+_, _-_, _*_, _/_, _^_}
@@ -99,7 +99,7 @@ pair m dpc pc = eqb (processor m .dpc) dpc && eqb (processor m .pc) pc
 unfoldable pub is-ill : ℕ → ℕ → Bool
 is-ill mode w = interrupt (once (at 0 4 0 mode) zeros w) 2 4 8 95 0 mode
 
--- ---- 01's examples
+-- ---- the request's examples
 
 unfoldable pub papers : List Bool
 papers =

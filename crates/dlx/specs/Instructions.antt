@@ -1,4 +1,4 @@
--- The instruction tables: every line of 01's opcode table. Everything else is ill; unused fields are ignored.
+-- The instruction tables: every line of docs/RULES.md#instructions. Everything else is ill; unused fields are ignored.
 use mathlib.Core.Bool.{Bool, true, false, _&&_}
 use Prim.Native.Nat.{ℕ, _-_, _^_, _<_, _≤_}
 use Prim.{Unit}

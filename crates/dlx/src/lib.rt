@@ -1,4 +1,4 @@
-// The DLX rules of the guest machine, with no memory in them (document 01, "The guest machine" and "Interrupts").
+// The DLX rules of the guest machine, with no memory in them: docs/RULES.md has them in words.
 pub mod execute;
 pub mod instruction;
 pub mod interrupt;

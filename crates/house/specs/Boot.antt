@@ -1,4 +1,4 @@
--- Boot: its refusals in 01's order, and the house that it makes.
+-- Boot: its refusals in their order, and the house that it makes.
 use mathlib.Core.Bool.{Bool, true, false, not}
 use mathlib.Core.List.{List, [], _∷_}
 use Prim.Native.Nat.{ℕ, zero, suc, _+_, _/_, _%_}

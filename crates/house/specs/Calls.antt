@@ -1,4 +1,4 @@
--- The calls: each lists its refusals in 01's order, and says what a done call leaves. A refusal leaves house, memory and output as they were.
+-- The calls: each lists its refusals in their order, and says what a done call leaves. A refusal leaves house, memory and output as they were.
 use mathlib.Core.Bool.{Bool, true, false, not, _&&_, _||_}
 use mathlib.Core.List.{List, [], _∷_, _++_}
 use Prim.Native.Nat.{ℕ, _+_, _*_, _/_, _%_}

@@ -1,4 +1,4 @@
--- Damage, condition by condition as 01 lists them.
+-- Damage, condition by condition as docs/RULES.md#damage lists them.
 use mathlib.Core.Bool.{Bool, true, false, not, _&&_, _||_}
 use mathlib.Core.List.{List}
 use Prim.Native.Nat.{ℕ, _+_, _*_, _/_, _%_}

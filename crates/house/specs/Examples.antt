@@ -1,5 +1,5 @@
--- Worked examples, as one list that proofs/Checked.antt checks by a single claim: 01's own, in a house; then boot, turns, the calls and damage. Each
--- row of 01's rules stands in square brackets, as docs/EXAMPLES.md lists them.
+-- Worked examples, as one list that proofs/Checked.antt checks by a single claim: the request's own, in a house; then boot, turns, the calls and damage. Each
+-- row of the rules stands in square brackets, as docs/EXAMPLES.md lists them.
 use mathlib.Core.Bool.{Bool, true, false, not, _&&_}
 use mathlib.Core.List.{List, [], _∷_, _++_, map}
 use Prim.Native.Nat.{ℕ, _+_, _-_, _*_, _^_}
@@ -33,7 +33,7 @@ upTo n = listFrom (λ i. i) 0 n
 
 -- ---- houses to start from
 
--- 01's own: one partition of frame 0, turns of 2 steps
+-- the request's own: one partition of frame 0, turns of 2 steps
 unfoldable pub alone : House
 alone = bootedHouse (1 ∷ []) 2 (0 ∷ []) 1024
 
@@ -166,7 +166,7 @@ sameHouse h k = same (numbers h) (numbers k)
 unfoldable pub sameWorld : World → House → List ℕ → Bool
 sameWorld w h m = sameHouse (w .house) h && same (w .memory) m
 
--- ---- 01's examples
+-- ---- the request's examples
 
 -- so many steps of the words 0x20010005 and 0xAC010008
 unfoldable pub ran : ℕ → World
@@ -547,7 +547,7 @@ calls =
     ∷ gives (reading 1 4 (2 ^ 64 - 1) (5 ∷ [])) 12 0 (5 ∷ [])
     ∷ []
 
--- ---- damage: houses with one thing changed, by 01's conditions
+-- ---- damage: houses with one thing changed, by each condition
 
 abbrev withTurns : List Bool → ℕ → ℕ → House
 withTurns running c l = turning two running c l

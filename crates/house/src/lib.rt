@@ -24,7 +24,7 @@ pub struct Turn {
     pub left: u32,
 }
 
-// A call's answer: 01's number, its detail, and the house.
+// A call's answer: a house number, its detail, and the house.
 pub struct Answer {
     pub number: u32,
     pub detail: u64,

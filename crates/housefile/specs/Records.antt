@@ -79,7 +79,7 @@ pub data Reading : Type 0 where
   wrong : ℕ → Reading
   right : File → Reading
 
--- 01's number and detail
+-- the house number and its detail
 unfoldable pub verdictOf : Reading → Verdict
 verdictOf (wrong at) = verdict 15 at
 verdictOf (right f) = verdict 0 0

@@ -1,4 +1,4 @@
--- Worked examples, as one list that proofs/Checked.antt checks by a single claim. Each row of 01's rules stands in square brackets, as docs/EXAMPLES.md
+-- Worked examples, as one list that proofs/Checked.antt checks by a single claim. Each row of the rules stands in square brackets, as docs/EXAMPLES.md
 -- lists them. What is compared is the answer with the whole table, memory and shadow.
 use mathlib.Core.Bool.{Bool, true, false, not, _&&_}
 use mathlib.Core.List.{List, [], _∷_, _++_}
