@@ -17,9 +17,12 @@ use Rattle.house.specs.Lists.{listFrom}
 use Rattle.house.specs.Boot.{offset, laid, bootedHouse}
 use Rattle.tickets.specs.Queues.{sending, taking, desk}
 use Rattle.house.specs.Turns.{nextFrom, turnOf, requestNow, replyNow, queuesNext, guestStep, settledHouse, stepWith, hostStep, hostSteps}
-use Rattle.report.specs.Report.{ascii, decimalIn, decimal, field, line, header, lineOf, linesFrom, reportOf, refusedText}
-use Rattle.report.specs.Examples.{same, all, numbers, refusals, first, eight, byHand, reports}
+use Rattle.decimal.specs.Decimals.{decimalIn, decimal}
+use Rattle.decimal.specs.Texts.{ascii}
+use Rattle.decimal.specs.Examples.{same, all}
+use Rattle.report.specs.Report.{field, line, header, lineOf, linesFrom, reportOf, refusedText}
+use Rattle.report.specs.Examples.{refusals, first, eight, byHand, reports}
 
-pub checked : all (numbers ++ (refusals ++ reports)) ≡ true
-unfolding all same numbers refusals first eight byHand reports ascii decimalIn decimal field line header lineOf linesFrom reportOf refusedText hostSteps hostStep stepWith settledHouse guestStep requestNow replyNow queuesNext desk sending taking asked requestOf turnOf nextFrom bootedHouse laid offset listFrom inner outer judged walked direct hosted given filled looked served hostRead emptied hostWritten hostReads hostWrites step fetched executed loaded stored accessed received handed settled retabled instructionOf registerType effectOf written valueOf overflowsOf operated reached loads stores movedTo trapOf specialOf withSpecial interrupted levelOf trailingZeros extendedBy readIn holds
+pub checked : all (refusals ++ reports) ≡ true
+unfolding all same refusals first eight byHand reports ascii decimalIn decimal field line header lineOf linesFrom reportOf refusedText hostSteps hostStep stepWith settledHouse guestStep requestNow replyNow queuesNext desk sending taking asked requestOf turnOf nextFrom bootedHouse laid offset listFrom inner outer judged walked direct hosted given filled looked served hostRead emptied hostWritten hostReads hostWrites step fetched executed loaded stored accessed received handed settled retabled instructionOf registerType effectOf written valueOf overflowsOf operated reached loads stores movedTo trapOf specialOf withSpecial interrupted levelOf trailingZeros extendedBy readIn holds
 checked = refl

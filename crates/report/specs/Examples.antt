@@ -1,9 +1,8 @@
 -- Worked examples: each some bytes, and the text that they are. proofs/Checked.antt checks them by a single claim.
-use mathlib.Core.Bool.{Bool, true, false, _&&_}
+use mathlib.Core.Bool.{true}
 use mathlib.Core.List.{List, [], _∷_, _++_}
 use Prim.Native.Nat.{ℕ, _-_, _^_}
 use Prim.Native.String.{String}
-use lib.Dec.{eqb}
 use lib.ListN.{replicate}
 use Rattle.dlx.specs.Processor.{freshOf, withProcessor, withCounter}
 use Rattle.dlx.specs.declared.partition.Partition.{Partition}
@@ -12,26 +11,7 @@ use Rattle.house.specs.House.{noPartition, noHouse, layout, guests, turn, withL
 use Rattle.house.specs.Boot.{bootedHouse}
 use Rattle.house.specs.Turns.{World, world, hostSteps}
 use Rattle.house.specs.declared.House.{House}
-use Rattle.report.specs.Report.{ascii, decimal, reportOf, refusedText}
-
-unfoldable pub same : List ℕ → List ℕ → Bool
-same [] [] = true
-same [] (y ∷ ys) = false
-same (x ∷ xs) [] = false
-same (x ∷ xs) (y ∷ ys) = eqb x y && same xs ys
-
-unfoldable pub all : List (List ℕ × String) → Bool
-all [] = true
-all ((bytes, text) ∷ rest) = same bytes (ascii text) && all rest
-
-unfoldable pub numbers : List (List ℕ × String)
-numbers =
-    (decimal 0, "0")
-    ∷ (decimal 9, "9")
-    ∷ (decimal 10, "10")
-    ∷ (decimal 1007, "1007")
-    ∷ (decimal (2 ^ 64 - 1), "18446744073709551615")
-    ∷ []
+use Rattle.report.specs.Report.{reportOf, refusedText}
 
 unfoldable pub refusals : List (List ℕ × String)
 refusals =

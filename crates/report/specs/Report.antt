@@ -1,32 +1,11 @@
 -- The report of a house, and a refusal, as the bytes of their text.
-use mathlib.Core.Bool.{true, false}
 use mathlib.Core.List.{List, [], _∷_, _++_}
-use Prim.Native.Nat.{ℕ, zero, suc, _+_, _/_, _%_}
-use Prim.Native.Char.{code}
-use Prim.Native.String.{String, [] as no-text, _∷_ as _then_}
-use lib.Dec.{ltb}
+use Prim.Native.Nat.{ℕ, suc}
 use lib.ListN.{take}
+use Rattle.decimal.specs.Decimals.{decimal}
+use Rattle.decimal.specs.Texts.{ascii}
 use Rattle.dlx.specs.declared.partition.Partition.{Partition}
 use Rattle.house.specs.declared.House.{House}
-
--- the bytes of a text in ASCII
-unfoldable pub ascii : String → List ℕ
-ascii no-text = []
-ascii (c then s) = code c ∷ ascii s
-
--- ---- decimals
-
-abbrev pub digit : ℕ → ℕ
-digit d = 48 + d
-
--- n in decimals, of at most k + 1 digits (unlike `if`, `elim` computes no branch but the one that applies)
-unfoldable pub decimalIn : ℕ → ℕ → List ℕ
-decimalIn zero n = digit n ∷ []
-decimalIn (suc k) n = elim (ltb n 10) [ true ↦ digit n ∷ [] | false ↦ decimalIn k (n / 10) ++ (digit (n % 10) ∷ []) ]
-
--- n in decimals: n + 1 digits are always enough
-unfoldable pub decimal : ℕ → List ℕ
-decimal n = decimalIn n n
 
 -- ---- lines
 

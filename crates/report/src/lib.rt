@@ -2,62 +2,28 @@
 // `at` answers where the piece ends.
 ghost use mathlib.Core.Path.{_≡_};
 ghost use mathlib.Core.List.{[], _∷_, _++_};
-ghost use Prim.Native.Nat.{_+_, _<_, _≤_, min};
+ghost use Prim.Native.Nat.{min};
 ghost use lib.ListN.{length, take, drop};
-ghost use Rattle.report.specs.Report.{digit as digitOf, decimal, field, line, lineOf, linesFrom, reportOf, refusedText};
-ghost use Rattle.report.specs.Put.{text, put, Counts};
+ghost use Rattle.decimal.specs.Texts.{Puts};
+ghost use Rattle.report.specs.Put.{Counts};
+ghost use Rattle.report.specs.Report.{field, line, lineOf, linesFrom, reportOf, refusedText};
+use decimal::put_byte;
+use decimal::put_decimal;
+use decimal::put_text;
 use dlx::partition::Partition;
 use house::House;
 
-// Bytes as they are.
-fn put_text(out: &mut [u8], at: usize, more: &[u8]) -> usize
-    requires { ⌜ at + length (now more) ≤ length (now out) ⌝ }
-    ensures { λ r. ⌜ text (now (out .exit)) r ≡ put (text (now (out .entry)) at) (now (more .entry)) ⌝ }
-{
-    let mut i: usize = 0;
-    while i < more.len() {
-        out[at + i] = more[i];
-        i += 1;
-    }
-    at + i
-}
-
-// A digit in ASCII.
-fn digit(d: u64) -> u8
-    requires { ⌜ d < 10 ⌝ }
-    ensures { λ r. ⌜ r ≡ digitOf d ⌝ }
-{
-    48 + d as u8
-}
-
-// A number in decimals.
-fn put_decimal(out: &mut [u8; 1024], at: usize, n: u64) -> usize
-    requires { ⌜ at + length (decimal n) ≤ 1024 ⌝ }
-    ensures { λ r. ⌜ text (now (out .exit)) r ≡ put (text (now (out .entry)) at) (decimal n) ⌝ }
-{
-    if n < 10 {
-        out[at] = digit(n);
-        return at + 1;
-    }
-    let last = put_decimal(out, at, n / 10);
-    out[last] = digit(n % 10);
-    last + 1
-}
-
 // A number, of at most 20 digits, and the byte behind it.
 fn put_field(out: &mut [u8; 1024], at: usize, n: u64, behind: u8) -> usize
-    requires { ⌜ at + length (decimal n) < 1024 ⌝ }
-    ensures { λ r. ⌜ (text (now (out .exit)) r ≡ put (text (now (out .entry)) at) (field n behind)) × (r ≤ at + 21) ⌝ }
+    ensures { λ r. ⌜ Puts (now (out .entry)) at (now (out .exit)) r (field n behind) 21 ⌝ }
 {
     let end = put_decimal(out, at, n);
-    out[end] = behind;
-    end + 1
+    put_byte(out, end, behind)
 }
 
 // The same of a word, which has at most 10 digits.
 fn put_word(out: &mut [u8; 1024], at: usize, n: u32, behind: u8) -> usize
-    requires { ⌜ at + 11 ≤ 1024 ⌝ }
-    ensures { λ r. ⌜ (text (now (out .exit)) r ≡ put (text (now (out .entry)) at) (field n behind)) × (r ≤ at + 11) ⌝ }
+    ensures { λ r. ⌜ Puts (now (out .entry)) at (now (out .exit)) r (field n behind) 11 ⌝ }
 {
     put_field(out, at, n as u64, behind)
 }
@@ -73,8 +39,7 @@ fn put_line(
     dpc: u32,
     pc: u32,
 ) -> usize
-    requires { ⌜ at + 76 ≤ 1024 ⌝ }
-    ensures { λ r. ⌜ (text (now (out .exit)) r ≡ put (text (now (out .entry)) at) (line i (pages ∷ steps ∷ mode ∷ dpc ∷ pc ∷ []))) × (r ≤ at + 76) ⌝ }
+    ensures { λ r. ⌜ Puts (now (out .entry)) at (now (out .exit)) r (line i (pages ∷ steps ∷ mode ∷ dpc ∷ pc ∷ [])) 76 ⌝ }
 {
     let first = put_word(out, at, i, b' ');
     let second = put_word(out, first, pages, b' ');
@@ -86,8 +51,7 @@ fn put_line(
 
 // Partition i's line.
 fn put_partition(out: &mut [u8; 1024], at: usize, i: u32, p: Partition) -> usize
-    requires { ⌜ at + 76 ≤ 1024 ⌝ }
-    ensures { λ r. ⌜ (text (now (out .exit)) r ≡ put (text (now (out .entry)) at) (lineOf i p)) × (r ≤ at + 76) ⌝ }
+    ensures { λ r. ⌜ Puts (now (out .entry)) at (now (out .exit)) r (lineOf i p) 76 ⌝ }
 {
     put_line(
         out,
@@ -113,8 +77,7 @@ fn used(count: u32) -> u32
 
 // A line for each of the first count partitions; there are no more than 8.
 fn put_partitions(out: &mut [u8; 1024], at: usize, count: u32, parts: [Partition; 8]) -> usize
-    requires { ⌜ at + 608 ≤ 1024 ⌝ }
-    ensures { λ r. ⌜ (text (now (out .exit)) r ≡ put (text (now (out .entry)) at) (linesFrom 0 (take count parts))) × (r ≤ 1024) ⌝ }
+    ensures { λ r. ⌜ Puts (now (out .entry)) at (now (out .exit)) r (linesFrom 0 (take count parts)) 608 ⌝ }
 {
     let n = used(count);
     let mut end = at;

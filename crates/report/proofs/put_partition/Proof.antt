@@ -1,10 +1,9 @@
-use borrow.Author.Needs.{needs}
 use Rattle.report.specs.Report.{lineOf}
 use Rattle.report.proofs.put_partition.Statement.{statement}
 use Rattle.report.proofs.put_partition.Tie as tie
 
 put-line-requires : tie.Need-put-line-requires
-put-line-requires c κs = search needs
+put-line-requires c κs = tt
 
 returns : tie.Need-returns
 unfolding lineOf

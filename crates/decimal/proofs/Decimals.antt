@@ -1,21 +1,26 @@
 -- A number in decimals, digit by digit, and how many digits it has.
 use mathlib.Core.Path.{_≡_, refl}
+use mathlib.Core.Bool.{Bool, true, false}
 use mathlib.Core.List.{[], _∷_, _++_}
-use Prim.Native.Nat.{ℕ, zero, suc, _+_, _/_, _%_, _^_, _<_, _≤_}
+use Prim.Native.Nat.{ℕ, zero, suc, _+_, _/_, _^_, _<_, _≤_}
 use native.Mathlib.Nat.{pow-suc}
 use native.Mathlib.Omega.{arith}
 use borrow.Author.Tests.{lt-ltb, le-ltb, ltb-true, ltb-false}
 use lib.Dec.{ltb}
 use lib.ListN.{length, length-append}
-use Rattle.dlx.proofs.Tests.{by-test}
-use Rattle.report.specs.Report.{digit, decimalIn, decimal}
+use Rattle.decimal.specs.Decimals.{digit, decimalIn, decimal}
+
+-- a test decided either way, with its equation
+by-test : {P : Type 0} (b : Bool) → (b ≡ true → P) → (b ≡ false → P) → P
+by-test true f g = f refl
+by-test false f g = g refl
 
 one-in : (k n : ℕ) → n < 10 → decimalIn k n ≡ digit n ∷ []
 unfolding decimalIn
 one-in zero n l = refl
 one-in (suc k) n l = rw (lt-ltb n 10 l, decimalIn)
 
-more-in : (k n : ℕ) → 10 ≤ n → decimalIn (suc k) n ≡ decimalIn k (n / 10) ++ (digit (n % 10) ∷ [])
+more-in : (k n : ℕ) → 10 ≤ n → decimalIn (suc k) n ≡ decimalIn k (n / 10) ++ (digit n ∷ [])
 unfolding decimalIn
 more-in k n l = rw (le-ltb n 10 l, decimalIn)
 
@@ -34,16 +39,16 @@ pub one-digit : (n : ℕ) → n < 10 → decimal n ≡ digit n ∷ []
 unfolding decimal
 one-digit n l = one-in n n l
 
-pub more-digits : (n : ℕ) → 10 ≤ n → decimal n ≡ decimal (n / 10) ++ (digit (n % 10) ∷ [])
+pub more-digits : (n : ℕ) → 10 ≤ n → decimal n ≡ decimal (n / 10) ++ (digit n ∷ [])
 unfolding decimal
 more-digits zero l = absurd (omega arith)
 more-digits (suc n) l = rw (more-in n (suc n) l, any-bound n (suc n / 10) (suc n / 10) (omega arith) (omega arith))
 
-pub one-length : (n : ℕ) → n < 10 → length (decimal n) ≡ 1
+one-length : (n : ℕ) → n < 10 → length (decimal n) ≡ 1
 one-length n l = rw (one-digit n l)
 
-pub more-length : (n : ℕ) → 10 ≤ n → length (decimal n) ≡ length (decimal (n / 10)) + 1
-more-length n l = rw (more-digits n l) (length-append (decimal (n / 10)) (digit (n % 10) ∷ []))
+more-length : (n : ℕ) → 10 ≤ n → length (decimal n) ≡ length (decimal (n / 10)) + 1
+more-length n l = rw (more-digits n l) (length-append (decimal (n / 10)) (digit n ∷ []))
 
 -- a number below 10 ^ (k + 1) has at most k + 1 digits
 pub few-digits : (k n : ℕ) → n < 10 ^ suc k → length (decimal n) ≤ suc k

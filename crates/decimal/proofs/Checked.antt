@@ -1,0 +1,10 @@
+-- The examples hold: the single claim about the rules.
+use mathlib.Core.Path.{_≡_, refl}
+use mathlib.Core.Bool.{true}
+use Rattle.decimal.specs.Decimals.{decimalIn, decimal}
+use Rattle.decimal.specs.Texts.{ascii}
+use Rattle.decimal.specs.Examples.{same, all, numbers}
+
+pub checked : all numbers ≡ true
+unfolding all same numbers ascii decimalIn decimal
+checked = refl

@@ -1,0 +1,27 @@
+-- Worked examples: each some bytes, and the text that they are. proofs/Checked.antt checks them by a single claim.
+use mathlib.Core.Bool.{Bool, true, false, _&&_}
+use mathlib.Core.List.{List, [], _∷_}
+use Prim.Native.Nat.{ℕ, _-_, _^_}
+use Prim.Native.String.{String}
+use lib.Dec.{eqb}
+use Rattle.decimal.specs.Decimals.{decimal}
+use Rattle.decimal.specs.Texts.{ascii}
+
+unfoldable pub same : List ℕ → List ℕ → Bool
+same [] [] = true
+same [] (y ∷ ys) = false
+same (x ∷ xs) [] = false
+same (x ∷ xs) (y ∷ ys) = eqb x y && same xs ys
+
+unfoldable pub all : List (List ℕ × String) → Bool
+all [] = true
+all ((bytes, text) ∷ rest) = same bytes (ascii text) && all rest
+
+unfoldable pub numbers : List (List ℕ × String)
+numbers =
+    (decimal 0, "0")
+    ∷ (decimal 9, "9")
+    ∷ (decimal 10, "10")
+    ∷ (decimal 1007, "1007")
+    ∷ (decimal (2 ^ 64 - 1), "18446744073709551615")
+    ∷ []
