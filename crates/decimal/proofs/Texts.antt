@@ -82,6 +82,9 @@ end-below out at (b ∷ bs) =
 
 -- ---- bytes, at most so many, that were put
 
+pub exactly : {out o bs : List ℕ} {at r : ℕ} → text o r ≡ put (text out at) bs → Puts out at o r bs (length bs)
+exactly e = record { stands = e; short = omega arith }
+
 module _ {out o bs : List ℕ} {at r most : ℕ} where
   pub puts : text o r ≡ put (text out at) bs → length bs ≤ most → Puts out at o r bs most
   puts e l = record { stands = e; short = l }

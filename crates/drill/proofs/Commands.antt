@@ -1,20 +1,23 @@
 -- What a command that was read says of itself.
 use mathlib.Core.Path.{_≡_, refl, sym, ap, _∙_}
-use mathlib.Core.List.{List}
+use mathlib.Core.Bool.{Bool, true, false}
+use mathlib.Core.List.{List, _++_}
 use Prim.Native.Nat.{ℕ, _+_, _*_, _-_, _<_, _≤_}
 use native.Mathlib.Omega.{arith}
 use borrow.Author.Tests.{ltb-false}
 use lib.Dec.{ltb, eqb}
-use lib.ListN.{length, drop, length-drop}
+use lib.ListN.{length, take, drop, length-drop, take-append-drop}
 use lib.Seq.{length-take-le}
 use Rattle.dlx.specs.Choice.{if_then_else_}
 use Rattle.dlx.proofs.Kept.{either}
+use Rattle.house.specs.declared.House.{House}
+use Rattle.house.specs.Turns.{World, world}
 use Rattle.script.specs.declared.commands.Command.{Command}
 use Rattle.script.specs.Words.{wordAt}
 use Rattle.script.specs.Commands.{sizeOf, noCommand, commandOf}
 use Rattle.drill.specs.declared.reading.Reading.{Reading}
 use Rattle.drill.specs.Fit.{Stands, Plays, Boots}
-use Rattle.drill.specs.Player.{Player, lentOf, moreOf, playedOf}
+use Rattle.drill.specs.Player.{Player, player, lentOf, moreOf, playedOf}
 
 pub command-sized : (bs : List ℕ) → commandOf bs .size ≡ sizeOf (commandOf bs .op) (commandOf bs .a) (commandOf bs .c)
 unfolding commandOf sizeOf
@@ -114,3 +117,10 @@ played-lent c more p =
 
 pub played-within : (c : Command) (more : List ℕ) (p q : Player) (words : ℕ) → q ≡ playedOf c more p → p .lent ≤ words → q .lent ≤ words
 played-within c more p q words e l = omega (arith, ap (λ (x : Player). x .lent) e, played-lent c more p)
+
+-- a call changes the lent words alone
+pub made-played : (b : Bool) (h g : House) (m k : List ℕ) (n : ℕ) (w : World) → world g k ≡ (if b then world h (take n m) else w)
+    → player g (k ++ drop n m) n ≡ (if b then player h m n else player (w .house) (w .memory ++ drop n m) n)
+made-played true h g m k n w e =
+    ap (λ (x : World). player (x .house) (x .memory ++ drop n m) n) e ∙ ap (λ (x : List ℕ). player h x n) (take-append-drop n m)
+made-played false h g m k n w e = ap (λ (x : World). player (x .house) (x .memory ++ drop n m) n) e

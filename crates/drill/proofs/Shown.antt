@@ -20,7 +20,7 @@ use Rattle.house.proofs.Lists.ByRule.{length-listFrom}
 use Rattle.script.specs.declared.commands.Command.{Command}
 use Rattle.script.specs.Words.{markedOf}
 use Rattle.drill.specs.Told.{shownOf}
-use Rattle.text.specs.Puts.{Puts}
+use Rattle.decimal.specs.Texts.{Puts}
 use Rattle.drill.specs.Player.{readOutOf, readTextOf}
 
 -- a read-out that is done has room for its words

@@ -7,7 +7,7 @@ use Rattle.dlx.specs.Choice.{if_then_else_}
 use Rattle.house.specs.declared.House.{House}
 use Rattle.house.specs.Lists.{listFrom}
 use Rattle.house.specs.House.{noHouse}
-use Rattle.house.specs.Turns.{world}
+use Rattle.house.specs.Turns.{World, world}
 use Rattle.house.specs.Calls.{Answered, Read, bootCall, runCall, startCall, stopCall, emptyCall, readCall}
 use Rattle.script.specs.declared.commands.Command.{Command}
 use Rattle.script.specs.Words.{wordAt, markedOf, filledOf}
@@ -73,6 +73,13 @@ readTextOf c more h m words =
     let r = readOutOf c more h m words in
     toldOf (c .op) (r .verdict .number) (r .verdict .detail) (r .house) m
     ++ outputOf (r .output) (shownOf (r .verdict .number) (r .verdict .detail))
+
+-- any call
+unfoldable pub madeOf : Command → List ℕ → House → List ℕ → World
+madeOf c more h m = if eqb (c .op) 6 then world h m else calledOf c more h m .world
+
+unfoldable pub madeTextOf : Command → List ℕ → House → List ℕ → List ℕ
+madeTextOf c more h m = if eqb (c .op) 6 then readTextOf c more h m (c .c) else callTextOf c more h m
 
 -- ---- commands of the house
 

@@ -1,13 +1,13 @@
 // The commands of the house: the calls, a poke, and clear.
 ghost use mathlib.Core.Path.{_≡_};
-ghost use Prim.Native.Nat.{_+_, _≤_};
+ghost use Prim.Native.Nat.{_≤_};
 ghost use lib.ListN.{length};
 ghost use Rattle.house.specs.Boot.{verdict};
 ghost use Rattle.house.specs.Turns.{world};
 ghost use Rattle.house.specs.Calls.{answered, read as readOf};
-ghost use Rattle.text.specs.Puts.{Puts};
+ghost use Rattle.decimal.specs.Texts.{Puts};
 ghost use Rattle.drill.specs.Fit.{Plays, Boots};
-ghost use Rattle.drill.specs.Player.{bootOf, calledOf, readOutOf, callTextOf, readTextOf, moreOf, playedOf, textOf};
+ghost use Rattle.drill.specs.Player.{bootOf, calledOf, readOutOf, callTextOf, readTextOf, madeOf, madeTextOf, moreOf, playedOf, textOf};
 use crate::reading::Reading;
 use crate::told;
 use boot::boot;
@@ -18,6 +18,7 @@ use hypervisor::calls;
 use script::commands::Command;
 use script::poke::poke;
 use script::words;
+use text::ROOM;
 use text::lines;
 
 // The house and the text used after a call.
@@ -51,10 +52,10 @@ fn called(
     c: Command,
     more: &[u8],
     memory: &mut [u32],
-    pages: &mut [u32],
+    pages: &mut [u32; 16],
     frames: &mut [u32],
 ) -> Answer
-    requires { ⌜ (c .op ≡ 1 → Boots c (length (now more))) ⌝ ∗ ⌜ 16 ≤ length (now pages) ⌝ ∗ ⌜ 4096 ≤ length (now frames) ⌝ }
+    requires { ⌜ (c .op ≡ 1 → Boots c (length (now more))) ⌝ ∗ ⌜ 4096 ≤ length (now frames) ⌝ }
     ensures { λ r. ⌜ answered (verdict (r .number) (r .detail)) (world (r .house) (now (memory .exit))) ≡ calledOf c (now (more .entry)) h (now (memory .entry)) ⌝ }
 {
     let op = c.op;
@@ -83,12 +84,12 @@ fn call(
     c: Command,
     more: &[u8],
     memory: &mut [u32],
-    pages: &mut [u32],
+    pages: &mut [u32; 16],
     frames: &mut [u32],
-    text: &mut [u8],
+    text: &mut [u8; ROOM],
     used: usize,
 ) -> Done
-    requires { ⌜ (c .op ≡ 1 → Boots c (length (now more))) ⌝ ∗ ⌜ 16 ≤ length (now pages) ⌝ ∗ ⌜ 4096 ≤ length (now frames) ⌝ ∗ ⌜ used + 143336 ≤ length (now text) ⌝ }
+    requires { ⌜ (c .op ≡ 1 → Boots c (length (now more))) ⌝ ∗ ⌜ 4096 ≤ length (now frames) ⌝ }
     ensures { λ r. ⌜ (world (r .house) (now (memory .exit)) ≡ calledOf c (now (more .entry)) h (now (memory .entry)) .world) × Puts (now (text .entry)) used (now (text .exit)) (r .used) (callTextOf c (now (more .entry)) h (now (memory .entry))) 143336 ⌝ }
 {
     let a = called(h, c, more, memory, pages, frames);
@@ -104,10 +105,10 @@ fn read(
     more: &[u8],
     memory: &[u32],
     output: &mut [u32],
-    text: &mut [u8],
+    text: &mut [u8; ROOM],
     used: usize,
 ) -> Done
-    requires { ⌜ 8 ≤ length (now more) ⌝ ∗ ⌜ length (now output) ≤ 4096 ⌝ ∗ ⌜ used + 143532 ≤ length (now text) ⌝ }
+    requires { ⌜ 8 ≤ length (now more) ⌝ ∗ ⌜ length (now output) ≤ 4096 ⌝ }
     ensures { λ r. ⌜ (r .house ≡ h) × Puts (now (text .entry)) used (now (text .exit)) (r .used) (readTextOf c (now (more .entry)) h (now (memory .entry)) (length (now (output .entry)))) 143532 ⌝ }
 {
     let a = read_out(h, c, more, memory, output);
@@ -118,18 +119,39 @@ fn read(
     Done { house, used: end }
 }
 
+// A call, and its text.
+fn made(
+    h: House,
+    c: Command,
+    more: &[u8],
+    memory: &mut [u32],
+    few: &mut [u32; 16],
+    many: &mut [u32],
+    text: &mut [u8; ROOM],
+    used: usize,
+) -> Done
+    requires { ⌜ (c .op ≡ 6 → (c .c ≤ 4096) × (8 ≤ length (now more))) ⌝ ∗ ⌜ (c .op ≡ 1 → Boots c (length (now more))) ⌝ ∗ ⌜ 4096 ≤ length (now many) ⌝ }
+    ensures { λ r. ⌜ (world (r .house) (now (memory .exit)) ≡ madeOf c (now (more .entry)) h (now (memory .entry))) × Puts (now (text .entry)) used (now (text .exit)) (r .used) (madeTextOf c (now (more .entry)) h (now (memory .entry))) 143532 ⌝ }
+{
+    if c.op == 6 {
+        let n = wide(c.c);
+        return read(h, c, more, memory, &mut many[..n], text, used);
+    }
+    call(h, c, more, memory, few, many, text, used)
+}
+
 // A command of the house. The two spaces are for a boot's page counts, and for its frame numbers or a read-out's output.
 pub fn play(
     h: House,
     r: Reading,
     input: &[u8],
     memory: &mut [u32],
-    few: &mut [u32],
-    many: &mut [u32],
-    text: &mut [u8],
+    few: &mut [u32; 16],
+    many: &mut [u32; 4096],
+    text: &mut [u8; ROOM],
     used: usize,
 ) -> Played
-    requires { ⌜ Plays r (length (now input)) (length (now memory)) ⌝ ∗ ⌜ 16 ≤ length (now few) ⌝ ∗ ⌜ 4096 ≤ length (now many) ⌝ ∗ ⌜ used + 143532 ≤ length (now text) ⌝ }
+    requires { ⌜ Plays r (length (now input)) (length (now memory)) ⌝ }
     ensures { λ p. ⌜ (record { house = p .house; memory = now (memory .exit); lent = p .lent } ≡ playedOf (r .command) (moreOf r (now (input .entry))) (record { house = h; memory = now (memory .entry); lent = r .lent })) × Puts (now (text .entry)) used (now (text .exit)) (p .used) (textOf (r .command) (moreOf r (now (input .entry))) (record { house = h; memory = now (memory .entry); lent = r .lent })) 143532 ⌝ }
 {
     let c = r.command;
@@ -149,25 +171,7 @@ pub fn play(
     }
     let from = r.at + 16;
     let end = r.at + c.size;
-    if c.op == 6 {
-        let n = wide(c.c);
-        let d = read(
-            h,
-            c,
-            &input[from..end],
-            &memory[..lent],
-            &mut many[..n],
-            text,
-            used,
-        );
-        let house = d.house;
-        return Played {
-            house,
-            lent,
-            used: d.used,
-        };
-    }
-    let d = call(
+    let d = made(
         h,
         c,
         &input[from..end],

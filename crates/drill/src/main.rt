@@ -10,6 +10,7 @@ ghost use lib.ListN.{length};
 ghost use Rattle.drill.specs.Goes.{Goes};
 use house::House;
 use reading::Reading;
+use text::ROOM;
 
 // The most words of memory.
 const MOST_WORDS: usize = 262144;
@@ -26,11 +27,11 @@ fn turn(
     s: State,
     input: &mut [u8],
     memory: &mut [u32],
-    few: &mut [u32],
-    many: &mut [u32],
-    text: &mut [u8],
+    few: &mut [u32; 16],
+    many: &mut [u32; 4096],
+    text: &mut [u8; ROOM],
 ) -> State
-    requires { ⌜ Goes s (length (now input)) (length (now memory)) ⌝ ∗ ⌜ 0 < s .reading .command .size ⌝ ∗ ⌜ 16 ≤ length (now few) ⌝ ∗ ⌜ 4096 ≤ length (now many) ⌝ ∗ ⌜ 262144 ≤ length (now text) ⌝ }
+    requires { ⌜ Goes s (length (now input)) (length (now memory)) ⌝ ∗ ⌜ 0 < s .reading .command .size ⌝ }
     ensures { λ r. ⌜ Goes r (length (now (input .entry))) (length (now (memory .entry))) ⌝ }
 {
     let used = told::flushed(text, s.used);
@@ -47,9 +48,13 @@ fn turn(
 }
 
 // Plays to the end of the script or to a wrong command. No script has so many turns that the count would end them.
-fn play(input: &mut [u8], memory: &mut [u32], few: &mut [u32], many: &mut [u32], text: &mut [u8])
-    requires { ⌜ 16 ≤ length (now few) ⌝ ∗ ⌜ 4096 ≤ length (now many) ⌝ ∗ ⌜ 262144 ≤ length (now text) ⌝ }
-{
+fn play(
+    input: &mut [u8],
+    memory: &mut [u32],
+    few: &mut [u32; 16],
+    many: &mut [u32; 4096],
+    text: &mut [u8; ROOM],
+) {
     let first = reading::first(input);
     let reached = reading::settle(input, memory, first);
     let none = House::none();
@@ -89,10 +94,10 @@ fn many_space() -> [u32; 4096]
     [0; 4096]
 }
 
-fn text_space() -> [u8; 262144]
+fn text_space() -> [u8; ROOM]
     ensures { λ r. ⌜ 262144 ≡ length r ⌝ }
 {
-    [0; 262144]
+    [0; ROOM]
 }
 
 fn main() {

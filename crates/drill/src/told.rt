@@ -2,19 +2,21 @@
 ghost use mathlib.Core.Path.{_≡_};
 ghost use Prim.Native.Nat.{_+_, _<_, _≤_};
 ghost use lib.ListN.{length};
-ghost use Rattle.text.specs.Puts.{Puts};
+ghost use Rattle.decimal.specs.Texts.{Puts};
 ghost use Rattle.drill.specs.Told.{toldOf, shownOf};
 use crate::reading::Reading;
+use decimal::put_byte;
+use decimal::put_decimal;
+use decimal::put_text;
 use house::Answer;
 use libc::STDOUT_FILENO;
+use text::ROOM;
 use text::lines;
-use text::numbers;
 use text::partitions::partitions;
 use text::queues::queues;
 
 // The text of a call.
-pub fn call(text: &mut [u8], used: usize, op: u32, a: Answer, memory: &[u32]) -> usize
-    requires { ⌜ used + 143336 ≤ length (now text) ⌝ }
+pub fn call(text: &mut [u8; ROOM], used: usize, op: u32, a: Answer, memory: &[u32]) -> usize
     ensures { λ r. ⌜ Puts (now (text .entry)) used (now (text .exit)) r (toldOf op (a .number) (a .detail) (a .house) (now (memory .entry))) 143336 ⌝ }
 {
     let house = a.house;
@@ -58,8 +60,8 @@ pub fn finish(text: &mut [u8], used: usize, r: Reading)
         io::write_all(STDOUT_FILENO, &text[..used]);
         return;
     }
-    let wrong = numbers::put(text, used, b"wrong command at ");
-    let told = numbers::decimal(text, wrong, r.offset);
-    let end = numbers::put(text, told, b"\n");
+    let wrong = put_text(text, used, b"wrong command at ");
+    let told = put_decimal(text, wrong, r.offset);
+    let end = put_byte(text, told, b'\n');
     io::write_all(STDOUT_FILENO, &text[..end]);
 }

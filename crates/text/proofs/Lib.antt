@@ -1,6 +1,5 @@
 pub mod Appending
 pub mod Blank
-pub mod Decimals
 pub mod Digests
 pub mod Lent
 pub mod Listed

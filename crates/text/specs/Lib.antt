@@ -1,7 +1,5 @@
-pub mod Ascii
 pub mod Digest
 pub mod Lines
 pub mod Numbers
 pub mod Partitions
-pub mod Puts
 pub mod Queues

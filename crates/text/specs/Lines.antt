@@ -6,7 +6,7 @@ use lib.Dec.{eqb}
 use lib.ListN.{length, getD, take}
 use Rattle.dlx.specs.Choice.{if_then_else_}
 use Rattle.house.specs.declared.House.{House}
-use Rattle.text.specs.Ascii.{ascii}
+use Rattle.decimal.specs.Texts.{ascii}
 use Rattle.text.specs.Digest.{digestOf}
 use Rattle.text.specs.Numbers.{joined, numberOf, numbersOf}
 

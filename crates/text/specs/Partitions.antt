@@ -12,8 +12,9 @@ use Rattle.house.specs.declared.House.{House}
 use Rattle.house.specs.House.{partition, registersOf, framesOf}
 use Rattle.house.specs.House.{shadowOf as entriesIn}
 use Rattle.house.specs.Lists.{all}
-use Rattle.text.specs.Ascii.{ascii}
-use Rattle.text.specs.Numbers.{joined, decimalOf, numberOf}
+use Rattle.decimal.specs.Decimals.{decimal}
+use Rattle.decimal.specs.Texts.{ascii}
+use Rattle.text.specs.Numbers.{joined, numberOf}
 use Rattle.text.specs.Lines.{rowOf}
 
 -- from DPC to EMODE
@@ -50,7 +51,7 @@ ownOf i p =
 
 -- a shadow entry that is not 0, behind its number
 unfoldable pub entryOf : ℕ → ℕ → List ℕ
-entryOf px e = if eqb e 0 then [] else numberOf px ++ (ascii ":" ++ decimalOf e)
+entryOf px e = if eqb e 0 then [] else numberOf px ++ (ascii ":" ++ decimal e)
 
 unfoldable pub entriesOf : List ℕ → List ℕ
 entriesOf shadow = joined (λ px. entryOf px (getD shadow px 0)) (length shadow)

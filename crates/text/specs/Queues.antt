@@ -8,7 +8,7 @@ use Rattle.dlx.specs.Choice.{if_then_else_}
 use Rattle.tickets.specs.Queues.{placesOf, waitingOf}
 use Rattle.house.specs.declared.House.{House}
 use Rattle.house.specs.House.{queuesOf}
-use Rattle.text.specs.Ascii.{ascii}
+use Rattle.decimal.specs.Texts.{ascii}
 use Rattle.text.specs.Numbers.{joined, numberOf}
 use Rattle.text.specs.Lines.{rowOf}
 use Rattle.text.specs.Partitions.{zerosOf, listedOf}

@@ -5,3 +5,6 @@ pub mod lines;
 pub mod numbers;
 pub mod partitions;
 pub mod queues;
+
+// The most bytes of text.
+pub const ROOM: usize = 262144;

@@ -1,27 +1,45 @@
 // The lines that tell of the answer, the house's own numbers, the memory and a read-out's output.
+ghost use mathlib.Core.List.{[], _++_};
 ghost use Prim.Native.Nat.{_+_, _*_, _≤_};
 ghost use lib.ListN.{length};
+ghost use Rattle.decimal.specs.Texts.{ascii, Puts};
+ghost use Rattle.text.specs.Numbers.{numberOf, numbersOf};
 ghost use Rattle.text.specs.Lines.{rowOf, flagsOf, houseOf, nameOf, callOf, memoryOf, outputOf};
-ghost use Rattle.text.specs.Puts.{Puts};
+use crate::ROOM;
 use crate::digest::digest;
 use crate::numbers::number;
 use crate::numbers::numbers;
-use crate::numbers::put;
+use decimal::put_byte;
+use decimal::put_text;
 use house::House;
 
+// Numbers to the end of a line.
+pub(crate) fn rest(text: &mut [u8; ROOM], used: usize, words: &[u32]) -> usize
+    ensures { λ r. ⌜ Puts (now (text .entry)) used (now (text .exit)) r (rowOf [] (now (words .entry))) (21 * length (now (words .entry)) + 1) ⌝ }
+{
+    let told = numbers(text, used, words);
+    put_byte(text, told, b'\n')
+}
+
 // A name and numbers.
-pub fn row(text: &mut [u8], used: usize, name: &[u8], words: &[u32]) -> usize
-    requires { ⌜ used + (length (now name) + (21 * length (now words) + 1)) ≤ length (now text) ⌝ }
+pub fn row(text: &mut [u8; ROOM], used: usize, name: &[u8], words: &[u32]) -> usize
     ensures { λ r. ⌜ Puts (now (text .entry)) used (now (text .exit)) r (rowOf (now (name .entry)) (now (words .entry))) (length (now (name .entry)) + (21 * length (now (words .entry)) + 1)) ⌝ }
 {
-    let named = put(text, used, name);
-    let told = numbers(text, named, words);
-    put(text, told, b"\n")
+    let named = put_text(text, used, name);
+    rest(text, named, words)
+}
+
+// Two numbers to the end of a line.
+fn pair(text: &mut [u8; ROOM], used: usize, first: u64, second: u64) -> usize
+    ensures { λ r. ⌜ Puts (now (text .entry)) used (now (text .exit)) r (numberOf first ++ (numberOf second ++ ascii "\n")) 43 ⌝ }
+{
+    let one = number(text, used, first);
+    let two = number(text, one, second);
+    put_byte(text, two, b'\n')
 }
 
 // Each flag as 0 or 1.
-fn flags(text: &mut [u8], used: usize, running: &[bool; 8]) -> usize
-    requires { ⌜ used + 168 ≤ length (now text) ⌝ }
+fn flags(text: &mut [u8; ROOM], used: usize, running: &[bool; 8]) -> usize
     ensures { λ r. ⌜ Puts (now (text .entry)) used (now (text .exit)) r (flagsOf (now (running .entry))) 168 ⌝ }
 {
     let mut end = used;
@@ -33,63 +51,61 @@ fn flags(text: &mut [u8], used: usize, running: &[bool; 8]) -> usize
     end
 }
 
-pub fn house(text: &mut [u8], used: usize, h: House) -> usize
-    requires { ⌜ used + 279 ≤ length (now text) ⌝ }
+fn house_line(text: &mut [u8; ROOM], used: usize, own: &[u32; 5], running: &[bool; 8]) -> usize
+    ensures { λ r. ⌜ Puts (now (text .entry)) used (now (text .exit)) r (ascii "house" ++ (numbersOf (now (own .entry)) ++ (flagsOf (now (running .entry)) ++ ascii "\n"))) 279 ⌝ }
+{
+    let named = put_text(text, used, b"house");
+    let told = numbers(text, named, own);
+    let flagged = flags(text, told, running);
+    put_byte(text, flagged, b'\n')
+}
+
+pub fn house(text: &mut [u8; ROOM], used: usize, h: House) -> usize
     ensures { λ r. ⌜ Puts (now (text .entry)) used (now (text .exit)) r (houseOf h) 279 ⌝ }
 {
     let own = [h.count, h.q, h.words, h.current, h.left];
     let running = h.running;
-    let named = put(text, used, b"house");
-    let told = numbers(text, named, &own);
-    let flagged = flags(text, told, &running);
-    put(text, flagged, b"\n")
+    house_line(text, used, &own, &running)
 }
 
 // The name of a call, by its command's number.
-fn name(text: &mut [u8], used: usize, op: u32) -> usize
-    requires { ⌜ used + 5 ≤ length (now text) ⌝ }
+fn name(text: &mut [u8; ROOM], used: usize, op: u32) -> usize
     ensures { λ r. ⌜ Puts (now (text .entry)) used (now (text .exit)) r (nameOf op) 5 ⌝ }
 {
     match op {
-        1 => put(text, used, b"boot"),
-        2 => put(text, used, b"run"),
-        3 => put(text, used, b"start"),
-        4 => put(text, used, b"stop"),
-        5 => put(text, used, b"empty"),
-        _ => put(text, used, b"read"),
+        1 => put_text(text, used, b"boot"),
+        2 => put_text(text, used, b"run"),
+        3 => put_text(text, used, b"start"),
+        4 => put_text(text, used, b"stop"),
+        5 => put_text(text, used, b"empty"),
+        _ => put_text(text, used, b"read"),
     }
 }
 
-pub fn call(text: &mut [u8], used: usize, op: u32, n: u32, detail: u64) -> usize
-    requires { ⌜ used + 56 ≤ length (now text) ⌝ }
+pub fn call(text: &mut [u8; ROOM], used: usize, op: u32, n: u32, detail: u64) -> usize
     ensures { λ r. ⌜ Puts (now (text .entry)) used (now (text .exit)) r (callOf op n detail) 56 ⌝ }
 {
-    let called = put(text, used, b"call ");
+    let called = put_text(text, used, b"call ");
     let named = name(text, called, op);
-    let answered = put(text, named, b" ->");
-    let told = number(text, answered, n as u64);
-    let detailed = number(text, told, detail);
-    put(text, detailed, b"\n")
+    let answered = put_text(text, named, b" ->");
+    pair(text, answered, n as u64, detail)
 }
 
-pub fn memory(text: &mut [u8], used: usize, words: &[u32]) -> usize
-    requires { ⌜ used + 49 ≤ length (now text) ⌝ }
+pub fn memory(text: &mut [u8; ROOM], used: usize, words: &[u32]) -> usize
     ensures { λ r. ⌜ Puts (now (text .entry)) used (now (text .exit)) r (memoryOf (now (words .entry))) 49 ⌝ }
 {
     let d = digest(words);
-    let named = put(text, used, b"memory");
-    let told = number(text, named, words.len() as u64);
-    let digested = number(text, told, d);
-    put(text, digested, b"\n")
+    let named = put_text(text, used, b"memory");
+    pair(text, named, words.len() as u64, d)
 }
 
 // The whole output's digest, and so many of its words.
-pub fn output(text: &mut [u8], used: usize, words: &[u32], shown: usize) -> usize
-    requires { ⌜ shown ≤ length (now words) ⌝ ∗ ⌜ used + (27 + (21 * shown + 1)) ≤ length (now text) ⌝ }
+pub fn output(text: &mut [u8; ROOM], used: usize, words: &[u32], shown: usize) -> usize
+    requires { ⌜ shown ≤ length (now words) ⌝ }
     ensures { λ r. ⌜ Puts (now (text .entry)) used (now (text .exit)) r (outputOf (now (words .entry)) shown) (27 + (21 * shown + 1)) ⌝ }
 {
     let d = digest(words);
-    let named = put(text, used, b"output");
+    let named = put_text(text, used, b"output");
     let digested = number(text, named, d);
-    row(text, digested, b"", &words[..shown])
+    rest(text, digested, &words[..shown])
 }

@@ -1,14 +1,21 @@
 // The lines that tell of the partitions. A partition of which every number is 0 has none.
 ghost use mathlib.Core.Path.{_≡_};
-ghost use Prim.Native.Nat.{_+_, _*_, _≤_};
-ghost use lib.ListN.{length};
+ghost use Prim.Native.Nat.{_+_, _*_, _<_};
+ghost use mathlib.Core.List.{[], _++_};
+ghost use lib.ListN.{length, getD, take};
+ghost use Rattle.decimal.specs.Texts.{ascii, Puts};
+ghost use Rattle.dlx.specs.Parts.{inner};
+ghost use Rattle.house.specs.House.{noPartition};
+ghost use Rattle.text.specs.Lines.{rowOf};
+ghost use Rattle.text.specs.Numbers.{joined, numberOf};
 ghost use Rattle.text.specs.Partitions.{specialsOf, zerosOf, listedOf, blankOf, ownOf, entryOf, entriesOf, shadowOf, partitionOf, partitionsOf};
-ghost use Rattle.text.specs.Puts.{Puts};
+use crate::ROOM;
+use crate::lines::rest;
 use crate::lines::row;
-use crate::numbers::decimal;
 use crate::numbers::number;
-use crate::numbers::numbers;
-use crate::numbers::put;
+use decimal::put_byte;
+use decimal::put_decimal;
+use decimal::put_text;
 use dlx::partition::Partition;
 use dlx::partition::Processor;
 use dlx::partition::Table;
@@ -85,33 +92,43 @@ fn blank(p: Partition, registers: &[u32], frames: &[u32], shadow: &[u32]) -> boo
 }
 
 // Page count, counter and special registers of partition i.
-fn own(text: &mut [u8], used: usize, i: usize, p: Partition) -> usize
-    requires { ⌜ used + 325 ≤ length (now text) ⌝ }
+fn own_line(
+    text: &mut [u8; ROOM],
+    used: usize,
+    i: usize,
+    pages: u32,
+    counter: u64,
+    specials: &[u32; 12],
+) -> usize
+    ensures { λ r. ⌜ Puts (now (text .entry)) used (now (text .exit)) r (ascii "partition" ++ (numberOf i ++ (numberOf pages ++ (numberOf counter ++ rowOf [] (now (specials .entry)))))) 325 ⌝ }
+{
+    let named = put_text(text, used, b"partition");
+    let numbered = number(text, named, i as u64);
+    let paged = number(text, numbered, pages as u64);
+    let counted = number(text, paged, counter);
+    rest(text, counted, specials)
+}
+
+fn own(text: &mut [u8; ROOM], used: usize, i: usize, p: Partition) -> usize
     ensures { λ r. ⌜ Puts (now (text .entry)) used (now (text .exit)) r (ownOf i p) 325 ⌝ }
 {
     let rest = specials(p.processor, p.table);
-    let named = put(text, used, b"partition");
-    let numbered = number(text, named, i as u64);
-    let paged = number(text, numbered, p.pages as u64);
-    let counted = number(text, paged, p.counter);
-    row(text, counted, b"", &rest)
+    own_line(text, used, i, p.pages, p.counter, &rest)
 }
 
 // A shadow entry that is not 0, behind its number.
-fn entry(text: &mut [u8], used: usize, px: usize, e: u32) -> usize
-    requires { ⌜ used + 42 ≤ length (now text) ⌝ }
+fn entry(text: &mut [u8; ROOM], used: usize, px: usize, e: u32) -> usize
     ensures { λ r. ⌜ Puts (now (text .entry)) used (now (text .exit)) r (entryOf px e) 42 ⌝ }
 {
     if e == 0 {
         return used;
     }
     let numbered = number(text, used, px as u64);
-    let parted = put(text, numbered, b":");
-    decimal(text, parted, e as u64)
+    let parted = put_byte(text, numbered, b':');
+    put_decimal(text, parted, e as u64)
 }
 
-fn entries(text: &mut [u8], used: usize, shadow: &[u32]) -> usize
-    requires { ⌜ used + 42 * length (now shadow) ≤ length (now text) ⌝ }
+fn entries(text: &mut [u8; ROOM], used: usize, shadow: &[u32]) -> usize
     ensures { λ r. ⌜ Puts (now (text .entry)) used (now (text .exit)) r (entriesOf (now (shadow .entry))) (42 * length (now (shadow .entry))) ⌝ }
 {
     let mut end = used;
@@ -123,17 +140,33 @@ fn entries(text: &mut [u8], used: usize, shadow: &[u32]) -> usize
     end
 }
 
-fn shadow(text: &mut [u8], used: usize, words: &[u32]) -> usize
-    requires { ⌜ used + (6 + (42 * length (now words) + 1)) ≤ length (now text) ⌝ }
+fn shadow(text: &mut [u8; ROOM], used: usize, words: &[u32]) -> usize
     ensures { λ r. ⌜ Puts (now (text .entry)) used (now (text .exit)) r (shadowOf (now (words .entry))) (6 + (42 * length (now (words .entry)) + 1)) ⌝ }
 {
-    let named = put(text, used, b"shadow");
+    let named = put_text(text, used, b"shadow");
     let told = entries(text, named, words);
-    put(text, told, b"\n")
+    put_byte(text, told, b'\n')
+}
+
+// Registers, listed frames and shadow.
+fn arrays(
+    text: &mut [u8; ROOM],
+    used: usize,
+    registers: &[u32],
+    frames: &[u32],
+    entries: &[u32],
+) -> usize
+    requires { ⌜ length (now registers) ≡ 32 ⌝ ∗ ⌜ length (now frames) ≡ 256 ⌝ ∗ ⌜ length (now entries) ≡ 256 ⌝ }
+    ensures { λ r. ⌜ Puts (now (text .entry)) used (now (text .exit)) r (rowOf (ascii "registers") (now (registers .entry)) ++ (rowOf (ascii "frames") (take (listedOf (now (frames .entry))) (now (frames .entry))) ++ shadowOf (now (entries .entry)))) 16824 ⌝ }
+{
+    let n = listed(frames);
+    let registered = row(text, used, b"registers", registers);
+    let framed = row(text, registered, b"frames", &frames[..n]);
+    shadow(text, framed, entries)
 }
 
 fn partition(
-    text: &mut [u8],
+    text: &mut [u8; ROOM],
     used: usize,
     i: usize,
     p: Partition,
@@ -141,44 +174,70 @@ fn partition(
     frames: &[u32],
     entries: &[u32],
 ) -> usize
-    requires { ⌜ length (now registers) ≡ 32 ⌝ ∗ ⌜ length (now frames) ≡ 256 ⌝ ∗ ⌜ length (now entries) ≡ 256 ⌝ ∗ ⌜ used + 17149 ≤ length (now text) ⌝ }
+    requires { ⌜ length (now registers) ≡ 32 ⌝ ∗ ⌜ length (now frames) ≡ 256 ⌝ ∗ ⌜ length (now entries) ≡ 256 ⌝ }
     ensures { λ r. ⌜ Puts (now (text .entry)) used (now (text .exit)) r (partitionOf i p (now (registers .entry)) (now (frames .entry)) (now (entries .entry))) 17149 ⌝ }
 {
     if blank(p, registers, frames, entries) {
         return used;
     }
-    let n = listed(frames);
     let told = own(text, used, i, p);
-    let registered = row(text, told, b"registers", registers);
-    let framed = row(text, registered, b"frames", &frames[..n]);
-    shadow(text, framed, entries)
+    arrays(text, told, registers, frames, entries)
 }
 
-pub fn partitions(text: &mut [u8], used: usize, h: House) -> usize
-    requires { ⌜ used + 137192 ≤ length (now text) ⌝ }
+// Partition i, with its part of each array.
+fn nth(
+    text: &mut [u8; ROOM],
+    used: usize,
+    i: usize,
+    p: Partition,
+    registers: &[u32],
+    frames: &[u32],
+    shadows: &[u32],
+) -> usize
+    requires { ⌜ i < 8 ⌝ ∗ ⌜ length (now registers) ≡ 256 ⌝ ∗ ⌜ length (now frames) ≡ 2048 ⌝ ∗ ⌜ length (now shadows) ≡ 2048 ⌝ }
+    ensures { λ r. ⌜ Puts (now (text .entry)) used (now (text .exit)) r (partitionOf i p (inner (i * 32) 32 (now (registers .entry))) (inner (i * 256) 256 (now (frames .entry))) (inner (i * 256) 256 (now (shadows .entry)))) 17149 ⌝ }
+{
+    let a = i * 32;
+    let b = a + 32;
+    let c = i * 256;
+    let d = c + 256;
+    partition(
+        text,
+        used,
+        i,
+        p,
+        &registers[a..b],
+        &frames[c..d],
+        &shadows[c..d],
+    )
+}
+
+fn each(
+    text: &mut [u8; ROOM],
+    used: usize,
+    parts: [Partition; 8],
+    registers: &[u32],
+    frames: &[u32],
+    shadows: &[u32],
+) -> usize
+    requires { ⌜ length (now registers) ≡ 256 ⌝ ∗ ⌜ length (now frames) ≡ 2048 ⌝ ∗ ⌜ length (now shadows) ≡ 2048 ⌝ }
+    ensures { λ r. ⌜ Puts (now (text .entry)) used (now (text .exit)) r (joined (λ k. partitionOf k (getD parts k noPartition) (inner (k * 32) 32 (now (registers .entry))) (inner (k * 256) 256 (now (frames .entry))) (inner (k * 256) 256 (now (shadows .entry)))) 8) 137192 ⌝ }
+{
+    let mut end = used;
+    let mut i = 0;
+    while i < 8 {
+        end = nth(text, end, i, parts[i], registers, frames, shadows);
+        i += 1;
+    }
+    end
+}
+
+pub fn partitions(text: &mut [u8; ROOM], used: usize, h: House) -> usize
     ensures { λ r. ⌜ Puts (now (text .entry)) used (now (text .exit)) r (partitionsOf h) 137192 ⌝ }
 {
     let parts = h.parts;
     let registers = h.regs;
     let frames = h.frames;
     let shadows = h.shadows;
-    let mut end = used;
-    let mut i = 0;
-    while i < 8 {
-        let a = i * 32;
-        let b = a + 32;
-        let c = i * 256;
-        let d = c + 256;
-        end = partition(
-            text,
-            end,
-            i,
-            parts[i],
-            &registers[a..b],
-            &frames[c..d],
-            &shadows[c..d],
-        );
-        i += 1;
-    }
-    end
+    each(text, used, parts, &registers, &frames, &shadows)
 }

@@ -1,16 +1,16 @@
-use mathlib.Core.Path.{_≡_, refl, sym, ap, subst, _∙_}
-use Prim.Native.Nat.{ℕ, _≤_}
+use mathlib.Core.Path.{_≡_, refl, sym, subst}
+use Prim.Native.Nat.{ℕ}
 use native.Mathlib.Omega.{arith}
-use borrow.Author.Needs.{needs}
 use lib.ListN.{length}
 use Rattle.drill.specs.Fit.{Stands}
 use Rattle.drill.specs.Goes.{Goes}
 use Rattle.drill.proofs.Commands.{stands-still}
+use borrow.Author.Needs.{needs}
 use Rattle.drill.proofs.play.Statement.{statement}
 use Rattle.drill.proofs.play.Tie as tie
 
 abbrev Inv-loop : tie.InvT-loop
-Inv-loop input₀ memory₀ few₀ many₀ text₀ s₀ turns₀ input memory few many text s turns = Goes s (length input₀) (length memory₀) × (length input ≡ length input₀) × (length memory ≡ length memory₀) × (length few ≡ length few₀) × (length many ≡ length many₀) × (length text ≡ length text₀)
+Inv-loop input₀ memory₀ few₀ many₀ text₀ s₀ turns₀ input memory few many text s turns = Goes s (length input₀) (length memory₀) × (length input ≡ length input₀) × (length memory ≡ length memory₀)
 
 abbrev μ-loop : tie.MeasureT-loop
 μ-loop input₀ memory₀ few₀ many₀ text₀ s₀ turns₀ input memory few many text s turns = turns
@@ -36,28 +36,18 @@ loop-holds c =
       },
       refl,
       refl,
-      refl,
-      refl,
-      refl,
     )
 
 finish-requires : tie.Need-finish-requires Inv-loop μ-loop
-finish-requires c κs = omega (arith, c .before .before .before .before .before .before .loop .inv .0 .used, c .before .before .before .before .before .before .loop .inv .5, c .before .before .before .before .before .before .before .before .before .before .before .before .before .before .before .before .before .before .before .before .before .before .before .before .pre)
+finish-requires c κs =
+    let n : length (c .before .before .before .before .before .before .loop .text) ≡ 262144 = search (needs, c .finish-arg) in
+    omega (arith, n, c .before .before .before .before .before .before .loop .inv .0 .used)
 
 same-length : tie.Need-same-length Inv-loop μ-loop
-same-length c = omega (arith, c .before .before .before .before .before .before .before .before .before .loop .inv .1, c .before .before .before .before .before .before .before .before .before .before .before .before .before .before .before .settle .kept, c .before .before .before .before .before .before .before .before .before .before .before .before .before .before .before .before .before .before .before .before .first .kept)
+same-length c = omega (arith, c .before .before .before .before .before .before .before .loop .inv .1, c .before .before .before .before .before .before .before .before .before .before .before .before .before .settle .kept, c .before .before .before .before .before .before .before .before .before .before .before .before .before .before .before .before .before .before .first .kept)
 
 same-length-2 : tie.Need-same-length-2 Inv-loop μ-loop
-same-length-2 c = omega (arith, c .before .before .before .before .before .before .before .before .before .loop .inv .2, c .before .before .before .before .before .before .before .before .before .before .before .before .before .before .before .settle .kept)
-
-same-length-3 : tie.Need-same-length-3 Inv-loop μ-loop
-same-length-3 c = c .before .before .before .before .before .before .before .before .before .loop .inv .3
-
-same-length-4 : tie.Need-same-length-4 Inv-loop μ-loop
-same-length-4 c = c .before .before .before .before .before .before .before .before .before .loop .inv .4
-
-same-length-5 : tie.Need-same-length-5 Inv-loop μ-loop
-same-length-5 c = omega (arith, c .before .before .before .before .before .before .before .before .before .loop .inv .5, c .before .before .finish .kept)
+same-length-2 c = omega (arith, c .before .before .before .before .before .before .before .loop .inv .2, c .before .before .before .before .before .before .before .before .before .before .before .before .before .settle .kept)
 
 returns : tie.Need-returns Inv-loop μ-loop
 returns c = search needs
@@ -65,10 +55,8 @@ returns c = search needs
 turn-requires : tie.Need-turn-requires Inv-loop μ-loop
 turn-requires c κs =
     let v = c .before .before .before .before .before .before .before .before .before .before .loop .inv in
-    let w = c .before .before .before .before .before .before .before .before .before .before .before .before .before .before .before .before .before .before .before .before .before .before .before .before .before .before .before .before .pre in
-    let b = length (c .before .before .before .before .before .before .before .before .before .before .loop .memory) in
     let g = subst (λ (x : ℕ). Goes (c .before .before .before .before .before .before .before .before .before .before .loop .s) (length (c .before .before .before .before .before .before .before .before .before .before .before .before .before .before .before .before .settle .last .0)) x) (sym (v .2)) (v .0) in
-    (subst (λ (x : ℕ). Goes (c .before .before .before .before .before .before .before .before .before .before .loop .s) x b) (sym (v .1)) g, (omega (arith, c .before .before .before .before .before .if1 .left), (omega (arith, v .3, w .0), (omega (arith, v .4, w .1 .0), omega (arith, v .5, w .1 .1)))))
+    (subst (λ (x : ℕ). Goes (c .before .before .before .before .before .before .before .before .before .before .loop .s) x (length (c .before .before .before .before .before .before .before .before .before .before .loop .memory))) (sym (v .1)) g, omega (arith, c .before .before .before .before .before .if1 .left))
 
 sub-turns : tie.Need-sub-turns Inv-loop μ-loop
 sub-turns c = search needs
@@ -78,53 +66,19 @@ loop-less c = search needs
 
 loop-again : tie.Need-loop-again Inv-loop μ-loop
 loop-again c =
-    let v = c .before .before .before .before .before .before .before .before .before .before .before .before .before .before .before .before .before .before .before .before .before .loop .inv in
-    let k = c .before .before .before .before .before .before .before .before .before .before .turn .kept in
-    let g = subst (λ (x : ℕ). Goes (c .before .before .before .before .before .before .before .before .before .before .turn .result) x (length (c .before .before .before .before .before .before .before .before .before .before .before .before .before .before .before .before .before .before .before .before .before .loop .memory))) (v .1) (c .before .before .before .before .before .before .before .before .before .before .turn .ensures) in
-    (subst (λ (x : ℕ). Goes (c .before .before .before .before .before .before .before .before .before .before .turn .result) (length (c .before .before .before .before .before .before .before .before .before .before .before .before .before .before .before .before .before .before .before .before .before .before .before .before .before .before .before .settle .last .0)) x) (v .2) g, omega (arith, v .1, k), omega (arith, v .2, k), omega (arith, v .3, k), omega (arith, v .4, k), omega (arith, v .5, k))
+    let v = c .before .before .before .before .before .before .before .before .before .before .before .before .before .before .before .loop .inv in
+    let k = c .before .before .before .before .turn .kept in
+    let g = subst (λ (x : ℕ). Goes (c .before .before .before .before .turn .result) x (length (c .before .before .before .before .before .before .before .before .before .before .before .before .before .before .before .loop .memory))) (v .1) (c .before .before .before .before .turn .ensures) in
+    (subst (λ (x : ℕ). Goes (c .before .before .before .before .turn .result) (length (c .before .before .before .before .before .before .before .before .before .before .before .before .before .before .before .before .before .before .before .before .before .settle .last .0)) x) (v .2) g, omega (arith, v .1, k), omega (arith, v .2, k))
 
-same-length-6 : tie.Need-same-length-6 Inv-loop μ-loop
-same-length-6 c = omega (arith, c .before .loop .inv .1, c .before .before .before .before .before .before .before .settle .kept, c .before .before .before .before .before .before .before .before .before .before .before .before .first .kept)
+same-length-3 : tie.Need-same-length-3 Inv-loop μ-loop
+same-length-3 c = omega (arith, c .before .loop .inv .1, c .before .before .before .before .before .before .before .settle .kept, c .before .before .before .before .before .before .before .before .before .before .before .before .first .kept)
 
-same-length-7 : tie.Need-same-length-7 Inv-loop μ-loop
-same-length-7 c = omega (arith, c .before .loop .inv .2, c .before .before .before .before .before .before .before .settle .kept)
-
-same-length-8 : tie.Need-same-length-8 Inv-loop μ-loop
-same-length-8 c = c .before .loop .inv .3
-
-same-length-9 : tie.Need-same-length-9 Inv-loop μ-loop
-same-length-9 c = c .before .loop .inv .4
-
-same-length-10 : tie.Need-same-length-10 Inv-loop μ-loop
-same-length-10 c = c .before .loop .inv .5
+same-length-4 : tie.Need-same-length-4 Inv-loop μ-loop
+same-length-4 c = omega (arith, c .before .loop .inv .2, c .before .before .before .before .before .before .before .settle .kept)
 
 returns-2 : tie.Need-returns-2 Inv-loop μ-loop
 returns-2 c = search needs
 
 pub play-spec : {M : Type 1} → statement M
-play-spec =
-    tie.close
-    (tie.spec
-    Inv-loop
-    μ-loop
-    first-requires
-    settle-requires
-    none-requires
-    loop-holds
-    finish-requires
-    same-length
-    same-length-2
-    same-length-3
-    same-length-4
-    same-length-5
-    returns
-    turn-requires
-    sub-turns
-    loop-less
-    loop-again
-    same-length-6
-    same-length-7
-    same-length-8
-    same-length-9
-    same-length-10
-    returns-2)
+play-spec = tie.close (tie.spec Inv-loop μ-loop first-requires settle-requires none-requires loop-holds finish-requires same-length same-length-2 returns turn-requires sub-turns loop-less loop-again same-length-3 same-length-4 returns-2)

@@ -1,23 +1,28 @@
+use mathlib.Core.Path.{_≡_}
+use native.Mathlib.Omega.{arith}
 use borrow.Author.Tests.{ne-eqb}
+use lib.ListN.{length}
 use Rattle.drill.specs.Player.{calledOf}
 use borrow.Author.Needs.{needs}
 use Rattle.drill.proofs.calls.called.Statement.{statement}
 use Rattle.drill.proofs.calls.called.Tie as tie
 
 booted-requires : tie.Need-booted-requires
-booted-requires c κs = (c .before .before .before .before .before .before .before .before .pre .0 (c .before .before .before .match .keys1), c .before .before .before .before .before .before .before .before .pre .1)
+booted-requires c κs =
+    let n : length (c .before .before .before .before .before .before .before .args .pages .now) ≡ 16 = search (needs, c .booted-arg3, c .before .booted-arg2, c .before .before .booted-arg) in
+    (c .before .before .before .before .before .before .before .pre .0 (c .before .before .before .match .keys1), (omega (arith, n), c .before .before .before .before .before .before .before .pre .1))
 
 run-requires : tie.Need-run-requires
-run-requires c κs = search needs
+run-requires c κs = tt
 
 start-requires : tie.Need-start-requires
-start-requires c κs = search needs
+start-requires c κs = tt
 
 stop-requires : tie.Need-stop-requires
-stop-requires c κs = search needs
+stop-requires c κs = tt
 
 empty-requires : tie.Need-empty-requires
-empty-requires c κs = search needs
+empty-requires c κs = tt
 
 same-length : tie.Need-same-length
 same-length c = search needs
@@ -25,15 +30,12 @@ same-length c = search needs
 same-length-2 : tie.Need-same-length-2
 same-length-2 c = search needs
 
-same-length-3 : tie.Need-same-length-3
-same-length-3 c = search needs
-
 returns : tie.Need-returns
 unfolding calledOf
-returns c = simp (c .before .before .before .before .before .before .before .before .match .keys1) (c .before .before .before .before .booted .ensures)
+returns c = simp (c .before .before .before .before .before .before .match .keys1) (c .before .before .booted .ensures)
 
-same-length-4 : tie.Need-same-length-4
-same-length-4 c = search needs
+same-length-3 : tie.Need-same-length-3
+same-length-3 c = search needs
 
 returns-2 : tie.Need-returns-2
 unfolding calledOf
@@ -54,20 +56,4 @@ returns-5 c =
     simp (ne-eqb _ _ (r .1), ne-eqb _ _ (r .0 .1), ne-eqb _ _ (r .0 .0 .1), ne-eqb _ _ (r .0 .0 .0 .1)) (c .empty .ensures _)
 
 pub called-spec : {M : Type 1} → statement M
-called-spec =
-    tie.close
-    (tie.spec
-    booted-requires
-    run-requires
-    start-requires
-    stop-requires
-    empty-requires
-    same-length
-    same-length-2
-    same-length-3
-    returns
-    same-length-4
-    returns-2
-    returns-3
-    returns-4
-    returns-5)
+called-spec = tie.close (tie.spec booted-requires run-requires start-requires stop-requires empty-requires same-length same-length-2 returns same-length-3 returns-2 returns-3 returns-4 returns-5)

@@ -1,32 +1,28 @@
-use mathlib.Core.Path.{_≡_, refl, sym, ap, subst, _∙_}
-use mathlib.Core.List.{List, [], _++_}
-use Prim.Native.Nat.{ℕ, _≤_}
+use mathlib.Core.Path.{_≡_, refl, sym}
 use native.Mathlib.Omega.{arith}
 use borrow.Author.Tests.{eq-eqb, ne-eqb}
-use lib.ListN.{length, take, drop}
+use lib.Dec.{eqb}
+use lib.ListN.{length}
 use lib.Seq.{length-take-le}
-use Rattle.house.specs.declared.House.{House}
-use Rattle.text.specs.Puts.{Puts}
-use Rattle.text.proofs.Appending.{nothing, roomy}
-use Rattle.drill.specs.Player.{Player, player, moreOf, playedOf, textOf, readTextOf}
-use Rattle.drill.proofs.Shown.{as-many}
-use Rattle.drill.proofs.Commands.{plays-sixteen, plays-inside, plays-read, plays-boot, more-length}
+use Rattle.decimal.proofs.Texts.{nothing, roomy}
+use Rattle.drill.specs.Player.{madeOf, madeTextOf, playedOf, textOf}
+use Rattle.drill.proofs.Commands.{plays-sixteen, plays-inside, plays-read, plays-boot, more-length, made-played}
 use borrow.Author.Needs.{needs}
 use Rattle.drill.proofs.calls.play.Statement.{statement}
 use Rattle.drill.proofs.calls.play.Tie as tie
 
 poke-requires : tie.Need-poke-requires
-poke-requires c κs = search needs
+poke-requires c κs = tt
 
 returns : tie.Need-returns
 unfolding playedOf textOf
 returns c = (rw (eq-eqb _ _ (c .before .if1 .taken), c .poke .ensures), rw (eq-eqb _ _ (c .before .if1 .taken)) (roomy 143532 nothing (omega arith)))
 
 fill-requires : tie.Need-fill-requires
-fill-requires c κs = search needs
+fill-requires c κs = tt
 
 none-requires : tie.Need-none-requires
-none-requires c κs = search needs
+none-requires c κs = tt
 
 same-length : tie.Need-same-length
 same-length c = search needs
@@ -44,126 +40,37 @@ add-from c = search needs
 add-end : tie.Need-add-end
 add-end c = search needs
 
-wide-requires : tie.Need-wide-requires
-wide-requires c κs = search needs
+sub-made : tie.Need-sub-made
+sub-made c = omega (arith, plays-sixteen (c .before .before .before .before .before .before .before .before .before .before .pre))
 
-sub-read : tie.Need-sub-read
-sub-read c = omega (arith, plays-sixteen (c .before .before .before .before .before .before .before .before .before .before .before .before .before .before .before .before .pre .0))
+part-made-start : tie.Need-part-made-start
+part-made-start c = omega (arith, plays-sixteen (c .before .before .before .before .before .before .before .before .before .before .pre))
 
-part-read-start : tie.Need-part-read-start
-part-read-start c = omega (arith, plays-sixteen (c .before .before .before .before .before .before .before .before .before .before .before .before .before .before .before .before .pre .0))
+part-made-end : tie.Need-part-made-end
+part-made-end c = omega (arith, plays-inside (c .before .before .before .before .before .before .before .before .before .before .pre))
 
-part-read-end : tie.Need-part-read-end
-part-read-end c = omega (arith, plays-inside (c .before .before .before .before .before .before .before .before .before .before .before .before .before .before .before .before .pre .0))
+slice-relend-prefix-made : tie.Need-slice-relend-prefix-made
+slice-relend-prefix-made c = omega (arith, c .before .before .before .before .before .before .before .before .before .before .before .pre .lent)
 
-slice-reshare-prefix-read : tie.Need-slice-reshare-prefix-read
-slice-reshare-prefix-read c = omega (arith, c .before .before .before .before .before .before .before .before .before .before .before .before .before .before .before .before .before .pre .0 .lent)
+slice-aggregate-made : tie.Need-slice-aggregate-made
+slice-aggregate-made c = sym (length-take-le _ _ (c .before .before .before .before .before .before .before .before .before .before .before .before .pre .lent))
 
-slice-aggregate-read : tie.Need-slice-aggregate-read
-slice-aggregate-read c = sym (length-take-le _ _ (c .before .before .before .before .before .before .before .before .before .before .before .before .before .before .before .before .before .before .pre .0 .lent))
-
-slice-relend-prefix-read : tie.Need-slice-relend-prefix-read
-slice-relend-prefix-read c = omega (arith, c .before .before .wide .ensures, plays-read (c .before .before .before .before .before .before .before .before .before .before .before .before .before .before .before .before .before .before .pre .0) (c .before .before .before .if3 .taken) .0, c .before .before .before .before .before .before .before .before .before .before .before .before .before .before .before .before .before .before .pre .1 .1 .0)
-
-slice-aggregate-read-2 : tie.Need-slice-aggregate-read-2
-slice-aggregate-read-2 c = sym (length-take-le (c .before .before .before .wide .result) (c .before .before .before .before .before .before .before .before .before .before .before .before .before .before .before .before .before .before .before .args .many .now) (omega (arith, c .before .before .before .wide .ensures, plays-read (c .before .before .before .before .before .before .before .before .before .before .before .before .before .before .before .before .before .before .before .pre .0) (c .before .before .before .before .if3 .taken) .0, c .before .before .before .before .before .before .before .before .before .before .before .before .before .before .before .before .before .before .before .pre .1 .1 .0)))
-
-read-requires : tie.Need-read-requires
-read-requires c κs =
-    let q = plays-read (c .before .before .before .before .before .before .before .before .before .before .before .before .before .before .before .before .before .before .before .before .pre .0) (c .before .before .before .before .before .if3 .taken) in
-    let n : length (take (c .before .before .before .before .wide .result) (c .before .before .before .before .before .before .before .before .before .before .before .before .before .before .before .before .before .before .before .before .args .many .now)) ≡ c .before .before .before .before .wide .result = length-take-le _ _ (omega (arith, c .before .before .before .before .wide .ensures, q .0, c .before .before .before .before .before .before .before .before .before .before .before .before .before .before .before .before .before .before .before .before .pre .1 .1 .0)) in
-    (omega (arith, more-length (c .before .before .before .before .before .before .before .before .before .before .before .before .before .before .before .before .before .before .before .before .pre .0) (c .before .before .before .before .before .before .before .before .before .before .before .before .before .before .before .before .before .before .before .before .args .input .now) refl, q .1), (omega (arith, n, c .before .before .before .before .wide .ensures, q .0), c .before .before .before .before .before .before .before .before .before .before .before .before .before .before .before .before .before .before .before .before .pre .1 .1 .1))
+made-requires : tie.Need-made-requires
+made-requires c κs =
+    let p = c .before .before .before .before .before .before .before .before .before .before .before .before .before .before .before .pre in
+    let m = more-length p (c .before .before .before .before .before .before .before .before .before .before .before .before .before .before .before .args .input .now) refl in
+    let n : length (c .before .before .before .before .before .before .before .before .before .before .before .before .before .before .before .args .many .now) ≡ 4096 = search (needs, c .made-arg5, c .before .made-arg4, c .before .before .made-arg3) in
+    (λ e. (plays-read p e .0, omega (arith, m, plays-read p e .1)), (plays-boot p _ m, omega (arith, n)))
 
 same-length-2 : tie.Need-same-length-2
 same-length-2 c = search needs
 
-same-length-3 : tie.Need-same-length-3
-same-length-3 c = search needs
-
-same-length-4 : tie.Need-same-length-4
-same-length-4 c = search needs
-
 returns-3 : tie.Need-returns-3
-unfolding playedOf textOf
+unfolding playedOf textOf madeOf madeTextOf
 returns-3 c =
-    let a = ne-eqb _ _ (c .before .before .before .before .before .before .before .before .before .before .before .before .before .before .before .before .before .before .if1 .left) in
-    let b = ne-eqb _ _ (c .before .before .before .before .before .before .before .before .before .before .before .before .before .before .before .before .if2 .left) in
-    let d = eq-eqb _ _ (c .before .before .before .before .before .before .before .before .before .before .before .if3 .taken) in
-    let q = plays-read (c .before .before .before .before .before .before .before .before .before .before .before .before .before .before .before .before .before .before .before .before .before .before .before .before .before .before .pre .0) (c .before .before .before .before .before .before .before .before .before .before .before .if3 .taken) in
-    let n : length (take (c .before .before .before .before .before .before .before .before .before .before .wide .result) (c .before .before .before .before .before .before .before .before .before .before .before .before .before .before .before .before .before .before .before .before .before .before .before .before .before .before .args .many .now)) ≡ c .before .before .before .before .before .before .before .before .before .before .before .before .before .before .before .before .before .before .before .before .before .before .before .before .before .before .args .r .command .c = length-take-le _ _ (omega (arith, c .before .before .before .before .before .before .before .before .before .before .wide .ensures, q .0, c .before .before .before .before .before .before .before .before .before .before .before .before .before .before .before .before .before .before .before .before .before .before .before .before .before .before .pre .1 .1 .0)) ∙ c .before .before .before .before .before .before .before .before .before .before .wide .ensures in
-    (rw (a, b, d, c .before .before .before .before .before .read .ensures .0), rw (a, b, d) (as-many _ _ _ _ n (c .before .before .before .before .before .read .ensures .1)))
-
-sub-call : tie.Need-sub-call
-sub-call c = omega (arith, plays-sixteen (c .before .before .before .before .before .before .before .before .before .before .before .before .before .before .before .pre .0))
-
-part-call-start : tie.Need-part-call-start
-part-call-start c = omega (arith, plays-sixteen (c .before .before .before .before .before .before .before .before .before .before .before .before .before .before .before .pre .0))
-
-part-call-end : tie.Need-part-call-end
-part-call-end c = omega (arith, plays-inside (c .before .before .before .before .before .before .before .before .before .before .before .before .before .before .before .pre .0))
-
-slice-relend-prefix-call : tie.Need-slice-relend-prefix-call
-slice-relend-prefix-call c = omega (arith, c .before .before .before .before .before .before .before .before .before .before .before .before .before .before .before .before .pre .0 .lent)
-
-slice-aggregate-call : tie.Need-slice-aggregate-call
-slice-aggregate-call c = sym (length-take-le _ _ (c .before .before .before .before .before .before .before .before .before .before .before .before .before .before .before .before .before .pre .0 .lent))
-
-call-requires : tie.Need-call-requires
-call-requires c κs = (plays-boot (c .before .before .before .before .before .before .before .before .before .before .before .before .before .before .before .before .before .before .before .before .pre .0) _ (more-length (c .before .before .before .before .before .before .before .before .before .before .before .before .before .before .before .before .before .before .before .before .pre .0) (c .before .before .before .before .before .before .before .before .before .before .before .before .before .before .before .before .before .before .before .before .args .input .now) refl), (c .before .before .before .before .before .before .before .before .before .before .before .before .before .before .before .before .before .before .before .before .pre .1 .0, (c .before .before .before .before .before .before .before .before .before .before .before .before .before .before .before .before .before .before .before .before .pre .1 .1 .0, omega (arith, c .before .before .before .before .before .before .before .before .before .before .before .before .before .before .before .before .before .before .before .before .pre .1 .1 .1))))
-
-same-length-5 : tie.Need-same-length-5
-same-length-5 c = search needs
-
-same-length-6 : tie.Need-same-length-6
-same-length-6 c = search needs
-
-same-length-7 : tie.Need-same-length-7
-same-length-7 c = search needs
-
-same-length-8 : tie.Need-same-length-8
-same-length-8 c = search needs
-
-returns-4 : tie.Need-returns-4
-unfolding playedOf textOf
-returns-4 c =
-    let a = ne-eqb _ _ (c .before .before .before .before .before .before .before .before .before .before .before .before .before .before .before .before .before .before .before .before .before .before .if1 .left) in
-    let b = ne-eqb _ _ (c .before .before .before .before .before .before .before .before .before .before .before .before .before .before .before .before .before .before .before .before .if2 .left) in
-    let d = ne-eqb _ _ (c .before .before .before .before .before .before .before .before .before .before .before .before .before .before .before .if3 .left) in
-    (rw (a, b, d, ← c .before .before .before .before .before .before .before .before .before .call .ensures .0), rw (a, b, d) (roomy 143532 (c .before .before .before .before .before .before .before .before .before .call .ensures .1) (omega arith)))
+    let a = ne-eqb _ _ (c .before .before .before .before .before .before .before .before .before .before .before .before .before .before .if1 .left) in
+    let b = ne-eqb _ _ (c .before .before .before .before .before .before .before .before .before .before .before .before .if2 .left) in
+    (rw (a, b) (made-played (eqb (c .before .before .before .before .before .before .before .before .before .before .before .before .before .before .before .before .before .before .before .args .r .command .op) 6) _ _ (c .before .before .before .before .before .before .before .before .before .before .before .before .before .before .before .before .before .before .before .args .memory .now) _ (c .before .before .before .before .before .before .before .before .before .before .before .before .before .before .before .before .before .before .before .args .r .lent) _ (c .before .before .before .made .ensures .0)), rw (a, b) (c .before .before .before .made .ensures .1))
 
 pub play-spec : {M : Type 1} → statement M
-play-spec =
-    tie.close
-    (tie.spec
-    poke-requires
-    returns
-    fill-requires
-    none-requires
-    same-length
-    returns-2
-    add-from
-    add-end
-    wide-requires
-    sub-read
-    part-read-start
-    part-read-end
-    slice-reshare-prefix-read
-    slice-aggregate-read
-    slice-relend-prefix-read
-    slice-aggregate-read-2
-    read-requires
-    same-length-2
-    same-length-3
-    same-length-4
-    returns-3
-    sub-call
-    part-call-start
-    part-call-end
-    slice-relend-prefix-call
-    slice-aggregate-call
-    call-requires
-    same-length-5
-    same-length-6
-    same-length-7
-    same-length-8
-    returns-4)
+play-spec = tie.close (tie.spec poke-requires returns fill-requires none-requires same-length returns-2 add-from add-end sub-made part-made-start part-made-end slice-relend-prefix-made slice-aggregate-made made-requires same-length-2 returns-3)

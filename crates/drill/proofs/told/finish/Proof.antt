@@ -1,6 +1,7 @@
 use mathlib.Core.Path.{sym}
 use native.Mathlib.Omega.{arith}
 use lib.Seq.{length-take-le}
+use Rattle.decimal.proofs.Texts.{exactly, decimal-puts, within}
 use borrow.Author.Needs.{needs}
 use Rattle.drill.proofs.told.finish.Statement.{statement}
 use Rattle.drill.proofs.told.finish.Tie as tie
@@ -20,26 +21,23 @@ same-length c = search needs
 returns : tie.Need-returns
 returns c = search needs
 
-slice-aggregate-put : tie.Need-slice-aggregate-put
-slice-aggregate-put c = search needs
+slice-aggregate-put-text : tie.Need-slice-aggregate-put-text
+slice-aggregate-put-text c = search needs
 
-put-requires : tie.Need-put-requires
-put-requires c κs = search needs
+put-text-requires : tie.Need-put-text-requires
+put-text-requires c κs = tt
 
-decimal-requires : tie.Need-decimal-requires
-decimal-requires c κs = search needs
+put-decimal-requires : tie.Need-put-decimal-requires
+put-decimal-requires c κs = tt
 
-slice-aggregate-put-2 : tie.Need-slice-aggregate-put-2
-slice-aggregate-put-2 c = search needs
-
-put-requires-2 : tie.Need-put-requires-2
-put-requires-2 c κs = search needs
+put-byte-requires : tie.Need-put-byte-requires
+put-byte-requires c κs = tt
 
 slice-reshare-prefix-write-all-2 : tie.Need-slice-reshare-prefix-write-all-2
-slice-reshare-prefix-write-all-2 c = search needs
+slice-reshare-prefix-write-all-2 c = omega (arith, within (exactly (c .before .before .before .before .before .before .before .before .before .before .put-text .ensures)), within (decimal-puts (c .before .before .before .before .before .before .before .before .before .before .before .before .before .before .before .before .args .r .offset) (omega arith) (c .before .before .before .before .before .before .put-decimal .ensures)), within (exactly (c .before .before .put-byte .ensures)), c .before .before .before .before .before .before .before .before .before .before .before .before .before .before .before .before .pre, c .before .before .before .before .before .before .before .before .before .before .put-text .kept, c .before .before .before .before .before .before .put-decimal .kept, c .before .before .put-byte .kept)
 
 slice-aggregate-write-all-2 : tie.Need-slice-aggregate-write-all-2
-slice-aggregate-write-all-2 c = sym (length-take-le (c .before .before .before .put2 .result) (c .before .before .before .put2 .last .0) (omega arith))
+slice-aggregate-write-all-2 c = sym (length-take-le (c .before .before .before .put-byte .result) (c .before .before .before .put-byte .last .0) (omega (arith, within (exactly (c .before .before .before .before .before .before .before .before .before .before .before .put-text .ensures)), within (decimal-puts (c .before .before .before .before .before .before .before .before .before .before .before .before .before .before .before .before .before .args .r .offset) (omega arith) (c .before .before .before .before .before .before .before .put-decimal .ensures)), within (exactly (c .before .before .before .put-byte .ensures)), c .before .before .before .before .before .before .before .before .before .before .before .before .before .before .before .before .before .pre, c .before .before .before .before .before .before .before .before .before .before .before .put-text .kept, c .before .before .before .before .before .before .before .put-decimal .kept, c .before .before .before .put-byte .kept)))
 
 write-all-requires-2 : tie.Need-write-all-requires-2
 write-all-requires-2 c κs = search needs
@@ -51,21 +49,4 @@ returns-2 : tie.Need-returns-2
 returns-2 c = search needs
 
 pub finish-spec : {M : Type 1} → statement M
-finish-spec =
-    tie.close
-    (tie.spec
-    slice-reshare-prefix-write-all
-    slice-aggregate-write-all
-    write-all-requires
-    same-length
-    returns
-    slice-aggregate-put
-    put-requires
-    decimal-requires
-    slice-aggregate-put-2
-    put-requires-2
-    slice-reshare-prefix-write-all-2
-    slice-aggregate-write-all-2
-    write-all-requires-2
-    same-length-2
-    returns-2)
+finish-spec = tie.close (tie.spec slice-reshare-prefix-write-all slice-aggregate-write-all write-all-requires same-length returns slice-aggregate-put-text put-text-requires put-decimal-requires put-byte-requires slice-reshare-prefix-write-all-2 slice-aggregate-write-all-2 write-all-requires-2 same-length-2 returns-2)

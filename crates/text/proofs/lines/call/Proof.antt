@@ -1,55 +1,40 @@
-use Rattle.text.proofs.Appending.{_then_}
+use Rattle.decimal.specs.Texts.{ascii}
+use Rattle.decimal.proofs.Texts.{exactly, _then_}
 use Rattle.text.specs.Lines.{callOf}
 use borrow.Author.Needs.{needs}
 use Rattle.text.proofs.lines.call.Statement.{statement}
 use Rattle.text.proofs.lines.call.Tie as tie
 
-slice-aggregate-put : tie.Need-slice-aggregate-put
-slice-aggregate-put c = search needs
+slice-aggregate-put-text : tie.Need-slice-aggregate-put-text
+slice-aggregate-put-text c = search needs
 
-put-requires : tie.Need-put-requires
-put-requires c κs = search needs
+put-text-requires : tie.Need-put-text-requires
+put-text-requires c κs = tt
 
 name-requires : tie.Need-name-requires
-name-requires c κs = search needs
+name-requires c κs = tt
 
-slice-aggregate-put-2 : tie.Need-slice-aggregate-put-2
-slice-aggregate-put-2 c = search needs
+slice-aggregate-put-text-2 : tie.Need-slice-aggregate-put-text-2
+slice-aggregate-put-text-2 c = search needs
 
-put-requires-2 : tie.Need-put-requires-2
-put-requires-2 c κs = search needs
+put-text-requires-2 : tie.Need-put-text-requires-2
+put-text-requires-2 c κs = tt
 
-number-requires : tie.Need-number-requires
-number-requires c κs = search needs
-
-number-requires-2 : tie.Need-number-requires-2
-number-requires-2 c κs = search needs
-
-slice-aggregate-put-3 : tie.Need-slice-aggregate-put-3
-slice-aggregate-put-3 c = search needs
-
-put-requires-3 : tie.Need-put-requires-3
-put-requires-3 c κs = search needs
-
-same-length : tie.Need-same-length
-same-length c = search needs
+pair-requires : tie.Need-pair-requires
+pair-requires c κs = tt
 
 returns : tie.Need-returns
-unfolding callOf
-returns c = c .before .before .before .before .before .before .before .before .before .before .before .before .before .before .before .before .before .before .before .before .before .before .before .before .put .ensures then c .before .before .before .before .before .before .before .before .before .before .before .before .before .before .before .before .before .before .before .before .name .ensures then c .before .before .before .before .before .before .before .before .before .before .before .before .before .before .before .put2 .ensures then c .before .before .before .before .before .before .before .before .before .before .before .number .ensures then c .before .before .before .before .before .before .before .number2 .ensures then c .before .before .put3 .ensures
+unfolding callOf ascii
+returns c = exactly (c .before .before .before .before .before .before .before .put-text .ensures) then c .before .before .before .before .before .name .ensures then exactly (c .before .before .put-text2 .ensures) then c .pair .ensures
 
 pub call-spec : {M : Type 1} → statement M
 call-spec =
     tie.close
     (tie.spec
-    slice-aggregate-put
-    put-requires
+    slice-aggregate-put-text
+    put-text-requires
     name-requires
-    slice-aggregate-put-2
-    put-requires-2
-    number-requires
-    number-requires-2
-    slice-aggregate-put-3
-    put-requires-3
-    same-length
+    slice-aggregate-put-text-2
+    put-text-requires-2
+    pair-requires
     returns)

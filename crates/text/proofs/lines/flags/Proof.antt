@@ -1,27 +1,25 @@
-use Prim.Native.Nat.{ℕ, _≤_, _-_, _+_, _*_}
-use mathlib.Core.Path.{_≡_, refl}
+use Prim.Native.Nat.{ℕ, _≤_, _-_, _*_}
+use mathlib.Core.Path.{_≡_}
+use mathlib.Core.Bool.{false}
 use native.Mathlib.Omega.{arith}
 use borrow.Author.Needs.{needs}
-use lib.ListN.{length, getD}
-use Rattle.text.specs.Numbers.{joined}
-use Rattle.text.specs.Puts.{Puts}
-use Rattle.text.proofs.Appending.{parts-begin, parts-on, parts-end}
-use mathlib.Core.Bool.{false}
+use lib.ListN.{getD}
 use Rattle.dlx.specs.Choice.{if_then_else_}
-use Rattle.text.specs.Numbers.{numberOf}
+use Rattle.decimal.specs.Texts.{Puts}
+use Rattle.text.specs.Numbers.{joined, numberOf}
 use Rattle.text.specs.Lines.{flagsOf}
-use Rattle.text.proofs.Appending.{flag-byte}
+use Rattle.text.proofs.Appending.{parts-begin, parts-on, parts-end, flag-byte}
 use Rattle.text.proofs.lines.flags.Statement.{statement}
 use Rattle.text.proofs.lines.flags.Tie as tie
 
 abbrev Inv-loop : tie.InvT-loop
-Inv-loop text₀ used running end₀ i₀ text end i = Puts text₀ used text end (joined (λ k. numberOf (if getD running k false then 1 else 0)) i) (21 * i) × (length text ≡ length text₀) × (i ≤ 8)
+Inv-loop text₀ used running end₀ i₀ text end i = Puts text₀ used text end (joined (λ k. numberOf (if getD running k false then 1 else 0)) i) (21 * i) × (i ≤ 8)
 
 abbrev μ-loop : tie.MeasureT-loop
 μ-loop text₀ used running end₀ i₀ text end i = 8 - i
 
 loop-holds : tie.Need-loop-holds Inv-loop μ-loop
-loop-holds c = (parts-begin (λ (k : ℕ). numberOf (if getD (c .before .args .running .now) k false then 1 else 0)) 21, refl, omega arith)
+loop-holds c = (parts-begin _ 21, omega arith)
 
 element-copy-out-number : tie.Need-element-copy-out-number Inv-loop μ-loop
 element-copy-out-number c = search needs
@@ -30,7 +28,7 @@ cast-number : tie.Need-cast-number Inv-loop μ-loop
 cast-number c = search needs
 
 number-requires : tie.Need-number-requires Inv-loop μ-loop
-number-requires c κs = omega (arith, c .before .before .before .loop .inv .0 .within)
+number-requires c κs = tt
 
 add-i : tie.Need-add-i Inv-loop μ-loop
 add-i c = search needs
@@ -39,14 +37,11 @@ loop-less : tie.Need-loop-less Inv-loop μ-loop
 loop-less c = search needs
 
 loop-again : tie.Need-loop-again Inv-loop μ-loop
-loop-again c = (parts-on (λ (k : ℕ). numberOf (if getD (c .before .before .before .before .before .before .before .before .args .running .now) k false then 1 else 0)) 21 (c .before .before .before .before .before .before .loop .i) (c .before .before .before .before .before .before .loop .inv .0) (rw flag-byte at (c .before .before .number .ensures)), omega arith, omega arith)
-
-same-length : tie.Need-same-length Inv-loop μ-loop
-same-length c = search needs
+loop-again c = (parts-on (λ (k : ℕ). numberOf (if getD (c .before .before .before .before .before .args .running .now) k false then 1 else 0)) 21 (c .before .before .before .before .loop .i) (c .before .before .before .before .loop .inv .0) (rw flag-byte at (c .number .ensures)), omega arith)
 
 returns : tie.Need-returns Inv-loop μ-loop
 unfolding flagsOf
-returns c = parts-end (λ (k : ℕ). numberOf (if getD (c .before .before .before .args .running .now) k false then 1 else 0)) 21 (c .before .loop .i) 8 (c .before .loop .inv .2) (c .loop-test .left) (c .before .loop .inv .0)
+returns c = parts-end _ 21 (c .before .loop .i) 8 (c .before .loop .inv .1) (c .loop-test .left) (c .before .loop .inv .0)
 
 pub flags-spec : {M : Type 1} → statement M
 flags-spec =
@@ -61,5 +56,4 @@ flags-spec =
     add-i
     loop-less
     loop-again
-    same-length
     returns)

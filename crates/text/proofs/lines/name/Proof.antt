@@ -1,116 +1,93 @@
 use native.Mathlib.Omega.{arith}
 use borrow.Author.Tests.{ne-eqb}
+use Rattle.decimal.specs.Texts.{ascii}
+use Rattle.decimal.proofs.Texts.{exactly, roomy}
 use Rattle.text.specs.Lines.{nameOf}
-use Rattle.text.proofs.Appending.{roomy}
 use borrow.Author.Needs.{needs}
 use Rattle.text.proofs.lines.name.Statement.{statement}
 use Rattle.text.proofs.lines.name.Tie as tie
 
-slice-aggregate-put : tie.Need-slice-aggregate-put
-slice-aggregate-put c = search needs
+slice-aggregate-put-text : tie.Need-slice-aggregate-put-text
+slice-aggregate-put-text c = search needs
 
-put-requires : tie.Need-put-requires
-put-requires c κs = search needs
+put-text-requires : tie.Need-put-text-requires
+put-text-requires c κs = tt
 
-slice-aggregate-put-2 : tie.Need-slice-aggregate-put-2
-slice-aggregate-put-2 c = search needs
+slice-aggregate-put-text-2 : tie.Need-slice-aggregate-put-text-2
+slice-aggregate-put-text-2 c = search needs
 
-put-requires-2 : tie.Need-put-requires-2
-put-requires-2 c κs = search needs
+put-text-requires-2 : tie.Need-put-text-requires-2
+put-text-requires-2 c κs = tt
 
-slice-aggregate-put-3 : tie.Need-slice-aggregate-put-3
-slice-aggregate-put-3 c = search needs
+slice-aggregate-put-text-3 : tie.Need-slice-aggregate-put-text-3
+slice-aggregate-put-text-3 c = search needs
 
-put-requires-3 : tie.Need-put-requires-3
-put-requires-3 c κs = search needs
+put-text-requires-3 : tie.Need-put-text-requires-3
+put-text-requires-3 c κs = tt
 
-slice-aggregate-put-4 : tie.Need-slice-aggregate-put-4
-slice-aggregate-put-4 c = search needs
+slice-aggregate-put-text-4 : tie.Need-slice-aggregate-put-text-4
+slice-aggregate-put-text-4 c = search needs
 
-put-requires-4 : tie.Need-put-requires-4
-put-requires-4 c κs = search needs
+put-text-requires-4 : tie.Need-put-text-requires-4
+put-text-requires-4 c κs = tt
 
-slice-aggregate-put-5 : tie.Need-slice-aggregate-put-5
-slice-aggregate-put-5 c = search needs
+slice-aggregate-put-text-5 : tie.Need-slice-aggregate-put-text-5
+slice-aggregate-put-text-5 c = search needs
 
-put-requires-5 : tie.Need-put-requires-5
-put-requires-5 c κs = search needs
+put-text-requires-5 : tie.Need-put-text-requires-5
+put-text-requires-5 c κs = tt
 
-slice-aggregate-put-6 : tie.Need-slice-aggregate-put-6
-slice-aggregate-put-6 c = search needs
+slice-aggregate-put-text-6 : tie.Need-slice-aggregate-put-text-6
+slice-aggregate-put-text-6 c = search needs
 
-put-requires-6 : tie.Need-put-requires-6
-put-requires-6 c κs = search needs
-
-same-length : tie.Need-same-length
-same-length c = search needs
+put-text-requires-6 : tie.Need-put-text-requires-6
+put-text-requires-6 c κs = tt
 
 returns : tie.Need-returns
-unfolding nameOf
-returns c = simp (c .before .before .before .before .before .match .keys1) (roomy 5 (c .before .before .put .ensures) (omega arith))
-
-same-length-2 : tie.Need-same-length-2
-same-length-2 c = search needs
+unfolding nameOf ascii
+returns c = rw (c .before .before .before .match .keys1) (roomy 5 (exactly (c .put-text .ensures)) (omega arith))
 
 returns-2 : tie.Need-returns-2
-unfolding nameOf
-returns-2 c = simp (c .before .before .before .before .before .match .keys2) (roomy 5 (c .before .before .put2 .ensures) (omega arith))
-
-same-length-3 : tie.Need-same-length-3
-same-length-3 c = search needs
+unfolding nameOf ascii
+returns-2 c = rw (c .before .before .before .match .keys2) (roomy 5 (exactly (c .put-text2 .ensures)) (omega arith))
 
 returns-3 : tie.Need-returns-3
-unfolding nameOf
-returns-3 c = simp (c .before .before .before .before .before .match .keys3) (roomy 5 (c .before .before .put3 .ensures) (omega arith))
-
-same-length-4 : tie.Need-same-length-4
-same-length-4 c = search needs
+unfolding nameOf ascii
+returns-3 c = rw (c .before .before .before .match .keys3) (roomy 5 (exactly (c .put-text3 .ensures)) (omega arith))
 
 returns-4 : tie.Need-returns-4
-unfolding nameOf
-returns-4 c = simp (c .before .before .before .before .before .match .keys4) (roomy 5 (c .before .before .put4 .ensures) (omega arith))
-
-same-length-5 : tie.Need-same-length-5
-same-length-5 c = search needs
+unfolding nameOf ascii
+returns-4 c = rw (c .before .before .before .match .keys4) (roomy 5 (exactly (c .put-text4 .ensures)) (omega arith))
 
 returns-5 : tie.Need-returns-5
-unfolding nameOf
-returns-5 c = simp (c .before .before .before .before .before .match .keys5) (roomy 5 (c .before .before .put5 .ensures) (omega arith))
-
-same-length-6 : tie.Need-same-length-6
-same-length-6 c = search needs
+unfolding nameOf ascii
+returns-5 c = rw (c .before .before .before .match .keys5) (roomy 5 (exactly (c .put-text5 .ensures)) (omega arith))
 
 returns-6 : tie.Need-returns-6
-unfolding nameOf
+unfolding nameOf ascii
 returns-6 c =
-    let r = c .before .before .before .before .before .match .rest in
-    simp (ne-eqb _ _ (r .1), ne-eqb _ _ (r .0 .1), ne-eqb _ _ (r .0 .0 .1), ne-eqb _ _ (r .0 .0 .0 .1), ne-eqb _ _ (r .0 .0 .0 .0 .1)) (roomy 5 (c .before .before .put6 .ensures) (omega arith))
+    let r = c .before .before .before .match .rest in
+    rw (ne-eqb _ _ (r .1), ne-eqb _ _ (r .0 .1), ne-eqb _ _ (r .0 .0 .1), ne-eqb _ _ (r .0 .0 .0 .1), ne-eqb _ _ (r .0 .0 .0 .0 .1)) (roomy 5 (exactly (c .put-text6 .ensures)) (omega arith))
 
 pub name-spec : {M : Type 1} → statement M
 name-spec =
     tie.close
     (tie.spec
-    slice-aggregate-put
-    put-requires
-    slice-aggregate-put-2
-    put-requires-2
-    slice-aggregate-put-3
-    put-requires-3
-    slice-aggregate-put-4
-    put-requires-4
-    slice-aggregate-put-5
-    put-requires-5
-    slice-aggregate-put-6
-    put-requires-6
-    same-length
+    slice-aggregate-put-text
+    put-text-requires
+    slice-aggregate-put-text-2
+    put-text-requires-2
+    slice-aggregate-put-text-3
+    put-text-requires-3
+    slice-aggregate-put-text-4
+    put-text-requires-4
+    slice-aggregate-put-text-5
+    put-text-requires-5
+    slice-aggregate-put-text-6
+    put-text-requires-6
     returns
-    same-length-2
     returns-2
-    same-length-3
     returns-3
-    same-length-4
     returns-4
-    same-length-5
     returns-5
-    same-length-6
     returns-6)

@@ -1,25 +1,19 @@
+use native.Mathlib.Omega.{arith}
+use Rattle.decimal.specs.Texts.{ascii}
+use Rattle.decimal.proofs.Texts.{exactly, decimal-puts, _then_}
 use Rattle.text.specs.Numbers.{numberOf}
-use Rattle.text.proofs.Appending.{_then_}
-use borrow.Author.Needs.{needs}
 use Rattle.text.proofs.numbers.number.Statement.{statement}
 use Rattle.text.proofs.numbers.number.Tie as tie
 
-slice-aggregate-put : tie.Need-slice-aggregate-put
-slice-aggregate-put c = search needs
+put-byte-requires : tie.Need-put-byte-requires
+put-byte-requires c κs = tt
 
-put-requires : tie.Need-put-requires
-put-requires c κs = search needs
-
-decimal-requires : tie.Need-decimal-requires
-decimal-requires c κs = search needs
-
-same-length : tie.Need-same-length
-same-length c = search needs
+put-decimal-requires : tie.Need-put-decimal-requires
+put-decimal-requires c κs = tt
 
 returns : tie.Need-returns
-unfolding numberOf
-returns c = c .before .before .before .before .before .before .put .ensures then c .before .before .decimal .ensures
+unfolding numberOf ascii
+returns c = exactly (c .before .before .put-byte .ensures) then decimal-puts (c .before .before .before .before .args .n) (omega arith) (c .put-decimal .ensures)
 
 pub number-spec : {M : Type 1} → statement M
-number-spec =
-    tie.close (tie.spec slice-aggregate-put put-requires decimal-requires same-length returns)
+number-spec = tie.close (tie.spec put-byte-requires put-decimal-requires returns)

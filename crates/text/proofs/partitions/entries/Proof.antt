@@ -1,23 +1,23 @@
-use Prim.Native.Nat.{ℕ, _≤_, _-_, _+_, _*_}
-use mathlib.Core.Path.{_≡_, refl}
+use Prim.Native.Nat.{ℕ, _≤_, _-_, _*_}
+use mathlib.Core.Path.{_≡_}
 use native.Mathlib.Omega.{arith}
 use borrow.Author.Needs.{needs}
 use lib.ListN.{length, getD}
+use Rattle.decimal.specs.Texts.{Puts}
 use Rattle.text.specs.Numbers.{joined}
-use Rattle.text.specs.Puts.{Puts}
-use Rattle.text.proofs.Appending.{parts-begin, parts-on, parts-end}
 use Rattle.text.specs.Partitions.{entryOf, entriesOf}
+use Rattle.text.proofs.Appending.{parts-begin, parts-on, parts-end}
 use Rattle.text.proofs.partitions.entries.Statement.{statement}
 use Rattle.text.proofs.partitions.entries.Tie as tie
 
 abbrev Inv-loop : tie.InvT-loop
-Inv-loop text₀ used shadow end₀ px₀ text end px = Puts text₀ used text end (joined (λ k. entryOf k (getD shadow k 0)) px) (42 * px) × (length text ≡ length text₀) × (px ≤ length shadow)
+Inv-loop text₀ used shadow end₀ px₀ text end px = Puts text₀ used text end (joined (λ k. entryOf k (getD shadow k 0)) px) (42 * px) × (px ≤ length shadow)
 
 abbrev μ-loop : tie.MeasureT-loop
 μ-loop text₀ used shadow end₀ px₀ text end px = length shadow - px
 
 loop-holds : tie.Need-loop-holds Inv-loop μ-loop
-loop-holds c = (parts-begin (λ (k : ℕ). entryOf k (getD (c .before .before .args .shadow .now) k 0)) 42, refl, omega arith)
+loop-holds c = (parts-begin _ 42, omega arith)
 
 mul-entry : tie.Need-mul-entry Inv-loop μ-loop
 mul-entry c = search needs
@@ -26,7 +26,7 @@ shared-slice-read-entry : tie.Need-shared-slice-read-entry Inv-loop μ-loop
 shared-slice-read-entry c = search needs
 
 entry-requires : tie.Need-entry-requires Inv-loop μ-loop
-entry-requires c κs = omega (arith, c .before .before .before .loop .inv .0 .within)
+entry-requires c κs = tt
 
 add-px : tie.Need-add-px Inv-loop μ-loop
 add-px c = search needs
@@ -35,14 +35,11 @@ loop-less : tie.Need-loop-less Inv-loop μ-loop
 loop-less c = search needs
 
 loop-again : tie.Need-loop-again Inv-loop μ-loop
-loop-again c = (parts-on (λ (k : ℕ). entryOf k (getD (c .before .before .before .before .before .before .before .before .before .args .shadow .now) k 0)) 42 (c .before .before .before .before .before .before .loop .px) (c .before .before .before .before .before .before .loop .inv .0) (c .before .before .entry .ensures), omega arith, omega arith)
-
-same-length : tie.Need-same-length Inv-loop μ-loop
-same-length c = search needs
+loop-again c = (parts-on (λ (k : ℕ). entryOf k (getD (c .before .before .before .before .before .before .args .shadow .now) k 0)) 42 (c .before .before .before .before .loop .px) (c .before .before .before .before .loop .inv .0) (c .entry .ensures), omega arith)
 
 returns : tie.Need-returns Inv-loop μ-loop
 unfolding entriesOf
-returns c = parts-end (λ (k : ℕ). entryOf k (getD (c .before .before .before .before .args .shadow .now) k 0)) 42 (c .before .loop .px) (length (c .before .before .before .before .args .shadow .now)) (c .before .loop .inv .2) (c .loop-test .left) (c .before .loop .inv .0)
+returns c = parts-end _ 42 (c .before .loop .px) _ (c .before .loop .inv .1) (c .loop-test .left) (c .before .loop .inv .0)
 
 pub entries-spec : {M : Type 1} → statement M
 entries-spec =
@@ -57,5 +54,4 @@ entries-spec =
     add-px
     loop-less
     loop-again
-    same-length
     returns)

@@ -1,9 +1,8 @@
-use Rattle.text.proofs.Appending.{_then_}
-use Rattle.text.proofs.Appending.{nothing, roomy}
 use native.Mathlib.Omega.{arith}
 use borrow.Author.Tests.{eq-eqb, ne-eqb}
+use Rattle.decimal.specs.Texts.{ascii}
+use Rattle.decimal.proofs.Texts.{exactly, decimal-puts, _then_, nothing, roomy}
 use Rattle.text.specs.Partitions.{entryOf}
-use borrow.Author.Needs.{needs}
 use Rattle.text.proofs.partitions.entry.Statement.{statement}
 use Rattle.text.proofs.partitions.entry.Tie as tie
 
@@ -12,32 +11,18 @@ unfolding entryOf
 returns c = rw (eq-eqb _ _ (c .if1 .taken)) (roomy 42 nothing (omega arith))
 
 number-requires : tie.Need-number-requires
-number-requires c κs = search needs
+number-requires c κs = tt
 
-slice-aggregate-put : tie.Need-slice-aggregate-put
-slice-aggregate-put c = search needs
+put-byte-requires : tie.Need-put-byte-requires
+put-byte-requires c κs = tt
 
-put-requires : tie.Need-put-requires
-put-requires c κs = search needs
-
-decimal-requires : tie.Need-decimal-requires
-decimal-requires c κs = search needs
-
-same-length : tie.Need-same-length
-same-length c = search needs
+put-decimal-requires : tie.Need-put-decimal-requires
+put-decimal-requires c κs = tt
 
 returns-2 : tie.Need-returns-2
-unfolding entryOf
-returns-2 c = rw (ne-eqb _ _ (c .before .before .before .before .before .before .before .before .before .before .before .before .before .if1 .left)) (c .before .before .before .before .before .before .before .before .before .before .before .number .ensures then c .before .before .before .before .before .before .put .ensures then c .before .before .decimal .ensures)
+unfolding entryOf ascii
+returns-2 c = rw (ne-eqb _ _ (c .before .before .before .before .before .before .if1 .left)) (c .before .before .before .before .number .ensures then exactly (c .before .before .put-byte .ensures) then decimal-puts (c .before .before .before .before .before .before .before .args .e) (omega arith) (c .put-decimal .ensures))
 
 pub entry-spec : {M : Type 1} → statement M
 entry-spec =
-    tie.close
-    (tie.spec
-    returns
-    number-requires
-    slice-aggregate-put
-    put-requires
-    decimal-requires
-    same-length
-    returns-2)
+    tie.close (tie.spec returns number-requires put-byte-requires put-decimal-requires returns-2)
