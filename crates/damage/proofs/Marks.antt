@@ -6,7 +6,7 @@ use Prim.Native.Nat.{ℕ, zero, suc, _+_, _-_, _*_, _/_, _%_, _<_, _≤_}
 use native.Mathlib.Numerals.{add-one}
 use native.Mathlib.Nat.{add-sub-cancel-left}
 use native.Mathlib.Omega.{arith}
-use borrow.Author.Tests.{not-false, eqb-true, eq-eqb, ne-eqb, le-leb, lt-leb, leb-true, leb-false}
+use borrow.Author.Tests.{not-false, eqb-true, eq-eqb, ne-eqb, leb-true, leb-false}
 use lib.Dec.{eqb, leb}
 use lib.ListN.{length, getD, set, take, drop, length-set, length-replicate, getD-replicate, List·getD-eq-default}
 use lib.Seq.{getD-set-same, getD-set-other}
@@ -21,7 +21,7 @@ use Rattle.house.specs.House.{noPartition}
 use Rattle.house.specs.Damage.{stands, entryWrong, wholeFrames, notZero, partitionUsed, damaged, outsideLimits, frameTwice, turnWrong, registersWrong, shadowWrong, unusedWrong, queuesWrong}
 use Rattle.house.specs.declared.House.{House}
 use Rattle.house.proofs.Lists.Bounded.{one-way, same-test, or-left, or-right, any-yes, any-at, any-none, any-same, and-right}
-use Rattle.damage.specs.Marks.{Within, shadowMarked, shadowOutside, pagesAt, partAt, pagesOutside, frameOutside, framesOutside, marked, ownersOf, twiceMarked, twiceAt, twiceIn, entryMarked, sizesOutside, outside, turnOutside, registersAt, roomWrong, queueAt, inside}
+use Rattle.damage.specs.Marks.{Within, shadowMarked, shadowOutside, pagesAt, partAt, pagesOutside, frameOutside, framesOutside, marked, ownersOf, twiceMarked, twiceAt, twiceIn, entryMarked, outside, turnOutside, registersAt, roomWrong, queueAt, inside}
 
 -- partition i's part of a list, as the code lends it
 pub part-is : (l : List ℕ) (i : ℕ) → take (i * 256 + 256 - i * 256) (drop (i * 256) l) ≡ partAt l i
@@ -156,38 +156,24 @@ pages-within ps n h i l =
     leb-true (pagesAt ps i) 256
     (and-right (leb 1 (pagesAt ps i)) _ (not-false _ (any-none (pagesOutside ps) n h i l)))
 
-module _ (ps : List Partition) (i n : ℕ) (e : n ≡ pagesAt ps i) where
-  pub few-pages : n < 1 → pagesOutside ps i ≡ true
-  few-pages l = subst (λ (x : ℕ). not (between 1 x 256) ≡ true) e (rw (lt-leb 1 n l))
-
-  pub many-pages : 1 ≤ n → 256 < n → pagesOutside ps i ≡ true
-  many-pages l m = subst (λ (x : ℕ). not (between 1 x 256) ≡ true) e (rw (le-leb 1 n l, lt-leb n 256 m))
-
-  pub fit-pages : 1 ≤ n → n ≤ 256 → pagesOutside ps i ≡ false
-  fit-pages l m = subst (λ (x : ℕ). not (between 1 x 256) ≡ false) e (rw (le-leb 1 n l, le-leb n 256 m))
-
-pub sizes-within : (count q words : ℕ) → sizesOutside count q words ≡ false → (count ≤ 8) × (words / 1024 ≤ 1024)
-sizes-within count q words h =
-    let n = not (between 1 count 8) in
-    let t = not (between 1 q 10000) in
-    let s = words / 1024 in (
-      leb-true count 8 (and-right (leb 1 count) (leb count 8) (not-false (between 1 count 8) (or-left n t (or-left (n || t) (not (wholeFrames words)) h)))),
-      leb-true s 1024 (and-right (leb 1 s) (leb s 1024) (and-right (eqb (words % 1024) 0) (between 1 s 1024) (not-false (wholeFrames words) (or-right (n || t) (not (wholeFrames words)) h)))),
-    )
+none-of-five : (a b c d e : Bool) → (a || b || c || d || e) ≡ false → (a ≡ false) × (b ≡ false) × (c ≡ false) × (d ≡ false) × (e ≡ false)
+none-of-five true b c d e h = one-way true refl h
+none-of-five false true c d e h = one-way true refl h
+none-of-five false false true d e h = one-way true refl h
+none-of-five false false false true e h = one-way true refl h
+none-of-five false false false false e h = (refl, refl, refl, refl, h)
 
 pub within : (count q words : ℕ) (ps : List Partition) (fr : List ℕ) → outside count q words ps fr ≡ false → Within count ps fr
 within count q words ps fr h =
     let size = words / 1024 in
-    let pages = any (pagesOutside ps) count in
-    let frames = any (framesOutside ps fr size) count in
-    let first = or-left (sizesOutside count q words || pages) frames h in
-    let sizes = sizes-within count q words (or-left (sizesOutside count q words) pages first) in
+    let f = none-of-five (not (between 1 count 8)) (any (pagesOutside ps) count) (not (between 1 q 10000)) (not (wholeFrames words)) (any (framesOutside ps fr size) count) h in
     record {
-      few = sizes .0;
-      pages = pages-within ps count (or-right (sizesOutside count q words) pages first);
+      few = leb-true count 8 (and-right (leb 1 count) (leb count 8) (not-false (between 1 count 8) (f .0)));
+      pages = pages-within ps count (f .1);
       below = λ i l k m.
-          let less : getD (partAt fr i) k 0 < size = leb-false size (getD (partAt fr i) k 0) (any-none (frameOutside (partAt fr i) size) (pagesAt ps i) (any-none (framesOutside ps fr size) count (or-right (sizesOutside count q words || pages) frames h) i l) k m) in
-          omega (arith, sizes .1, less);
+          let small : size ≤ 1024 = leb-true size 1024 (and-right (leb 1 size) (leb size 1024) (and-right (eqb (words % 1024) 0) (between 1 size 1024) (not-false (wholeFrames words) (f .3)))) in
+          let less : getD (partAt fr i) k 0 < size = leb-false size (getD (partAt fr i) k 0) (any-none (frameOutside (partAt fr i) size) (pagesAt ps i) (any-none (framesOutside ps fr size) count (f .4) i l) k m) in
+          omega (arith, small, less);
     }
 
 pub shadows-by-marks : (count : ℕ) (ps : List Partition) (fr sh o : List ℕ) → Within count ps fr → any (twiceIn ps fr) count ≡ false → o ≡ ownersOf ps fr count → any (shadowMarked o sh) count ≡ any (shadowOutside ps fr sh) count
@@ -200,16 +186,6 @@ shadows-by-marks count ps fr sh o w once e =
     (λ px m. entry-by-marks ps fr count i (w .below i l) once l (getD (partAt sh i) px 0))))
 
 -- ---- the conditions in the order in which the code looks
-
-module _ (count q words n : ℕ) (ps : List Partition) (fr : List ℕ) (w : n ≡ count) where
-  pub sizes-found : sizesOutside count q words ≡ true → true ≡ outside count q words ps fr
-  sizes-found a = rw a refl
-
-  pub pages-found : sizesOutside count q words ≡ false → any (pagesOutside ps) n ≡ true → true ≡ outside count q words ps fr
-  pages-found a b = rw (a, rw w at b) refl
-
-  pub frames-found : (r : Bool) → sizesOutside count q words ≡ false → any (pagesOutside ps) n ≡ false → r ≡ any (framesOutside ps fr (words / 1024)) n → r ≡ outside count q words ps fr
-  frames-found r a b e = rw (a, rw w at b) (rw w at e)
 
 module _ (count q current left n : ℕ) (running : List Bool) (ps : List Partition) (rs fr sh : List ℕ) (w : n ≡ count) where
   abbrev within-limits : Bool
@@ -237,15 +213,9 @@ module _ (count q current left n : ℕ) (running : List Bool) (ps : List Partiti
         unused-found r b e = simp (rw w at once, turn, rw w at registers, sym by-marks ∙ b) (rw w at e)
 
 -- the definition's conditions, as the code groups them
-regrouped : (a b c d e f t r s u q : Bool) → ((a || b || c || d || e) || f || t || r || s || u || q) ≡ ((a || c || d) || b || e || (f || t || r || s || u) || q)
-regrouped true b c d e f t r s u q = refl
-regrouped false true true d e f t r s u q = refl
-regrouped false true false true e f t r s u q = refl
-regrouped false true false false e f t r s u q = refl
-regrouped false false true d e f t r s u q = refl
-regrouped false false false true e f t r s u q = refl
-regrouped false false false false true f t r s u q = refl
-regrouped false false false false false f t r s u q = refl
+regrouped : (o f t r s u q : Bool) → (o || f || t || r || s || u || q) ≡ (o || (f || t || r || s || u) || q)
+regrouped true f t r s u q = refl
+regrouped false f t r s u q = refl
 
 module _ (h : House) where
   abbrev limits : Bool
@@ -261,11 +231,7 @@ module _ (h : House) where
   unfolding damaged outsideLimits frameTwice turnWrong registersWrong shadowWrong unusedWrong queuesWrong
   grouped =
       regrouped
-      (not (between 1 (h .count) 8))
-      (any (pagesOutside (h .parts)) (h .count))
-      (not (between 1 (h .q) 10000))
-      (not (wholeFrames (h .words)))
-      (any (framesOutside (h .parts) (h .frames) (h .words / 1024)) (h .count))
+      limits
       (any (twiceIn (h .parts) (h .frames)) (h .count))
       (turnOutside (h .count) (h .q) (h .current) (h .left) (h .running))
       (any (registersAt (h .parts) (h .regs)) (h .count))

@@ -32,13 +32,12 @@ frameOutside fr size k = leb size (getD fr k 0)
 abbrev pub framesOutside : List Partition → List ℕ → ℕ → ℕ → Bool
 framesOutside ps fr size i = any (frameOutside (partAt fr i) size) (pagesAt ps i)
 
-abbrev pub sizesOutside : ℕ → ℕ → ℕ → Bool
-sizesOutside count q words = not (between 1 count 8) || not (between 1 q 10000) || not (wholeFrames words)
-
 abbrev pub outside : ℕ → ℕ → ℕ → List Partition → List ℕ → Bool
 outside count q words ps fr =
-    sizesOutside count q words
+    not (between 1 count 8)
     || any (pagesOutside ps) count
+    || not (between 1 q 10000)
+    || not (wholeFrames words)
     || any (framesOutside ps fr (words / 1024)) count
 
 -- what they give

@@ -7,7 +7,7 @@ ghost use Rattle.translate.specs.Walk.{entries};
 ghost use Rattle.house.specs.Lists.{any};
 ghost use Rattle.house.specs.House.{noPartition};
 ghost use Rattle.house.specs.Damage.{damaged, partitionUsed, notZero};
-ghost use Rattle.damage.specs.Marks.{Within, inside, pagesAt, partAt, pagesOutside, frameOutside, framesOutside, sizesOutside, outside, marked, ownersOf, twiceMarked, twiceIn, entryMarked, shadowMarked, turnOutside, processorWrong, registersAt, behind, roomWrong, countWrong, queueOutside, queueAt};
+ghost use Rattle.damage.specs.Marks.{Within, inside, pagesAt, partAt, pagesOutside, frameOutside, framesOutside, outside, marked, ownersOf, twiceMarked, twiceIn, entryMarked, shadowMarked, turnOutside, processorWrong, registersAt, behind, roomWrong, countWrong, queueOutside, queueAt};
 use dlx::partition::Partition;
 use dlx::partition::Processor;
 use dlx::words::wide;
@@ -44,11 +44,11 @@ fn pages_outside(parts: [Partition; 8], n: usize) -> bool
 {
     let mut i = 0;
     while i < n {
-        let pages = pages_at(parts, i);
-        if pages < 1 {
+        let p = parts[i];
+        if p.pages < 1 {
             return true;
         }
-        if pages > 256 {
+        if p.pages > 256 {
             return true;
         }
         i += 1;
@@ -89,14 +89,19 @@ fn frames_outside(parts: [Partition; 8], frames: &[u32], n: usize, size: u32) ->
     false
 }
 
-// The count, q or the memory's size is outside boot's limits.
-fn sizes_outside(count: u32, q: u32, words: u32) -> bool
-    ensures { λ r. ⌜ r ≡ sizesOutside count q words ⌝ }
+// The house is outside boot's limits.
+fn outside_limits(count: u32, q: u32, words: u32, parts: [Partition; 8], frames: &[u32]) -> bool
+    requires { ⌜ length (now frames) ≡ 2048 ⌝ }
+    ensures { λ r. ⌜ r ≡ outside count q words parts (now (frames .entry)) ⌝ }
 {
     if count < 1 {
         return true;
     }
     if count > 8 {
+        return true;
+    }
+    let n = wide(count);
+    if pages_outside(parts, n) {
         return true;
     }
     if q < 1 {
@@ -115,22 +120,7 @@ fn sizes_outside(count: u32, q: u32, words: u32) -> bool
     if size > 1024 {
         return true;
     }
-    false
-}
-
-// The house is outside boot's limits.
-fn outside_limits(count: u32, q: u32, words: u32, parts: [Partition; 8], frames: &[u32]) -> bool
-    requires { ⌜ length (now frames) ≡ 2048 ⌝ }
-    ensures { λ r. ⌜ r ≡ outside count q words parts (now (frames .entry)) ⌝ }
-{
-    if sizes_outside(count, q, words) {
-        return true;
-    }
-    let n = wide(count);
-    if pages_outside(parts, n) {
-        return true;
-    }
-    frames_outside(parts, frames, n, words / 1024)
+    frames_outside(parts, frames, n, size)
 }
 
 // Marks the first n frames of a list with the tag, their partition's number + 1, up to one that has an owner already.
