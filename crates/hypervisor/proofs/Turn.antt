@@ -83,3 +83,44 @@ limited l r n e p q =
     (either (λ (x : ℕ). (0 < x) × (x ≤ l) × (x ≤ r)) (leb l r)
     (λ b. let h = leb-true l r b in (omega arith, omega arith, omega arith))
     (λ b. let h = leb-false l r b in (omega arith, omega arith, omega arith)))
+
+pub still-some : (a b : ℕ) → a < b → 0 < b - a
+still-some a b l = omega arith
+
+-- where the current partition's parts begin and end
+pub current-few : (i c n : ℕ) → i ≡ c → c < n → n ≤ 8 → i < 8
+current-few i c n e l f = omega arith
+
+more-is-no-less : (a s : ℕ) → a ≤ a + s
+more-is-no-less a s = omega arith
+
+pub starts : (i s : ℕ) → i * s ≤ i * s + s
+starts i s = more-is-no-less (i * s) s
+
+module _ (i : ℕ) (l : i < 8) where
+  pub fits-64 : i * 64 < 2 ^ 64
+  fits-64 = omega arith
+
+  pub fits-32 : i * 32 < 2 ^ 64
+  fits-32 = omega arith
+
+  pub fits-32-on : i * 32 + 32 < 2 ^ 64
+  fits-32-on = omega arith
+
+  pub fits-32-words : i * 32 * 4 < 2 ^ 64
+  fits-32-words = omega arith
+
+  pub ends-32 : (n : ℕ) → n ≡ 256 → i * 32 + 32 ≤ n
+  ends-32 n e = omega arith
+
+  pub fits-256 : i * 256 < 2 ^ 64
+  fits-256 = omega arith
+
+  pub fits-256-on : i * 256 + 256 < 2 ^ 64
+  fits-256-on = omega arith
+
+  pub fits-256-words : i * 256 * 4 < 2 ^ 64
+  fits-256-words = omega arith
+
+  pub ends-256 : (n : ℕ) → n ≡ 2048 → i * 256 + 256 ≤ n
+  ends-256 n e = omega arith

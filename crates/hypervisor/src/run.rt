@@ -5,7 +5,6 @@ ghost use lib.Dec.{leb};
 ghost use Rattle.dlx.specs.Choice.{if_then_else_};
 ghost use Rattle.house.specs.Turns.{world, following as followingOf, nextOf, turnOf, hostSteps};
 ghost use Rattle.house.specs.Sound.{Sound};
-use dlx::partition::Partition;
 use dlx::words::wide;
 use house::House;
 use house::Turn;
@@ -80,7 +79,7 @@ fn limit(left: u32, rest: u32) -> u32
 }
 
 // k host steps. The arrays are in locals; a turn lends the partition's parts of them.
-pub fn steps(h: House, memory: &mut [u32], k: u32) -> House
+pub fn steps(mut h: House, memory: &mut [u32], k: u32) -> House
     requires { ⌜ Sound (world h (now memory)) ⌝ }
     ensures { λ r. ⌜ world r (now (memory .exit)) ≡ hostSteps k (world h (now (memory .entry))) ⌝ }
 {
@@ -98,7 +97,7 @@ pub fn steps(h: House, memory: &mut [u32], k: u32) -> House
     let mut made: u32 = 0;
     while made < k {
         let i = wide(current);
-        let p = parts[i];
+        let mut p = parts[i];
         let a = i * 32;
         let b = a + 32;
         let c = i * 256;
@@ -120,29 +119,21 @@ pub fn steps(h: House, memory: &mut [u32], k: u32) -> House
         );
         let processor = s.processor;
         let table = s.table;
-        parts[i] = Partition {
-            pages: p.pages,
-            processor,
-            table,
-            counter: std::num::wrapping_add_u64(p.counter, s.made as u64),
-        };
+        p.processor = processor;
+        p.table = table;
+        p.counter = std::num::wrapping_add_u64(p.counter, s.made as u64);
+        parts[i] = p;
         let t = turn(&running, count, q, current, left, s.made, s.called);
         current = t.current;
         left = t.left;
         made += s.made;
     }
-    House {
-        count,
-        q,
-        words: h.words,
-        current,
-        left,
-        running,
-        parts,
-        regs,
-        frames,
-        shadows,
-        tickets,
-        waiting,
-    }
+    h.current = current;
+    h.left = left;
+    h.parts = parts;
+    h.regs = regs;
+    h.shadows = shadows;
+    h.tickets = tickets;
+    h.waiting = waiting;
+    h
 }

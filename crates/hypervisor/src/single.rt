@@ -5,8 +5,9 @@ ghost use mathlib.Core.List.{_++_};
 ghost use Prim.Native.Nat.{_+_, _*_, _<_, _≤_};
 ghost use lib.ListN.{length, getD, drop};
 ghost use Rattle.house.specs.Lists.{any, listFrom};
-ghost use Rattle.house.specs.House.{turn, withTurn};
-ghost use Rattle.house.specs.Calls.{started, stopped, emptiedHouse};
+ghost use Rattle.house.specs.House.{pagesOf, turn, withTurn};
+ghost use Rattle.house.specs.Turns.{world};
+ghost use Rattle.house.specs.Calls.{started, stopped, emptiedHouse, readVerdict, readOut};
 ghost use Rattle.translate.specs.Memory.{hostWord};
 ghost use Rattle.translate.specs.Premises.{Placed};
 use crate::run::next;
@@ -81,4 +82,32 @@ pub fn read(frames: &[u32], pages: u32, words: &[u32], from: usize, count: usize
         out[j] = words[wide(frames[g / 1024]) * 1024 + g % 1024];
         j += 1;
     }
+}
+
+// Partition i's page count.
+pub fn pages_of(h: House, i: u32) -> u32
+    requires { ⌜ i < 8 ⌝ }
+    ensures { λ r. ⌜ r ≡ pagesOf h i ⌝ }
+{
+    let parts = h.parts;
+    let p = parts[wide(i)];
+    return p.pages;
+}
+
+// So many words of partition i's pages, into the first of an output.
+pub fn read_pages(h: House, memory: &[u32], i: u32, address: u32, count: u64, out: &mut [u32])
+    requires { ⌜ readVerdict (world h (now memory)) i address count (now out) .number ≡ 0 ⌝ }
+    ensures { λ r. ⌜ now (out .exit) ≡ readOut (world h (now (memory .entry))) i address count (now (out .entry)) ⌝ }
+{
+    let frames = h.frames;
+    let a = wide(i) * 256;
+    let b = a + 256;
+    read(
+        &frames[a..b],
+        pages_of(h, i),
+        memory,
+        wide(address / 4),
+        count as usize,
+        out,
+    );
 }

@@ -1,44 +1,40 @@
-use Rattle.house.specs.Boot.{firstOf}
-use Rattle.house.specs.Calls.{oneVerdict, stopCall}
+use mathlib.Core.Path.{sym, ap, _∙_}
+use Rattle.house.specs.Turns.{world}
+use Rattle.house.specs.Calls.{oneVerdict, stopped, stopCall}
 use Rattle.house.proofs.Damage.Undamaged.{count-within}
-use mathlib.Core.Path.{sym, _∙_}
-use borrow.Author.Tests.{lt-leb, le-leb}
+use Rattle.house.proofs.Calls.Verdicts.{one-done}
+use Rattle.hypervisor.proofs.Refusals.{one-plain, leaves-given, leaves-done}
 use borrow.Author.Needs.{needs}
 use Rattle.hypervisor.proofs.calls.stop.Statement.{statement}
 use Rattle.hypervisor.proofs.calls.stop.Tie as tie
 
-damaged-requires : tie.Need-damaged-requires
-damaged-requires c κs = search needs
+one-refusal-requires : tie.Need-one-refusal-requires
+one-refusal-requires c κs = search needs
 
 refused-requires : tie.Need-refused-requires
 refused-requires c κs = search needs
 
 returns : tie.Need-returns
-unfolding stopCall oneVerdict firstOf
-returns c = λ m. simp (c .refused .ensures, (sym (c .before .before .damaged .ensures) ∙ c .before .if1 .taken))
-
-refused-requires-2 : tie.Need-refused-requires-2
-refused-requires-2 c κs = search needs
-
-returns-2 : tie.Need-returns-2
-unfolding stopCall oneVerdict firstOf
-returns-2 c = λ m. simp (c .refused2 .ensures, (sym (c .before .before .before .before .damaged .ensures) ∙ c .before .before .before .if1 .left), le-leb _ _ (c .before .if2 .taken))
+unfolding stopCall
+returns c = λ m. let a = c .before .before .before .args in
+    leaves-given (oneVerdict (a .h) (a .i)) 0 _ (one-plain (a .h) (a .i)) (c .before .before .one-refusal .ensures) (a .h) _ (c .refused .ensures) (c .before .if1 .taken) m (world (stopped (a .h) (a .i)) m)
 
 stop-requires : tie.Need-stop-requires
-stop-requires c κs = (count-within (c .before .before .before .before .args .h) (sym (c .before .before .before .damaged .ensures) ∙ c .before .before .if1 .left) .1, c .if2 .left)
+stop-requires c κs = let a = c .before .before .args in
+    let d = one-done (a .h) (a .i) (sym (c .before .one-refusal .ensures) ∙ c .if1 .left) in
+    (count-within (a .h) (d .whole) .1, d .there)
 
-returns-3 : tie.Need-returns-3
-unfolding stopCall oneVerdict firstOf
-returns-3 c = λ m. simp (c .stop .ensures, (sym (c .before .before .before .before .damaged .ensures) ∙ c .before .before .before .if1 .left), lt-leb _ _ (c .before .if2 .left))
+returns-2 : tie.Need-returns-2
+unfolding stopCall
+returns-2 c = λ m. let a = c .before .before .before .args in
+    leaves-done (oneVerdict (a .h) (a .i)) 0 _ (one-plain (a .h) (a .i)) (c .before .before .one-refusal .ensures) (c .before .if1 .left) (world (c .stop .result) m) (world (stopped (a .h) (a .i)) m) (world (a .h) m) (ap (λ h. world h m) (c .stop .ensures))
 
 pub stop-spec : {M : Type 1} → statement M
 stop-spec =
     tie.close
     (tie.spec
-    damaged-requires
+    one-refusal-requires
     refused-requires
     returns
-    refused-requires-2
-    returns-2
     stop-requires
-    returns-3)
+    returns-2)

@@ -1,5 +1,5 @@
 use Prim.Native.Nat.{ℕ}
-use Rattle.hypervisor.proofs.Turn.{asked-turned, after-turn, asked-sound, limited}
+use Rattle.hypervisor.proofs.Turn.{asked-turned, after-turn, asked-sound, limited, current-few, still-some, fits-32, fits-32-on, fits-32-words, fits-256, fits-256-on, fits-256-words, fits-64, starts, ends-32, ends-256}
 use Rattle.house.proofs.Turns.Stretch.{steps-add}
 use Rattle.house.proofs.Turns.Kept.{sound-steps}
 use mathlib.Core.Path.{sym, subst}
@@ -8,7 +8,7 @@ use Rattle.house.specs.Turns.{world, hostSteps, houseAt}
 use lib.ListN.{length}
 use mathlib.Core.Path.{_≡_, refl, _∙_, ap}
 use Prim.Native.Nat.{_-_, _<_, _≤_, zero-le}
-use native.Mathlib.Nat.{le-antisymm}
+use native.Mathlib.Nat.{le-antisymm, le-trans}
 use native.Mathlib.Omega.{arith}
 use borrow.Author.Needs.{needs}
 use Rattle.hypervisor.proofs.run.steps.Statement.{statement}
@@ -33,23 +33,27 @@ loop-holds c = (refl, c .before .before .before .before .before .before .before 
 wide-requires : tie.Need-wide-requires Inv-loop μ-loop
 wide-requires c κs = search needs
 
+-- the current partition is there
+inside : (c : tie.After-wide Inv-loop μ-loop) → c .wide .result < 8
+inside c = current-few _ _ _ (c .wide .ensures) (c .before .before .loop .inv .1 .here) (c .before .before .loop .inv .1 .few)
+
 mul-p : tie.Need-mul-p Inv-loop μ-loop
-mul-p c = omega (arith, c .wide .ensures, c .before .before .loop .inv .1 .here, c .before .before .loop .inv .1 .few)
+mul-p c = record { fits = fits-64 _ (inside c) }
 
 array-copy-out-p : tie.Need-array-copy-out-p Inv-loop μ-loop
-array-copy-out-p c = omega (arith, c .wide .ensures, c .before .before .loop .inv .1 .here, c .before .before .loop .inv .1 .few)
+array-copy-out-p c = inside c
 
 mul-a : tie.Need-mul-a Inv-loop μ-loop
-mul-a c = omega (arith, c .before .wide .ensures, c .before .before .before .loop .inv .1 .here, c .before .before .before .loop .inv .1 .few)
+mul-a c = record { fits = fits-32 _ (inside (c .before)) }
 
 add-b : tie.Need-add-b Inv-loop μ-loop
-add-b c = omega (arith, c .before .wide .ensures, c .before .before .before .loop .inv .1 .here, c .before .before .before .loop .inv .1 .few)
+add-b c = record { fits = fits-32-on _ (inside (c .before)) }
 
 mul-c : tie.Need-mul-c Inv-loop μ-loop
-mul-c c = omega (arith, c .before .wide .ensures, c .before .before .before .loop .inv .1 .here, c .before .before .before .loop .inv .1 .few)
+mul-c c = record { fits = fits-256 _ (inside (c .before)) }
 
 add-d : tie.Need-add-d Inv-loop μ-loop
-add-d c = omega (arith, c .before .wide .ensures, c .before .before .before .loop .inv .1 .here, c .before .before .before .loop .inv .1 .few)
+add-d c = record { fits = fits-256-on _ (inside (c .before)) }
 
 sub-limit : tie.Need-sub-limit Inv-loop μ-loop
 sub-limit c = omega (arith, c .before .before .loop-test .taken)
@@ -58,40 +62,40 @@ limit-requires : tie.Need-limit-requires Inv-loop μ-loop
 limit-requires c κs = search needs
 
 mul-regs : tie.Need-mul-regs Inv-loop μ-loop
-mul-regs c = omega (arith, c .before .before .wide .ensures, c .before .before .before .before .loop .inv .1 .here, c .before .before .before .before .loop .inv .1 .few, c .before .before .before .before .loop .inv .1 .shaped .regs)
+mul-regs c = record { fits = fits-32-words _ (inside (c .before .before)) }
 
 sub-stretch : tie.Need-sub-stretch Inv-loop μ-loop
-sub-stretch c = omega (arith, c .before .before .wide .ensures, c .before .before .before .before .loop .inv .1 .here, c .before .before .before .before .loop .inv .1 .few, c .before .before .before .before .loop .inv .1 .shaped .regs)
+sub-stretch c = starts _ 32
 
 part-regs-start : tie.Need-part-regs-start Inv-loop μ-loop
-part-regs-start c = omega (arith, c .before .before .wide .ensures, c .before .before .before .before .loop .inv .1 .here, c .before .before .before .before .loop .inv .1 .few, c .before .before .before .before .loop .inv .1 .shaped .regs)
+part-regs-start c = starts _ 32
 
 part-regs-end : tie.Need-part-regs-end Inv-loop μ-loop
-part-regs-end c = omega (arith, c .before .before .wide .ensures, c .before .before .before .before .loop .inv .1 .here, c .before .before .before .before .loop .inv .1 .few, c .before .before .before .before .loop .inv .1 .shaped .regs)
+part-regs-end c = ends-32 _ (inside (c .before .before)) _ (c .before .before .before .before .loop .inv .1 .shaped .regs)
 
 mul-stretch : tie.Need-mul-stretch Inv-loop μ-loop
-mul-stretch c = omega (arith, c .before .before .before .wide .ensures, c .before .before .before .before .before .loop .inv .1 .here, c .before .before .before .before .before .loop .inv .1 .few, c .before .before .before .before .before .loop .inv .1 .shaped .frames)
+mul-stretch c = record { fits = fits-256-words _ (inside (c .before .before .before)) }
 
 sub-stretch-2 : tie.Need-sub-stretch-2 Inv-loop μ-loop
-sub-stretch-2 c = omega (arith, c .before .before .before .wide .ensures, c .before .before .before .before .before .loop .inv .1 .here, c .before .before .before .before .before .loop .inv .1 .few, c .before .before .before .before .before .loop .inv .1 .shaped .frames)
+sub-stretch-2 c = starts _ 256
 
 part-stretch-start : tie.Need-part-stretch-start Inv-loop μ-loop
-part-stretch-start c = omega (arith, c .before .before .before .before .wide .ensures, c .before .before .before .before .before .before .loop .inv .1 .here, c .before .before .before .before .before .before .loop .inv .1 .few, c .before .before .before .before .before .before .loop .inv .1 .shaped .frames)
+part-stretch-start c = starts _ 256
 
 part-stretch-end : tie.Need-part-stretch-end Inv-loop μ-loop
-part-stretch-end c = omega (arith, c .before .before .before .before .wide .ensures, c .before .before .before .before .before .before .loop .inv .1 .here, c .before .before .before .before .before .before .loop .inv .1 .few, c .before .before .before .before .before .before .loop .inv .1 .shaped .frames)
+part-stretch-end c = ends-256 _ (inside (c .before .before .before .before)) _ (c .before .before .before .before .before .before .loop .inv .1 .shaped .frames)
 
 mul-shadows : tie.Need-mul-shadows Inv-loop μ-loop
-mul-shadows c = omega (arith, c .before .before .before .before .before .wide .ensures, c .before .before .before .before .before .before .before .loop .inv .1 .here, c .before .before .before .before .before .before .before .loop .inv .1 .few, c .before .before .before .before .before .before .before .loop .inv .1 .shaped .shadows)
+mul-shadows c = record { fits = fits-256-words _ (inside (c .before .before .before .before .before)) }
 
 sub-stretch-3 : tie.Need-sub-stretch-3 Inv-loop μ-loop
-sub-stretch-3 c = omega (arith, c .before .before .before .before .before .wide .ensures, c .before .before .before .before .before .before .before .loop .inv .1 .here, c .before .before .before .before .before .before .before .loop .inv .1 .few, c .before .before .before .before .before .before .before .loop .inv .1 .shaped .shadows)
+sub-stretch-3 c = starts _ 256
 
 part-shadows-start : tie.Need-part-shadows-start Inv-loop μ-loop
-part-shadows-start c = omega (arith, c .before .before .before .before .before .wide .ensures, c .before .before .before .before .before .before .before .loop .inv .1 .here, c .before .before .before .before .before .before .before .loop .inv .1 .few, c .before .before .before .before .before .before .before .loop .inv .1 .shaped .shadows)
+part-shadows-start c = starts _ 256
 
 part-shadows-end : tie.Need-part-shadows-end Inv-loop μ-loop
-part-shadows-end c = omega (arith, c .before .before .before .before .before .wide .ensures, c .before .before .before .before .before .before .before .loop .inv .1 .here, c .before .before .before .before .before .before .before .loop .inv .1 .few, c .before .before .before .before .before .before .before .loop .inv .1 .shaped .shadows)
+part-shadows-end c = ends-256 _ (inside (c .before .before .before .before .before)) _ (c .before .before .before .before .before .before .before .loop .inv .1 .shaped .shadows)
 
 slice-aggregate-stretch : tie.Need-slice-aggregate-stretch Inv-loop μ-loop
 slice-aggregate-stretch c = search needs
@@ -102,6 +106,12 @@ slice-aggregate-stretch-2 c = search needs
 stretch-requires : tie.Need-stretch-requires Inv-loop μ-loop
 stretch-requires c κs = asked-sound (c .before .before .before .before .before .before .before .before .before .before .before .before .before .before .before .before .before .before .before .before .args .h) _ _ _ _ _ _ _ _ _ (c .before .before .before .before .before .before .before .before .before .wide .ensures) (c .before .before .before .before .before .before .before .before .before .before .before .loop .inv .1)
 
+-- the steps that the stretch made: some, no more than were left, and no more than were still to make
+made-some : (c : tie.After-stretch Inv-loop μ-loop) → (0 < c .stretch .result .made) × (c .stretch .result .made ≤ c .before .before .before .before .before .before .before .before .before .before .before .before .loop .left) × (c .stretch .result .made ≤ c .before .before .before .before .before .before .before .before .before .before .before .before .before .before .before .before .before .before .before .before .before .args .k - c .before .before .before .before .before .before .before .before .before .before .before .before .loop .made)
+made-some c = let u = limited _ _ _ (c .before .before .before .before .before .before .before .before .limit .ensures) (c .before .before .before .before .before .before .before .before .before .before .before .before .loop .inv .1 .left) (still-some _ _ (c .before .before .before .before .before .before .before .before .before .before .before .loop-test .taken)) in
+    let d = asked-turned (c .before .before .before .before .before .before .before .before .before .before .before .before .before .before .before .before .before .before .before .before .before .args .h) _ _ _ _ _ _ _ _ _ _ _ _ _ _ _ _ (c .before .before .before .before .before .before .before .before .before .before .wide .ensures) (c .stretch .ensures) (c .before .before .before .before .before .before .before .before .before .before .before .before .loop .inv .1) (u .0) (u .1) in
+    (d .some, le-trans (d .most) (u .1), le-trans (d .most) (u .2))
+
 cast-wrapping-add-u64 : tie.Need-cast-wrapping-add-u64 Inv-loop μ-loop
 cast-wrapping-add-u64 c = omega (arith, c .struct-known .given)
 
@@ -109,28 +119,19 @@ wrapping-add-u64-requires : tie.Need-wrapping-add-u64-requires Inv-loop μ-loop
 wrapping-add-u64-requires c κs = search needs
 
 mul-parts : tie.Need-mul-parts Inv-loop μ-loop
-mul-parts c = omega (arith, c .before .before .before .before .before .before .before .before .before .before .before .before .before .before .before .before .before .before .before .before .wide .ensures, c .before .before .before .before .before .before .before .before .before .before .before .before .before .before .before .before .before .before .before .before .before .before .loop .inv .1 .here, c .before .before .before .before .before .before .before .before .before .before .before .before .before .before .before .before .before .before .before .before .before .before .loop .inv .1 .few)
+mul-parts c = record { fits = fits-64 _ (inside (c .before .before .before .before .before .before .before .before .before .before .before .before .before .before .before .before .before .before .before .before)) }
 
 array-set-from-parts : tie.Need-array-set-from-parts Inv-loop μ-loop
-array-set-from-parts c = omega (arith, c .before .before .before .before .before .before .before .before .before .before .before .before .before .before .before .before .before .before .before .before .wide .ensures, c .before .before .before .before .before .before .before .before .before .before .before .before .before .before .before .before .before .before .before .before .before .before .loop .inv .1 .here, c .before .before .before .before .before .before .before .before .before .before .before .before .before .before .before .before .before .before .before .before .before .before .loop .inv .1 .few)
+array-set-from-parts c = inside (c .before .before .before .before .before .before .before .before .before .before .before .before .before .before .before .before .before .before .before .before)
 
 turn-requires : tie.Need-turn-requires Inv-loop μ-loop
-turn-requires c κs = let i = c .before .before .before .before .before .before .before .before .before .before .before .before .before .before .before .before .before .before .before .before .before .before .before .loop .inv in
-    let u = limited _ _ _ (c .before .before .before .before .before .before .before .before .before .before .before .before .before .before .before .before .before .before .before .limit .ensures) (c .before .before .before .before .before .before .before .before .before .before .before .before .before .before .before .before .before .before .before .before .before .before .before .loop .inv .1 .left) (omega (arith, c .before .before .before .before .before .before .before .before .before .before .before .before .before .before .before .before .before .before .before .before .before .before .loop-test .taken)) in
-    let d = asked-turned (c .before .before .before .before .before .before .before .before .before .before .before .before .before .before .before .before .before .before .before .before .before .before .before .before .before .before .before .before .before .before .before .before .args .h) _ _ _ _ _ _ _ _ _ _ _ _ _ _ _ _ (c .before .before .before .before .before .before .before .before .before .before .before .before .before .before .before .before .before .before .before .before .before .wide .ensures) (c .before .before .before .before .before .before .before .before .before .before .before .stretch .ensures) (c .before .before .before .before .before .before .before .before .before .before .before .before .before .before .before .before .before .before .before .before .before .before .before .loop .inv .1) (u .0) (u .1) in
-    (i .1 .few, (i .1 .here, omega (arith, d .most)))
+turn-requires c κs = (c .before .before .before .before .before .before .before .before .before .before .before .before .before .before .before .before .before .before .before .before .before .before .before .loop .inv .1 .few, (c .before .before .before .before .before .before .before .before .before .before .before .before .before .before .before .before .before .before .before .before .before .before .before .loop .inv .1 .here, made-some (c .before .before .before .before .before .before .before .before .before .before .before) .1))
 
 add-made : tie.Need-add-made Inv-loop μ-loop
-add-made c = let i = c .before .before .before .before .before .before .before .before .before .before .before .before .before .before .before .before .before .before .before .before .before .before .before .before .before .loop .inv in
-    let u = limited _ _ _ (c .before .before .before .before .before .before .before .before .before .before .before .before .before .before .before .before .before .before .before .before .before .limit .ensures) (c .before .before .before .before .before .before .before .before .before .before .before .before .before .before .before .before .before .before .before .before .before .before .before .before .before .loop .inv .1 .left) (omega (arith, c .before .before .before .before .before .before .before .before .before .before .before .before .before .before .before .before .before .before .before .before .before .before .before .before .loop-test .taken)) in
-    let d = asked-turned (c .before .before .before .before .before .before .before .before .before .before .before .before .before .before .before .before .before .before .before .before .before .before .before .before .before .before .before .before .before .before .before .before .before .before .args .h) _ _ _ _ _ _ _ _ _ _ _ _ _ _ _ _ (c .before .before .before .before .before .before .before .before .before .before .before .before .before .before .before .before .before .before .before .before .before .before .before .wide .ensures) (c .before .before .before .before .before .before .before .before .before .before .before .before .before .stretch .ensures) (c .before .before .before .before .before .before .before .before .before .before .before .before .before .before .before .before .before .before .before .before .before .before .before .before .before .loop .inv .1) (u .0) (u .1) in
-    record { fits = omega (arith, d .most, c .before .before .before .before .before .before .before .before .before .before .before .before .before .before .before .before .before .before .before .before .before .before .before .before .loop-test .taken, c .before .before .before .before .before .before .before .before .before .before .before .before .before .before .before .before .before .before .before .before .before .before .before .before .before .before .before .before .before .before .before .before .before .before .good) }
+add-made c = let d = made-some (c .before .before .before .before .before .before .before .before .before .before .before .before .before) in record { fits = omega (arith, d .2, c .before .before .before .before .before .before .before .before .before .before .before .before .before .before .before .before .before .before .before .before .before .before .before .before .loop-test .taken, c .before .before .before .before .before .before .before .before .before .before .before .before .before .before .before .before .before .before .before .before .before .before .before .before .before .before .before .before .before .before .before .before .before .before .good) }
 
 loop-less : tie.Need-loop-less Inv-loop μ-loop
-loop-less c = let i = c .before .before .before .before .before .before .before .before .before .before .before .before .before .before .before .before .before .before .before .before .before .before .before .before .before .loop .inv in
-    let u = limited _ _ _ (c .before .before .before .before .before .before .before .before .before .before .before .before .before .before .before .before .before .before .before .before .before .limit .ensures) (c .before .before .before .before .before .before .before .before .before .before .before .before .before .before .before .before .before .before .before .before .before .before .before .before .before .loop .inv .1 .left) (omega (arith, c .before .before .before .before .before .before .before .before .before .before .before .before .before .before .before .before .before .before .before .before .before .before .before .before .loop-test .taken)) in
-    let d = asked-turned (c .before .before .before .before .before .before .before .before .before .before .before .before .before .before .before .before .before .before .before .before .before .before .before .before .before .before .before .before .before .before .before .before .before .before .args .h) _ _ _ _ _ _ _ _ _ _ _ _ _ _ _ _ (c .before .before .before .before .before .before .before .before .before .before .before .before .before .before .before .before .before .before .before .before .before .before .before .wide .ensures) (c .before .before .before .before .before .before .before .before .before .before .before .before .before .stretch .ensures) (c .before .before .before .before .before .before .before .before .before .before .before .before .before .before .before .before .before .before .before .before .before .before .before .before .before .loop .inv .1) (u .0) (u .1) in
-    omega (arith, d .most, d .some, c .before .before .before .before .before .before .before .before .before .before .before .before .before .before .before .before .before .before .before .before .before .before .before .before .loop-test .taken)
+loop-less c = let d = made-some (c .before .before .before .before .before .before .before .before .before .before .before .before .before) in omega (arith, d .0, d .2, c .before .before .before .before .before .before .before .before .before .before .before .before .before .before .before .before .before .before .before .before .before .before .before .before .loop-test .taken)
 
 loop-again : tie.Need-loop-again Inv-loop μ-loop
 loop-again c = let i = c .before .before .before .before .before .before .before .before .before .before .before .before .before .before .before .before .before .before .before .before .before .before .before .before .before .loop .inv in
