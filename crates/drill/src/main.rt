@@ -37,8 +37,7 @@ fn turn(
     let used = told::flushed(text, s.used);
     let here = s.reading;
     let p = calls::play(s.house, here, input, memory, few, many, text, used);
-    let next = reading::next(input, here, p.lent);
-    let reached = reading::settle(input, memory, next);
+    let reached = reading::settle(input, memory, here, p.lent);
     let house = p.house;
     State {
         house,
@@ -55,8 +54,7 @@ fn play(
     many: &mut [u32; 4096],
     text: &mut [u8; ROOM],
 ) {
-    let first = reading::first(input);
-    let reached = reading::settle(input, memory, first);
+    let reached = reading::first(input, memory);
     let none = House::none();
     let mut s = State {
         house: none,
@@ -68,7 +66,7 @@ fn play(
         let here = s.reading;
         let c = here.command;
         if c.size == 0 {
-            told::finish(text, s.used, here);
+            told::finish(text, s.used, here.at, here.end, here.offset);
             return;
         }
         s = turn(s, input, memory, few, many, text);

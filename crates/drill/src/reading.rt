@@ -64,7 +64,7 @@ fn found(input: &[u8], at: usize, end: usize, ended: bool, offset: u64, lent: us
 }
 
 // The command behind this one.
-pub fn next(input: &mut [u8], r: Reading, lent: usize) -> Reading
+fn next(input: &mut [u8], r: Reading, lent: usize) -> Reading
     requires { ⌜ Stands r (length (now input)) (r .lent) ⌝ }
     ensures { λ s. ⌜ Stands s (length (now (input .entry))) lent ⌝ }
 {
@@ -80,21 +80,6 @@ pub fn next(input: &mut [u8], r: Reading, lent: usize) -> Reading
     }
     let n = refill(input, at, end);
     found(input, 0, n, n < input.len(), offset, lent)
-}
-
-pub fn first(input: &mut [u8]) -> Reading
-    ensures { λ r. ⌜ Stands r (length (now (input .entry))) 0 ⌝ }
-{
-    let none = commands::none();
-    let before = Reading {
-        at: 0,
-        end: 0,
-        ended: false,
-        offset: 0,
-        lent: 0,
-        command: none,
-    };
-    next(input, before, 0)
 }
 
 // A command of the memory: gives how many words are lent then.
@@ -122,21 +107,36 @@ fn changes_memory(op: u32) -> bool {
     }
 }
 
-// Commands of the memory, up to another or the end.
-pub fn settle(input: &mut [u8], memory: &mut [u32], from: Reading) -> Reading
-    requires { ⌜ Stands from (length (now input)) (from .lent) ⌝ ∗ ⌜ from .lent ≤ length (now memory) ⌝ }
+// From the command behind this one over commands of the memory, up to another or the end.
+pub fn settle(input: &mut [u8], memory: &mut [u32], before: Reading, lent: usize) -> Reading
+    requires { ⌜ Stands before (length (now input)) (before .lent) ⌝ ∗ ⌜ lent ≤ length (now memory) ⌝ }
     ensures { λ r. ⌜ Stands r (length (now (input .entry))) (r .lent) × (r .lent ≤ length (now (memory .entry))) ⌝ }
 {
-    let mut r = from;
+    let mut r = next(input, before, lent);
     let mut turns = u64::MAX;
     while turns > 0 {
         let c = r.command;
         if !changes_memory(c.op) {
             return r;
         }
-        let lent = changed(memory, r.lent, c);
-        r = next(input, r, lent);
+        let after = changed(memory, r.lent, c);
+        r = next(input, r, after);
         turns -= 1;
     }
     r
+}
+
+pub fn first(input: &mut [u8], memory: &mut [u32]) -> Reading
+    ensures { λ r. ⌜ Stands r (length (now (input .entry))) (r .lent) × (r .lent ≤ length (now (memory .entry))) ⌝ }
+{
+    let none = commands::none();
+    let before = Reading {
+        at: 0,
+        end: 0,
+        ended: false,
+        offset: 0,
+        lent: 0,
+        command: none,
+    };
+    settle(input, memory, before, 0)
 }

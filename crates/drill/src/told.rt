@@ -1,10 +1,11 @@
 // What is told, and when it is written.
+ghost use mathlib.Core.List.{_++_};
 ghost use mathlib.Core.Path.{_≡_};
 ghost use Prim.Native.Nat.{_+_, _<_, _≤_};
 ghost use lib.ListN.{length};
-ghost use Rattle.decimal.specs.Texts.{Puts};
+ghost use Rattle.decimal.specs.Decimals.{decimal};
+ghost use Rattle.decimal.specs.Texts.{ascii, Puts};
 ghost use Rattle.drill.specs.Told.{toldOf, shownOf};
-use crate::reading::Reading;
 use decimal::put_byte;
 use decimal::put_decimal;
 use decimal::put_text;
@@ -40,6 +41,13 @@ pub fn shown(number: u32, detail: u64) -> usize
     detail as usize
 }
 
+// Writes the text.
+fn written(text: &[u8], used: usize)
+    requires { ⌜ used ≤ length (now text) ⌝ }
+{
+    io::write_all(STDOUT_FILENO, &text[..used]);
+}
+
 // Writes the text where there is much of it. Gives how much is left.
 pub fn flushed(text: &[u8], used: usize) -> usize
     requires { ⌜ used ≤ length (now text) ⌝ }
@@ -48,20 +56,27 @@ pub fn flushed(text: &[u8], used: usize) -> usize
     if used < 65536 {
         return used;
     }
-    io::write_all(STDOUT_FILENO, &text[..used]);
+    written(text, used);
     0
 }
 
-// The end of the script, or a wrong command.
-pub fn finish(text: &mut [u8], used: usize, r: Reading)
-    requires { ⌜ used + 38 ≤ length (now text) ⌝ }
+// The text of a wrong command.
+fn wrong(text: &mut [u8; ROOM], used: usize, offset: u64) -> usize
+    ensures { λ r. ⌜ Puts (now (text .entry)) used (now (text .exit)) r (ascii "wrong command at " ++ (decimal offset ++ ascii "\n")) 38 ⌝ }
 {
-    if r.at == r.end {
-        io::write_all(STDOUT_FILENO, &text[..used]);
+    let named = put_text(text, used, b"wrong command at ");
+    let told = put_decimal(text, named, offset);
+    put_byte(text, told, b'\n')
+}
+
+// The end of the script, or a wrong command.
+pub fn finish(text: &mut [u8; ROOM], used: usize, at: usize, end: usize, offset: u64)
+    requires { ⌜ used + 38 ≤ 262144 ⌝ }
+{
+    if at == end {
+        written(text, used);
         return;
     }
-    let wrong = put_text(text, used, b"wrong command at ");
-    let told = put_decimal(text, wrong, r.offset);
-    let end = put_byte(text, told, b'\n');
-    io::write_all(STDOUT_FILENO, &text[..end]);
+    let told = wrong(text, used, offset);
+    written(text, told);
 }

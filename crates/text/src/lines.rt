@@ -1,7 +1,8 @@
 // The lines that tell of the answer, the house's own numbers, the memory and a read-out's output.
 ghost use mathlib.Core.List.{[], _++_};
-ghost use Prim.Native.Nat.{_+_, _*_, _≤_};
-ghost use lib.ListN.{length};
+ghost use mathlib.Core.Path.{_≡_};
+ghost use Prim.Native.Nat.{_+_, _*_, _-_, _≤_};
+ghost use lib.ListN.{length, take, drop};
 ghost use Rattle.decimal.specs.Texts.{ascii, Puts};
 ghost use Rattle.text.specs.Numbers.{numberOf, numbersOf};
 ghost use Rattle.text.specs.Lines.{rowOf, flagsOf, houseOf, nameOf, callOf, memoryOf, outputOf};
@@ -68,18 +69,34 @@ pub fn house(text: &mut [u8; ROOM], used: usize, h: House) -> usize
     house_line(text, used, &own, &running)
 }
 
-// The name of a call, by its command's number.
+// From here to there among the names of the calls.
+struct Span {
+    from: usize,
+    to: usize,
+}
+
+// Where the name of a call stands among the names, by its command's number.
+fn among(op: u32) -> Span
+    ensures { λ s. ⌜ (s .from ≤ s .to) × (s .to ≤ s .from + 5) × (s .to ≤ 25) × (take (s .to - s .from) (drop (s .from) (ascii "bootrunstartstopemptyread")) ≡ nameOf op) ⌝ }
+{
+    match op {
+        1 => Span { from: 0, to: 4 },
+        2 => Span { from: 4, to: 7 },
+        3 => Span { from: 7, to: 12 },
+        4 => Span { from: 12, to: 16 },
+        5 => Span { from: 16, to: 21 },
+        _ => Span { from: 21, to: 25 },
+    }
+}
+
 fn name(text: &mut [u8; ROOM], used: usize, op: u32) -> usize
     ensures { λ r. ⌜ Puts (now (text .entry)) used (now (text .exit)) r (nameOf op) 5 ⌝ }
 {
-    match op {
-        1 => put_text(text, used, b"boot"),
-        2 => put_text(text, used, b"run"),
-        3 => put_text(text, used, b"start"),
-        4 => put_text(text, used, b"stop"),
-        5 => put_text(text, used, b"empty"),
-        _ => put_text(text, used, b"read"),
-    }
+    let names = *b"bootrunstartstopemptyread";
+    let s = among(op);
+    let from = s.from;
+    let to = s.to;
+    put_text(text, used, &names[from..to])
 }
 
 pub fn call(text: &mut [u8; ROOM], used: usize, op: u32, n: u32, detail: u64) -> usize

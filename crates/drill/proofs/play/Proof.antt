@@ -4,7 +4,6 @@ use native.Mathlib.Omega.{arith}
 use lib.ListN.{length}
 use Rattle.drill.specs.Fit.{Stands}
 use Rattle.drill.specs.Goes.{Goes}
-use Rattle.drill.proofs.Commands.{stands-still}
 use borrow.Author.Needs.{needs}
 use Rattle.drill.proofs.play.Statement.{statement}
 use Rattle.drill.proofs.play.Tie as tie
@@ -18,20 +17,15 @@ abbrev μ-loop : tie.MeasureT-loop
 first-requires : tie.Need-first-requires Inv-loop μ-loop
 first-requires c κs = tt
 
-settle-requires : tie.Need-settle-requires Inv-loop μ-loop
-settle-requires c κs =
-    let s = subst (λ (b : ℕ). Stands (c .before .before .before .before .first .result) b 0) (sym (c .before .before .before .before .first .kept .0)) (c .before .before .before .before .first .ensures) in
-    (stands-still s, omega (arith, s .lends))
-
 none-requires : tie.Need-none-requires Inv-loop μ-loop
 none-requires c κs = tt
 
 loop-holds : tie.Need-loop-holds Inv-loop μ-loop
 loop-holds c =
-    let z = c .before .before .before .before .before .settle .ensures in (
+    let z = c .before .before .before .before .before .first .ensures in (
       record {
-        stands = subst (λ (b : ℕ). Stands (c .before .before .before .before .before .settle .result) b (c .before .before .before .before .before .settle .result .lent)) (sym (c .before .before .before .before .before .settle .kept .0)) (z .0);
-        lent = omega (arith, z .1, c .before .before .before .before .before .settle .kept);
+        stands = subst (λ (b : ℕ). Stands (c .before .before .before .before .before .first .result) b (c .before .before .before .before .before .first .result .lent)) (sym (c .before .before .before .before .before .first .kept .0)) (z .0);
+        lent = omega (arith, z .1, c .before .before .before .before .before .first .kept);
         used = omega arith;
       },
       refl,
@@ -39,15 +33,13 @@ loop-holds c =
     )
 
 finish-requires : tie.Need-finish-requires Inv-loop μ-loop
-finish-requires c κs =
-    let n : length (c .before .before .before .before .before .before .loop .text) ≡ 262144 = search (needs, c .finish-arg) in
-    omega (arith, n, c .before .before .before .before .before .before .loop .inv .0 .used)
+finish-requires c κs = omega (arith, c .before .before .before .before .before .before .loop .inv .0 .used)
 
 same-length : tie.Need-same-length Inv-loop μ-loop
-same-length c = omega (arith, c .before .before .before .before .before .before .before .loop .inv .1, c .before .before .before .before .before .before .before .before .before .before .before .before .before .settle .kept, c .before .before .before .before .before .before .before .before .before .before .before .before .before .before .before .before .before .before .first .kept)
+same-length c = omega (arith, c .before .before .before .before .before .before .before .loop .inv .1, c .before .before .before .before .before .before .before .before .before .before .before .before .before .first .kept)
 
 same-length-2 : tie.Need-same-length-2 Inv-loop μ-loop
-same-length-2 c = omega (arith, c .before .before .before .before .before .before .before .loop .inv .2, c .before .before .before .before .before .before .before .before .before .before .before .before .before .settle .kept)
+same-length-2 c = omega (arith, c .before .before .before .before .before .before .before .loop .inv .2, c .before .before .before .before .before .before .before .before .before .before .before .before .before .first .kept)
 
 returns : tie.Need-returns Inv-loop μ-loop
 returns c = search needs
@@ -55,7 +47,7 @@ returns c = search needs
 turn-requires : tie.Need-turn-requires Inv-loop μ-loop
 turn-requires c κs =
     let v = c .before .before .before .before .before .before .before .before .before .before .loop .inv in
-    let g = subst (λ (x : ℕ). Goes (c .before .before .before .before .before .before .before .before .before .before .loop .s) (length (c .before .before .before .before .before .before .before .before .before .before .before .before .before .before .before .before .settle .last .0)) x) (sym (v .2)) (v .0) in
+    let g = subst (λ (x : ℕ). Goes (c .before .before .before .before .before .before .before .before .before .before .loop .s) (length (c .before .before .before .before .before .before .before .before .before .before .before .before .before .before .before .before .first .last .0)) x) (sym (v .2)) (v .0) in
     (subst (λ (x : ℕ). Goes (c .before .before .before .before .before .before .before .before .before .before .loop .s) x (length (c .before .before .before .before .before .before .before .before .before .before .loop .memory))) (sym (v .1)) g, omega (arith, c .before .before .before .before .before .if1 .left))
 
 sub-turns : tie.Need-sub-turns Inv-loop μ-loop
@@ -69,16 +61,16 @@ loop-again c =
     let v = c .before .before .before .before .before .before .before .before .before .before .before .before .before .before .before .loop .inv in
     let k = c .before .before .before .before .turn .kept in
     let g = subst (λ (x : ℕ). Goes (c .before .before .before .before .turn .result) x (length (c .before .before .before .before .before .before .before .before .before .before .before .before .before .before .before .loop .memory))) (v .1) (c .before .before .before .before .turn .ensures) in
-    (subst (λ (x : ℕ). Goes (c .before .before .before .before .turn .result) (length (c .before .before .before .before .before .before .before .before .before .before .before .before .before .before .before .before .before .before .before .before .before .settle .last .0)) x) (v .2) g, omega (arith, v .1, k), omega (arith, v .2, k))
+    (subst (λ (x : ℕ). Goes (c .before .before .before .before .turn .result) (length (c .before .before .before .before .before .before .before .before .before .before .before .before .before .before .before .before .before .before .before .before .before .first .last .0)) x) (v .2) g, omega (arith, v .1, k), omega (arith, v .2, k))
 
 same-length-3 : tie.Need-same-length-3 Inv-loop μ-loop
-same-length-3 c = omega (arith, c .before .loop .inv .1, c .before .before .before .before .before .before .before .settle .kept, c .before .before .before .before .before .before .before .before .before .before .before .before .first .kept)
+same-length-3 c = omega (arith, c .before .loop .inv .1, c .before .before .before .before .before .before .before .first .kept)
 
 same-length-4 : tie.Need-same-length-4 Inv-loop μ-loop
-same-length-4 c = omega (arith, c .before .loop .inv .2, c .before .before .before .before .before .before .before .settle .kept)
+same-length-4 c = omega (arith, c .before .loop .inv .2, c .before .before .before .before .before .before .before .first .kept)
 
 returns-2 : tie.Need-returns-2 Inv-loop μ-loop
 returns-2 c = search needs
 
 pub play-spec : {M : Type 1} → statement M
-play-spec = tie.close (tie.spec Inv-loop μ-loop first-requires settle-requires none-requires loop-holds finish-requires same-length same-length-2 returns turn-requires sub-turns loop-less loop-again same-length-3 same-length-4 returns-2)
+play-spec = tie.close (tie.spec Inv-loop μ-loop first-requires none-requires loop-holds finish-requires same-length same-length-2 returns turn-requires sub-turns loop-less loop-again same-length-3 same-length-4 returns-2)

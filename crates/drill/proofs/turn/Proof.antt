@@ -1,10 +1,8 @@
-use mathlib.Core.Path.{_≡_, sym, subst}
-use Prim.Native.Nat.{ℕ}
+use mathlib.Core.Path.{_≡_}
 use native.Mathlib.Omega.{arith}
 use lib.ListN.{length}
 use Rattle.decimal.proofs.Texts.{within}
-use Rattle.drill.specs.Fit.{Stands}
-use Rattle.drill.proofs.Commands.{stands-still, played-within}
+use Rattle.drill.proofs.Commands.{played-within}
 use borrow.Author.Needs.{needs}
 use Rattle.drill.proofs.turn.Statement.{statement}
 use Rattle.drill.proofs.turn.Tie as tie
@@ -17,15 +15,11 @@ flushed-requires c κs =
 play-requires : tie.Need-play-requires
 play-requires c κs = record { stands = c .before .before .before .before .before .before .before .before .before .before .before .pre .0 .stands; right = c .before .before .before .before .before .before .before .before .before .before .before .pre .1; lent = c .before .before .before .before .before .before .before .before .before .before .before .pre .0 .lent }
 
-next-requires : tie.Need-next-requires
-next-requires c κs = c .before .before .before .before .before .before .before .before .before .before .before .before .before .before .before .pre .0 .stands
-
 settle-requires : tie.Need-settle-requires
 settle-requires c κs =
-    let g = c .before .before .before .before .before .before .before .before .before .before .before .before .before .before .before .before .before .before .before .before .pre .0 in
-    let l = played-within _ _ _ _ (length (c .before .before .before .before .before .before .before .before .before .before .before .before .before .before .before .before .before .before .before .before .args .memory .now)) (c .before .before .before .before .before .before .before .before .play .ensures .0) (g .lent) in
-    let s = subst (λ (b : ℕ). Stands (c .before .before .before .before .next .result) b (c .before .before .before .before .before .before .before .before .play .result .lent)) (sym (c .before .before .before .before .next .kept .0)) (c .before .before .before .before .next .ensures) in
-    (stands-still s, omega (arith, s .lends, l, c .before .before .before .before .before .before .before .before .play .kept))
+    let g = c .before .before .before .before .before .before .before .before .before .before .before .before .before .before .before .before .pre .0 in
+    let l = played-within _ _ _ _ (length (c .before .before .before .before .before .before .before .before .before .before .before .before .before .before .before .before .args .memory .now)) (c .before .before .before .before .play .ensures .0) (g .lent) in
+    (g .stands, omega (arith, l, c .before .before .before .before .play .kept))
 
 same-length : tie.Need-same-length
 same-length c = search needs
@@ -36,11 +30,7 @@ same-length-2 c = search needs
 returns : tie.Need-returns
 returns c =
     let z = c .before .before .before .before .before .settle .ensures in
-    record {
-      stands = subst (λ (b : ℕ). Stands (c .before .before .before .before .before .settle .result) b (c .before .before .before .before .before .settle .result .lent)) (c .before .before .before .before .before .before .before .before .before .before .next .kept .0) (z .0);
-      lent = omega (arith, z .1, c .before .before .before .before .before .before .before .before .before .before .before .before .before .before .play .kept);
-      used = omega (arith, within (c .before .before .before .before .before .before .before .before .before .before .before .before .before .before .play .ensures .1), c .before .before .before .before .before .before .before .before .before .before .before .before .before .before .before .before .before .before .before .before .before .flushed .ensures);
-    }
+    record { stands = z .0; lent = omega (arith, z .1, c .before .before .before .before .before .before .before .before .before .before .play .kept); used = omega (arith, within (c .before .before .before .before .before .before .before .before .before .before .play .ensures .1), c .before .before .before .before .before .before .before .before .before .before .before .before .before .before .before .before .before .flushed .ensures) }
 
 pub turn-spec : {M : Type 1} → statement M
-turn-spec = tie.close (tie.spec flushed-requires play-requires next-requires settle-requires same-length same-length-2 returns)
+turn-spec = tie.close (tie.spec flushed-requires play-requires settle-requires same-length same-length-2 returns)

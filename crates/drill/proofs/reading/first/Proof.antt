@@ -6,17 +6,20 @@ use Rattle.drill.proofs.reading.first.Statement.{statement}
 use Rattle.drill.proofs.reading.first.Tie as tie
 
 none-requires : tie.Need-none-requires
-none-requires c κs = search needs
+none-requires c κs = tt
 
-next-requires : tie.Need-next-requires
+settle-requires : tie.Need-settle-requires
 unfolding sizeOf
-next-requires c κs = rw (c .before .none .ensures) (record { inside = omega arith; held = omega arith; sized = refl; lends = refl })
+settle-requires c κs = (rw (c .before .before .none .ensures) (record { inside = omega arith; held = omega arith; sized = refl; lends = refl }), omega arith)
 
 same-length : tie.Need-same-length
 same-length c = search needs
 
+same-length-2 : tie.Need-same-length-2
+same-length-2 c = search needs
+
 returns : tie.Need-returns
-returns c = search needs
+returns c = c .before .before .before .before .settle .ensures
 
 pub first-spec : {M : Type 1} → statement M
-first-spec = tie.close (tie.spec none-requires next-requires same-length returns)
+first-spec = tie.close (tie.spec none-requires settle-requires same-length same-length-2 returns)

@@ -1,93 +1,34 @@
+use mathlib.Core.Path.{ap}
+use Prim.Native.Nat.{_-_}
 use native.Mathlib.Omega.{arith}
-use borrow.Author.Tests.{ne-eqb}
+use lib.ListN.{length, drop, length-take}
 use Rattle.decimal.specs.Texts.{ascii}
-use Rattle.decimal.proofs.Texts.{exactly, roomy}
-use Rattle.text.specs.Lines.{nameOf}
+use Rattle.decimal.proofs.Texts.{puts}
 use borrow.Author.Needs.{needs}
 use Rattle.text.proofs.lines.name.Statement.{statement}
 use Rattle.text.proofs.lines.name.Tie as tie
 
-slice-aggregate-put-text : tie.Need-slice-aggregate-put-text
-slice-aggregate-put-text c = search needs
+among-requires : tie.Need-among-requires
+among-requires c κs = tt
+
+sub-put-text : tie.Need-sub-put-text
+sub-put-text c = omega (arith, c .before .among .ensures .0)
+
+part-put-text-start : tie.Need-part-put-text-start
+part-put-text-start c = omega (arith, c .before .before .among .ensures .0)
+
+part-put-text-end : tie.Need-part-put-text-end
+part-put-text-end c = omega (arith, c .before .before .among .ensures .2)
 
 put-text-requires : tie.Need-put-text-requires
 put-text-requires c κs = tt
 
-slice-aggregate-put-text-2 : tie.Need-slice-aggregate-put-text-2
-slice-aggregate-put-text-2 c = search needs
-
-put-text-requires-2 : tie.Need-put-text-requires-2
-put-text-requires-2 c κs = tt
-
-slice-aggregate-put-text-3 : tie.Need-slice-aggregate-put-text-3
-slice-aggregate-put-text-3 c = search needs
-
-put-text-requires-3 : tie.Need-put-text-requires-3
-put-text-requires-3 c κs = tt
-
-slice-aggregate-put-text-4 : tie.Need-slice-aggregate-put-text-4
-slice-aggregate-put-text-4 c = search needs
-
-put-text-requires-4 : tie.Need-put-text-requires-4
-put-text-requires-4 c κs = tt
-
-slice-aggregate-put-text-5 : tie.Need-slice-aggregate-put-text-5
-slice-aggregate-put-text-5 c = search needs
-
-put-text-requires-5 : tie.Need-put-text-requires-5
-put-text-requires-5 c κs = tt
-
-slice-aggregate-put-text-6 : tie.Need-slice-aggregate-put-text-6
-slice-aggregate-put-text-6 c = search needs
-
-put-text-requires-6 : tie.Need-put-text-requires-6
-put-text-requires-6 c κs = tt
-
 returns : tie.Need-returns
-unfolding nameOf ascii
-returns c = rw (c .before .before .before .match .keys1) (roomy 5 (exactly (c .put-text .ensures)) (omega arith))
-
-returns-2 : tie.Need-returns-2
-unfolding nameOf ascii
-returns-2 c = rw (c .before .before .before .match .keys2) (roomy 5 (exactly (c .put-text2 .ensures)) (omega arith))
-
-returns-3 : tie.Need-returns-3
-unfolding nameOf ascii
-returns-3 c = rw (c .before .before .before .match .keys3) (roomy 5 (exactly (c .put-text3 .ensures)) (omega arith))
-
-returns-4 : tie.Need-returns-4
-unfolding nameOf ascii
-returns-4 c = rw (c .before .before .before .match .keys4) (roomy 5 (exactly (c .put-text4 .ensures)) (omega arith))
-
-returns-5 : tie.Need-returns-5
-unfolding nameOf ascii
-returns-5 c = rw (c .before .before .before .match .keys5) (roomy 5 (exactly (c .put-text5 .ensures)) (omega arith))
-
-returns-6 : tie.Need-returns-6
-unfolding nameOf ascii
-returns-6 c =
-    let r = c .before .before .before .match .rest in
-    rw (ne-eqb _ _ (r .1), ne-eqb _ _ (r .0 .1), ne-eqb _ _ (r .0 .0 .1), ne-eqb _ _ (r .0 .0 .0 .1), ne-eqb _ _ (r .0 .0 .0 .0 .1)) (roomy 5 (exactly (c .put-text6 .ensures)) (omega arith))
+unfolding ascii
+returns c =
+    let s = c .before .before .before .before .among .result in
+    let e = c .before .before .before .before .among .ensures in
+    puts (rw (e .3) at (c .put-text .ensures)) (omega (arith, ap length (e .3), length-take (s .to - s .from) (drop (s .from) (ascii "bootrunstartstopemptyread")), e .0, e .1))
 
 pub name-spec : {M : Type 1} → statement M
-name-spec =
-    tie.close
-    (tie.spec
-    slice-aggregate-put-text
-    put-text-requires
-    slice-aggregate-put-text-2
-    put-text-requires-2
-    slice-aggregate-put-text-3
-    put-text-requires-3
-    slice-aggregate-put-text-4
-    put-text-requires-4
-    slice-aggregate-put-text-5
-    put-text-requires-5
-    slice-aggregate-put-text-6
-    put-text-requires-6
-    returns
-    returns-2
-    returns-3
-    returns-4
-    returns-5
-    returns-6)
+name-spec = tie.close (tie.spec among-requires sub-put-text part-put-text-start part-put-text-end put-text-requires returns)
