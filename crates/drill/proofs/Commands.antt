@@ -12,9 +12,9 @@ use Rattle.dlx.specs.Choice.{if_then_else_}
 use Rattle.dlx.proofs.Kept.{either}
 use Rattle.house.specs.declared.House.{House}
 use Rattle.house.specs.Turns.{World, world}
-use Rattle.script.specs.declared.commands.Command.{Command}
-use Rattle.script.specs.Words.{wordAt}
-use Rattle.script.specs.Commands.{sizeOf, noCommand, commandOf}
+use Rattle.drill_script.specs.declared.commands.Command.{Command}
+use Rattle.drill_script.specs.Words.{wordAt}
+use Rattle.drill_script.specs.Commands.{sizeOf, noCommand, commandOf}
 use Rattle.drill.specs.declared.reading.Reading.{Reading}
 use Rattle.drill.specs.Fit.{Stands, Plays, Boots}
 use Rattle.drill.specs.Player.{Player, player, lentOf, moreOf, playedOf}

@@ -17,8 +17,8 @@ use Rattle.house.specs.declared.House.{House}
 use Rattle.house.specs.Calls.{Read, read, beyondOf, readVerdict, readCall}
 use Rattle.house.specs.Lists.{listFrom}
 use Rattle.house.proofs.Lists.ByRule.{length-listFrom}
-use Rattle.script.specs.declared.commands.Command.{Command}
-use Rattle.script.specs.Words.{markedOf}
+use Rattle.drill_script.specs.declared.commands.Command.{Command}
+use Rattle.drill_script.specs.Words.{markedOf}
 use Rattle.drill.specs.Told.{shownOf}
 use Rattle.decimal.specs.Texts.{Puts}
 use Rattle.drill.specs.Player.{readOutOf, readTextOf}

@@ -7,7 +7,7 @@ use lib.ListN.{length, take, drop, length-append}
 use lib.Seq.{length-take-le, take-at}
 use Rattle.house.specs.Lists.{listFrom}
 use Rattle.house.proofs.Lists.ByRule.{length-listFrom, listFrom-same}
-use Rattle.script.specs.Words.{wordAt}
+use Rattle.drill_script.specs.Words.{wordAt}
 
 -- n places at the front of a space, k of which is n
 pub front-length : (s : List ℕ) (n k m : ℕ) → n ≡ k → k ≤ m → m ≤ length s → length (take n s) ≡ n

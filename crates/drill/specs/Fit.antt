@@ -2,8 +2,8 @@
 use mathlib.Core.Path.{_≡_}
 use Prim.Native.Nat.{ℕ, _+_, _*_, _<_, _≤_}
 use Rattle.drill.specs.declared.reading.Reading.{Reading}
-use Rattle.script.specs.declared.commands.Command.{Command}
-use Rattle.script.specs.Commands.{sizeOf}
+use Rattle.drill_script.specs.declared.commands.Command.{Command}
+use Rattle.drill_script.specs.Commands.{sizeOf}
 
 -- the command stands in the input's bytes, with its size; so many words are lent
 pub record Stands (r : Reading) (bytes lent : ℕ) : Type 0 where

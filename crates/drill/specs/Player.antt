@@ -9,10 +9,10 @@ use Rattle.house.specs.Lists.{listFrom}
 use Rattle.house.specs.House.{noHouse}
 use Rattle.house.specs.Turns.{World, world}
 use Rattle.house.specs.Calls.{Answered, Read, bootCall, runCall, startCall, stopCall, emptyCall, readCall}
-use Rattle.script.specs.declared.commands.Command.{Command}
-use Rattle.script.specs.Words.{wordAt, markedOf, filledOf}
-use Rattle.script.specs.Poke.{poked}
-use Rattle.text.specs.Lines.{outputOf}
+use Rattle.drill_script.specs.declared.commands.Command.{Command}
+use Rattle.drill_script.specs.Words.{wordAt, markedOf, filledOf}
+use Rattle.drill_script.specs.Poke.{poked}
+use Rattle.drill_text.specs.Lines.{outputOf}
 use Rattle.drill.specs.declared.reading.Reading.{Reading}
 use Rattle.drill.specs.Told.{toldOf, shownOf}
 

@@ -4,9 +4,9 @@ use Prim.Native.Nat.{ℕ}
 use lib.Dec.{eqb, leb}
 use Rattle.dlx.specs.Choice.{if_then_else_}
 use Rattle.house.specs.declared.House.{House}
-use Rattle.text.specs.Lines.{callOf, houseOf, memoryOf}
-use Rattle.text.specs.Partitions.{partitionsOf}
-use Rattle.text.specs.Queues.{queueLinesOf}
+use Rattle.drill_text.specs.Lines.{callOf, houseOf, memoryOf}
+use Rattle.drill_text.specs.Partitions.{partitionsOf}
+use Rattle.drill_text.specs.Queues.{queueLinesOf}
 
 unfoldable pub toldOf : ℕ → ℕ → ℕ → House → List ℕ → List ℕ
 toldOf op number detail h memory =

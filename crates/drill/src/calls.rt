@@ -12,14 +12,14 @@ use crate::reading::Reading;
 use crate::told;
 use boot::boot;
 use dlx::words::wide;
+use drill_script::commands::Command;
+use drill_script::poke::poke;
+use drill_script::words;
+use drill_text::ROOM;
+use drill_text::lines;
 use house::Answer;
 use house::House;
 use hypervisor::calls;
-use script::commands::Command;
-use script::poke::poke;
-use script::words;
-use text::ROOM;
-use text::lines;
 
 // The house and the text used after a call.
 pub struct Done {

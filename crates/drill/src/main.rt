@@ -8,9 +8,9 @@ ghost use mathlib.Core.Path.{_≡_};
 ghost use Prim.Native.Nat.{_<_, _≤_};
 ghost use lib.ListN.{length};
 ghost use Rattle.drill.specs.Goes.{Goes};
+use drill_text::ROOM;
 use house::House;
 use reading::Reading;
-use text::ROOM;
 
 // The most words of memory.
 const MOST_WORDS: usize = 262144;

@@ -5,10 +5,10 @@ ghost use lib.ListN.{length};
 ghost use Rattle.drill.specs.Fit.{Stands};
 ghost use Rattle.drill.specs.Player.{lentOf, changedOf};
 use dlx::words::wide;
+use drill_script::commands;
+use drill_script::commands::Command;
+use drill_script::words;
 use libc::STDIN_FILENO;
-use script::commands;
-use script::commands::Command;
-use script::words;
 
 // The bytes of the longest command.
 const MOST_COMMAND: usize = 16464;

@@ -9,12 +9,12 @@ ghost use Rattle.drill.specs.Told.{toldOf, shownOf};
 use decimal::put_byte;
 use decimal::put_decimal;
 use decimal::put_text;
+use drill_text::ROOM;
+use drill_text::lines;
+use drill_text::partitions::partitions;
+use drill_text::queues::queues;
 use house::Answer;
 use libc::STDOUT_FILENO;
-use text::ROOM;
-use text::lines;
-use text::partitions::partitions;
-use text::queues::queues;
 
 // The text of a call.
 pub fn call(text: &mut [u8; ROOM], used: usize, op: u32, a: Answer, memory: &[u32]) -> usize

@@ -46,7 +46,7 @@ unfoldable pub reports : List (List ℕ × String)
 reports =
     (reportOf noHouse, "partition pages steps mode dpc pc\n")
     ∷ (reportOf (first .house), "partition pages steps mode dpc pc\n0 1 0 0 0 4\n")
-    -- 01's whole output: 3 steps
+    -- the request's whole output: 3 steps
     ∷ (reportOf (hostSteps 3 first .house), "partition pages steps mode dpc pc\n0 1 3 0 0 4\n")
     ∷ (
       reportOf eight,

@@ -1,6 +1,6 @@
 use mathlib.Core.Path.{refl}
 use native.Mathlib.Omega.{arith}
-use Rattle.script.specs.Commands.{sizeOf}
+use Rattle.drill_script.specs.Commands.{sizeOf}
 use borrow.Author.Needs.{needs}
 use Rattle.drill.proofs.reading.first.Statement.{statement}
 use Rattle.drill.proofs.reading.first.Tie as tie

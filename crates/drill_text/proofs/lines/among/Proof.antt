@@ -1,0 +1,35 @@
+use native.Mathlib.Omega.{arith}
+use borrow.Author.Tests.{ne-eqb}
+use Rattle.decimal.specs.Texts.{ascii}
+use Rattle.drill_text.specs.Lines.{nameOf}
+use Rattle.drill_text.proofs.lines.among.Statement.{statement}
+use Rattle.drill_text.proofs.lines.among.Tie as tie
+
+returns : tie.Need-returns
+unfolding nameOf ascii
+returns c = (omega arith, omega arith, omega arith, rw (c .match .keys1))
+
+returns-2 : tie.Need-returns-2
+unfolding nameOf ascii
+returns-2 c = (omega arith, omega arith, omega arith, rw (c .match .keys2))
+
+returns-3 : tie.Need-returns-3
+unfolding nameOf ascii
+returns-3 c = (omega arith, omega arith, omega arith, rw (c .match .keys3))
+
+returns-4 : tie.Need-returns-4
+unfolding nameOf ascii
+returns-4 c = (omega arith, omega arith, omega arith, rw (c .match .keys4))
+
+returns-5 : tie.Need-returns-5
+unfolding nameOf ascii
+returns-5 c = (omega arith, omega arith, omega arith, rw (c .match .keys5))
+
+returns-6 : tie.Need-returns-6
+unfolding nameOf ascii
+returns-6 c =
+    let r = c .match .rest in
+    (omega arith, omega arith, omega arith, rw (ne-eqb _ _ (r .1), ne-eqb _ _ (r .0 .1), ne-eqb _ _ (r .0 .0 .1), ne-eqb _ _ (r .0 .0 .0 .1), ne-eqb _ _ (r .0 .0 .0 .0 .1)))
+
+pub among-spec : {M : Type 1} → statement M
+among-spec = tie.close (tie.spec returns returns-2 returns-3 returns-4 returns-5 returns-6)
