@@ -5,8 +5,7 @@ use Prim.{Unit, tt}
 use Prim.Native.Nat.{ℕ, zero, suc, _+_, _<_}
 use native.Mathlib.Omega.{arith}
 use lib.ListN.{length, getD, length-append, List·getD-append}
-use lib.Seq.{getD-append-add}
-use Rattle.dlx.specs.Machine.{Ops, Core, Outcome, accessed, handed, fetched, settled, retabled, step, steps, Request, nothing, sends, takes, requestOf, asked, reply}
+use Rattle.dlx.specs.Machine.{Ops, Core, accessed, handed, fetched, settled, retabled, step, steps, Request, nothing, sends, takes, requestOf, asked, reply}
 use Rattle.dlx.specs.declared.partition.Processor.{Processor}
 use Rattle.dlx.specs.declared.execute.Change.{Change}
 use Rattle.dlx.specs.declared.execute.Effect.{Effect}

@@ -1,23 +1,23 @@
 -- What a step keeps, over any memory that keeps something: every number a word, register 0 zero, MODE and EMODE below 2, 32 registers.
-use mathlib.Core.Path.{_≡_, refl, sym, ap, subst, _∙_}
+use mathlib.Core.Path.{_≡_, refl, sym, ap}
 use mathlib.Core.Bool.{Bool, true, false, _&&_}
 use mathlib.Core.List.{List, [], _∷_}
-use Prim.Native.Nat.{ℕ, zero, suc, _+_, _-_, _*_, _/_, _%_, _^_, _<_, _≤_}
+use Prim.Native.Nat.{ℕ, zero, suc, _-_, _*_, _%_, _^_, _<_, _≤_}
 use Prim.{Unit, tt}
 use native.Mathlib.Nat.{mod-lt}
 use native.Mathlib.Omega.{arith}
 use borrow.Author.Tests.{leb-true, eqb-false}
-use lib.Bits.{bitAnd, bitOr, bitXor, and-lt, or-lt, xor-lt}
+use lib.Bits.{and-lt, or-lt, xor-lt}
 use lib.Dec.{eqb, ltb, leb}
 use lib.ListN.{length, getD, set, length-set}
 use mir.Val.{boolByte}
 use Rattle.dlx.specs.Choice.{if_then_else_}
-use Rattle.dlx.specs.Words.{plus, minus, aligned, holds, readingOf, testOf, opcode, rs1, rs2, rdImmediate, rdRegister, sa, function, extendedBy, extended}
-use Rattle.dlx.specs.Processor.{user, specialOf, withSpecial, wentTo, behind}
+use Rattle.dlx.specs.Words.{aligned, holds, readingOf, opcode, sa, function, extendedBy, extended}
+use Rattle.dlx.specs.Processor.{user, specialOf, withSpecial, wentTo}
 use Rattle.dlx.specs.Interrupts.{unmasked, levelOf, interrupted, returned, savesOld, bringsDatum}
 use Rattle.dlx.specs.Instructions.{instructionOf, registerType, Formed}
 use Rattle.dlx.specs.Execute.{reg, written, valueOf, overflowsOf, operated, reached, loads, stores, inSystem, movedTo, trapOf, effectOf}
-use Rattle.dlx.specs.Machine.{Ops, Core, core, Outcome, executed, fetched, loaded, stored, accessed, received, handed, settled, retabled, step, Request, nothing, sends, takes, requestOf, asked}
+use Rattle.dlx.specs.Machine.{Ops, Core, executed, fetched, loaded, stored, accessed, received, handed, settled, retabled, step, Request, nothing, sends, takes, requestOf, asked}
 use Rattle.dlx.specs.declared.partition.Table.{Table}
 use Rattle.dlx.specs.declared.partition.Processor.{Processor}
 use Rattle.dlx.specs.declared.instruction.Operation.{Operation}

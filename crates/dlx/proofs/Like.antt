@@ -5,7 +5,7 @@ use Prim.Native.Nat.{ℕ, zero, suc}
 use Rattle.dlx.specs.Choice.{if_then_else_}
 use Rattle.dlx.specs.Words.{aligned}
 use Rattle.dlx.specs.Processor.{user}
-use Rattle.dlx.specs.Machine.{Ops, Core, Outcome, executed, fetched, loaded, stored, accessed, handed, settled, retabled, step, steps, requestOf, asked}
+use Rattle.dlx.specs.Machine.{Ops, Core, fetched, accessed, handed, settled, retabled, step, steps, requestOf, asked}
 use Rattle.dlx.specs.declared.partition.Table.{Table}
 use Rattle.dlx.specs.declared.partition.Processor.{Processor}
 use Rattle.dlx.specs.declared.execute.Change.{Change}

@@ -13,7 +13,6 @@ use Rattle.dlx.specs.Machine.{Ops, Core, core, Outcome, Request, nothing
 use Rattle.dlx.specs.declared.execute.Access.the-variants.{Fault, Word}
 use Rattle.dlx.specs.declared.partition.Table.{Table}
 use Rattle.dlx.specs.declared.partition.Processor.{Processor}
-use Rattle.dlx.specs.declared.partition.Partition.{Partition}
 
 -- ---- a memory for examples: a list of words, with no table
 

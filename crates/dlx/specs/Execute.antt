@@ -1,5 +1,5 @@
 -- An instruction executed, with no memory in it: from the processor, the table and the registers to an effect.
-use mathlib.Core.Bool.{Bool, true, false, _&&_}
+use mathlib.Core.Bool.{Bool, false, _&&_}
 use mathlib.Core.List.{List}
 use Prim.Native.Nat.{ℕ, _*_, _%_, _^_}
 use lib.Bits.{bitAnd, bitOr, bitXor}

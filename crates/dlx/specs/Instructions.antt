@@ -1,5 +1,5 @@
 -- The instruction tables: every line of docs/RULES.md#instructions. Everything else is ill; unused fields are ignored.
-use mathlib.Core.Bool.{Bool, true, false, _&&_}
+use mathlib.Core.Bool.{Bool, _&&_}
 use Prim.Native.Nat.{ℕ, _-_, _^_, _<_, _≤_}
 use Prim.{Unit}
 use lib.Dec.{leb, eqb}

@@ -1,6 +1,6 @@
 -- The processor: DPC, PC and the special registers. PTO and PTL stand apart, in the table. And the partition around it.
 use mathlib.Core.Bool.{Bool}
-use Prim.Native.Nat.{ℕ, _+_, _%_, _^_}
+use Prim.Native.Nat.{ℕ, _%_}
 use lib.Dec.{eqb}
 use Rattle.dlx.specs.Choice.{if_then_else_}
 use Rattle.dlx.specs.Words.{plus}

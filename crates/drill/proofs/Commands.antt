@@ -1,5 +1,5 @@
 -- What a command that was read says of itself.
-use mathlib.Core.Path.{_≡_, refl, sym, ap, _∙_}
+use mathlib.Core.Path.{_≡_, refl, ap, _∙_}
 use mathlib.Core.Bool.{Bool, true, false}
 use mathlib.Core.List.{List, _++_}
 use Prim.Native.Nat.{ℕ, _+_, _*_, _-_, _<_, _≤_}
@@ -14,7 +14,7 @@ use Rattle.house.specs.declared.House.{House}
 use Rattle.house.specs.Turns.{World, world}
 use Rattle.drill_script.specs.declared.commands.Command.{Command}
 use Rattle.drill_script.specs.Words.{wordAt}
-use Rattle.drill_script.specs.Commands.{sizeOf, noCommand, commandOf}
+use Rattle.drill_script.specs.Commands.{sizeOf, commandOf}
 use Rattle.drill.specs.declared.reading.Reading.{Reading}
 use Rattle.drill.specs.Fit.{Stands, Plays, Boots}
 use Rattle.drill.specs.Player.{Player, player, lentOf, moreOf, playedOf}

@@ -1,9 +1,9 @@
 -- Words that were taken to the front of a space.
 use mathlib.Core.Path.{_≡_, refl, sym, ap, _∙_}
 use mathlib.Core.List.{List, _++_}
-use Prim.Native.Nat.{ℕ, _+_, _*_, _<_, _≤_}
+use Prim.Native.Nat.{ℕ, _+_, _*_, _≤_}
 use native.Mathlib.Omega.{arith}
-use lib.ListN.{length, take, drop, length-append}
+use lib.ListN.{length, take}
 use lib.Seq.{length-take-le, take-at}
 use Rattle.house.specs.Lists.{listFrom}
 use Rattle.house.proofs.Lists.ByRule.{length-listFrom, listFrom-same}

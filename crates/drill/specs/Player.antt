@@ -2,7 +2,7 @@
 use mathlib.Core.List.{List, [], _++_}
 use Prim.Native.Nat.{ℕ, _+_, _*_, _-_, min}
 use lib.Dec.{eqb}
-use lib.ListN.{length, take, drop}
+use lib.ListN.{take, drop}
 use Rattle.dlx.specs.Choice.{if_then_else_}
 use Rattle.house.specs.declared.House.{House}
 use Rattle.house.specs.Lists.{listFrom}

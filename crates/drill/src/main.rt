@@ -5,7 +5,7 @@ mod reading;
 mod told;
 
 ghost use mathlib.Core.Path.{_≡_};
-ghost use Prim.Native.Nat.{_<_, _≤_};
+ghost use Prim.Native.Nat.{_<_};
 ghost use lib.ListN.{length};
 ghost use Rattle.drill.specs.Goes.{Goes};
 use drill_text::ROOM;

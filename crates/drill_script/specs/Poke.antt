@@ -2,7 +2,7 @@
 use mathlib.Core.Bool.{not}
 use Prim.Native.Nat.{ℕ, _+_, _*_, _-_, _/_, _%_}
 use lib.Dec.{eqb, ltb}
-use lib.ListN.{getD, set}
+use lib.ListN.{set}
 use Rattle.dlx.specs.Choice.{if_then_else_}
 use Rattle.dlx.specs.Processor.{withPages, withProcessor, withTable, withCounter}
 use Rattle.dlx.specs.declared.partition.Partition.{Partition}

@@ -1,13 +1,13 @@
 -- A step put together from its parts, and what each part hands on to the next. Each part's answer is a variable here, so that the code's proofs
 -- only hand their equations over.
-use mathlib.Core.Path.{_≡_, refl, sym, ap, subst, _∙_}
+use mathlib.Core.Path.{_≡_, sym, ap, subst, _∙_}
 use mathlib.Core.Bool.{Bool, true, false}
 use mathlib.Core.List.{List}
 use Prim.Native.Nat.{ℕ, suc, _+_, _-_, _<_, _≤_}
 use native.Mathlib.Numerals.{add-one}
 use native.Mathlib.Omega.{arith}
 use lib.ListN.{length}
-use Rattle.dlx.specs.Machine.{Ops, Core, Outcome, outcome, fetched, accessed, handed, settled, retabled, step, Request, requestOf, asked, Desk, accessedAt, stepAt, stretchFrom, Places}
+use Rattle.dlx.specs.Machine.{Ops, Core, Outcome, outcome, fetched, accessed, handed, settled, retabled, step, requestOf, asked, Desk, accessedAt, stepAt, stretchFrom, Places}
 use Rattle.dlx.specs.declared.execute.Change.{Change}
 use Rattle.dlx.specs.declared.execute.Effect.{Effect}
 use Rattle.dlx.proofs.Places.{PlacesEffect, fetched-places, accessed-places, handed-count}

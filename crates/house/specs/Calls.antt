@@ -9,12 +9,11 @@ use Rattle.translate.specs.Walk.{entries}
 use Rattle.translate.specs.Memory.{hostWord}
 use Rattle.dlx.specs.Parts.{outer}
 use Rattle.house.specs.Lists.{listFrom, any}
-use Rattle.house.specs.House.{noHouse, turn, withTurn, withShadows, pagesOf, runs, framesOf}
+use Rattle.house.specs.House.{noHouse, turn, withTurn, withShadows, pagesOf, framesOf}
 use Rattle.house.specs.Damage.{damaged}
 use Rattle.house.specs.Boot.{Verdict, verdict, case, firstOf, bootVerdict, bootedHouse}
 use Rattle.house.specs.Turns.{World, world, nextOf, hostSteps}
 use Rattle.house.specs.declared.House.{House}
-use Rattle.house.specs.declared.Turn.{Turn}
 
 -- a call's answer, with the memory that it leaves
 pub record Answered : Type 0 where

@@ -1,5 +1,5 @@
 -- Damage, condition by condition as docs/RULES.md#damage lists them.
-use mathlib.Core.Bool.{Bool, true, false, not, _&&_, _||_}
+use mathlib.Core.Bool.{Bool, not, _&&_, _||_}
 use mathlib.Core.List.{List}
 use Prim.Native.Nat.{ℕ, _+_, _*_, _/_, _%_}
 use lib.Dec.{ltb, leb, eqb}
@@ -8,7 +8,7 @@ use Rattle.dlx.specs.Choice.{if_then_else_}
 use Rattle.dlx.specs.declared.partition.Partition.{Partition}
 use Rattle.translate.specs.Entries.{number, valid}
 use Rattle.translate.specs.Walk.{entries}
-use Rattle.house.specs.Lists.{all, any, between}
+use Rattle.house.specs.Lists.{any, between}
 use Rattle.house.specs.House.{partition, pagesOf, runs, registersOf, framesOf, shadowOf, queuesOf}
 use Rattle.tickets.specs.Queues.{placesOf, waitingOf}
 use Rattle.house.specs.declared.House.{House}

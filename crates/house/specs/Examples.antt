@@ -13,7 +13,7 @@ use Rattle.dlx.specs.declared.partition.Partition.{Partition}
 use Rattle.dlx.specs.declared.partition.Processor.{Processor}
 use Rattle.translate.specs.Entries.{entryOf, faultWord, compositionOf}
 use Rattle.house.specs.Lists.{listFrom}
-use Rattle.house.specs.House.{noHouse, layout, guests, turn, withLayout, withTurn, withGuests, withQueues, withFrames, withParts, withRegisters, withShadows, partition, registersOf, queuesOf}
+use Rattle.house.specs.House.{noHouse, layout, guests, turn, withLayout, withTurn, withGuests, withQueues, withFrames, withParts, withRegisters, withShadows, partition, registersOf}
 use Rattle.house.specs.Damage.{outsideLimits, frameTwice, turnWrong, registersWrong, shadowWrong, partitionUsed, unusedWrong, queuesWrong, damaged}
 use Rattle.tickets.specs.Queues.{Queues, queues}
 use Rattle.house.specs.Boot.{Verdict, bootVerdict, bootedHouse}

@@ -5,7 +5,6 @@ use Prim.Native.Nat.{ℕ, _*_}
 use lib.ListN.{getD, replicate}
 use Rattle.dlx.specs.Processor.{freshOf, withProcessor}
 use Rattle.dlx.specs.declared.partition.Partition.{Partition}
-use Rattle.dlx.specs.declared.partition.Processor.{Processor}
 use Rattle.dlx.specs.Parts.{inner}
 use Rattle.tickets.specs.Queues.{Queues, queues}
 use Rattle.house.specs.declared.House.{House}

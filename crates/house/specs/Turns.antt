@@ -1,5 +1,5 @@
 -- Turns, and the host step.
-use mathlib.Core.Bool.{Bool, true, false, _||_}
+use mathlib.Core.Bool.{Bool, false, _||_}
 use mathlib.Core.List.{List}
 use Prim.Native.Nat.{ℕ, zero, suc, _+_, _-_, _*_, _%_, _^_}
 use lib.Dec.{eqb}
@@ -10,7 +10,7 @@ use Rattle.dlx.specs.Processor.{withProcessor, withTable, withCounter}
 use Rattle.dlx.specs.declared.execute.Reply.{Reply}
 use Rattle.dlx.specs.declared.partition.Partition.{Partition}
 use Rattle.translate.specs.Memory.{Host, host, hostMemory}
-use Rattle.dlx.specs.Parts.{inner, outer}
+use Rattle.dlx.specs.Parts.{outer}
 use Rattle.house.specs.House.{guests, turn, withTurn, withGuests, withQueues, partition, pagesOf, registersOf, framesOf, shadowOf, queuesOf}
 use Rattle.tickets.specs.Queues.{Queues, desk}
 use Rattle.house.specs.declared.House.{House}

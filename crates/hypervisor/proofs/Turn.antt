@@ -1,6 +1,5 @@
 -- One turn of the run's loop, in the terms in which the lent parts come back.
-use mathlib.Core.Path.{_≡_, refl, sym, ap, subst, _∙_}
-use mathlib.Core.Bool.{Bool}
+use mathlib.Core.Path.{_≡_, sym, subst}
 use mathlib.Core.List.{List, _++_}
 use Prim.Native.Nat.{ℕ, _+_, _-_, _*_, _%_, _^_, _<_, _≤_}
 use native.Mathlib.Nat.{add-sub-cancel-left}
@@ -24,7 +23,7 @@ use Rattle.house.specs.Sound.{Sound}
 use Rattle.house.specs.declared.House.{House}
 use Rattle.house.specs.declared.Turn.{Turn}
 use Rattle.dlx.proofs.Parts.{inner-length}
-use Rattle.house.proofs.Turns.Stretch.{Turned, turned, stretched}
+use Rattle.house.proofs.Turns.Stretch.{Turned, turned}
 
 -- the part of a list that is lent from i * s on, and the list when it is back
 abbrev lent : ℕ → ℕ → List ℕ → List ℕ

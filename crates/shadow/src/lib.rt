@@ -1,9 +1,9 @@
 // Address translation and shadow tables, by the definitions of `translate`. The arrays are lent: a partition's frame list, its shadow table, and the host's words.
 ghost use mathlib.Core.Path.{_≡_};
-ghost use Prim.Native.Nat.{ℕ, _+_, _*_, _/_, _%_, _^_, _<_, _≤_};
-ghost use lib.ListN.{length, getD, set};
+ghost use Prim.Native.Nat.{_+_, _*_, _/_, _%_, _<_};
+ghost use lib.ListN.{length, set};
 ghost use Rattle.dlx.specs.declared.partition.Table.{Table};
-ghost use Rattle.translate.specs.Entries.{compositionOf, judged, valid, number};
+ghost use Rattle.translate.specs.Entries.{compositionOf};
 ghost use Rattle.translate.specs.Walk.{direct};
 ghost use Rattle.translate.specs.Memory.{host, hosted, given, looked, served, hostReads, hostWrites, emptied, freshShadow};
 ghost use Rattle.translate.specs.Premises.{Listed, Placed, Shadowed};

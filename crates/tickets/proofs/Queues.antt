@@ -1,22 +1,19 @@
 -- Queues: what a request does to the places is what the rules say of lists.
 use mathlib.Core.Path.{_≡_, refl, sym, ap, subst, _∙_}
-use mathlib.Core.Bool.{Bool, true, false, _&&_, and-false}
 use mathlib.Core.List.{List, [], _∷_, _++_, append-nil}
-use Prim.{Unit, tt}
 use Prim.Native.Nat.{ℕ, zero, suc, _+_, _-_, _*_, _^_, _<_, _≤_}
 use native.Mathlib.Numerals.{add-one}
 use native.Mathlib.Omega.{arith}
-use borrow.Author.Tests.{eqb-true, eqb-false, leb-true, leb-false, ltb-true, ltb-false, eq-eqb, ne-eqb, le-leb, lt-leb}
+use borrow.Author.Tests.{eqb-false, leb-false, ltb-true, ltb-false, eq-eqb, ne-eqb}
 use lib.Dec.{eqb, ltb, leb}
-use lib.ListN.{length, getD, set, take, drop, length-set, length-drop, length-append, List·getD-append, List·getD-eq-default}
+use lib.ListN.{length, getD, set, take, drop, length-set, length-drop, length-append, List·getD-append}
 use lib.Seq.{length-take-le, take-append-le, getD-set-same, getD-set-other, take-set-le, drop-set-lt, take-set-lt, drop-set-add, take-suc-set, getD-drop, getD-append-add, drop-append-seam}
-use Rattle.dlx.specs.Choice.{if_then_else_}
-use Rattle.dlx.specs.Machine.{Request, nothing, sends, takes, reply}
+use Rattle.dlx.specs.Machine.{Request, nothing, sends, takes}
 use Rattle.dlx.specs.declared.execute.Reply.{Reply}
 use Rattle.dlx.proofs.Kept.{either, getD-set-elim, KeptReply, KeptRequest}
 use Rattle.dlx.proofs.Tests.{by-test, by-eq}
-use Rattle.dlx.specs.Parts.{inner, outer}
-use Rattle.tickets.specs.Queues.{Queued, ProperQueue, Queues, queues, placesOf, waitingOf, sentOn, takenOff, sending, taking, desk, queueOf, oldest, ruled, sentTo, takenBy, lined, Moved, stays, takesOne, sendsOne}
+use Rattle.dlx.specs.Parts.{inner}
+use Rattle.tickets.specs.Queues.{Queued, ProperQueue, Queues, placesOf, waitingOf, sentOn, takenOff, sending, taking, desk, queueOf, oldest, ruled, sentTo, takenBy, lined, Moved, stays, takesOne, sendsOne}
 use Rattle.dlx.proofs.Parts.{part-at, part-each, inner-length, outer-length, inner-outer, outer-each, registers-apart}
 
 -- ---- one word set, in a part of 32 places and outside it

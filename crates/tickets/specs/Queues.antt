@@ -1,6 +1,6 @@
 -- Tickets: each partition has a queue of 32 places, the oldest in the first, unused places 0. Partition j's places stand at 32 * j.
 use mathlib.Core.Path.{_≡_}
-use mathlib.Core.Bool.{Bool, _&&_}
+use mathlib.Core.Bool.{_&&_}
 use mathlib.Core.List.{List, [], _∷_, _++_}
 use Prim.Native.Nat.{ℕ, _+_, _-_, _*_, _<_, _≤_}
 use lib.Dec.{leb, eqb}

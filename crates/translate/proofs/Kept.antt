@@ -11,7 +11,7 @@ use Rattle.dlx.specs.declared.partition.Table.{Table}
 use Rattle.dlx.proofs.Kept.{either, getD-set-elim, KeptTable, KeptAccess, Keeps}
 use Rattle.translate.specs.Entries.{number, valid, protection, Found, fault, found}
 use Rattle.translate.specs.Walk.{entries}
-use Rattle.translate.specs.Memory.{wordIn, updated, Lone, lone, loneRead, loneWritten, loneMemory, Host, host, served, hostRead, hostWritten, hostReads, hostWrites, emptied, hostMemory}
+use Rattle.translate.specs.Memory.{wordIn, updated, Lone, loneRead, loneWritten, loneMemory, Host, host, served, hostRead, hostWritten, hostReads, hostWrites, emptied, hostMemory}
 use Rattle.translate.specs.Premises.{Listed, Shadowed}
 use Rattle.dlx.proofs.Tests.{getD-replicate-same}
 use Rattle.translate.proofs.Entries.{given-word, fresh-shadowed}

@@ -2,9 +2,9 @@
 -- lists them. What is compared is the answer with the whole table, memory and shadow.
 use mathlib.Core.Bool.{Bool, true, false, not, _&&_}
 use mathlib.Core.List.{List, [], _∷_, _++_}
-use Prim.Native.Nat.{ℕ, zero, suc, _+_, _-_, _*_, _^_}
+use Prim.Native.Nat.{ℕ, zero, suc, _+_, _^_}
 use lib.Dec.{eqb}
-use lib.ListN.{getD, set, take, drop, replicate}
+use lib.ListN.{set, take, drop, replicate}
 use mir.Val.{boolByte}
 use Rattle.dlx.specs.Processor.{freshProcessor}
 use Rattle.dlx.specs.Machine.{Core, core, Outcome, reply, step, steps}

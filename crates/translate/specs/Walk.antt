@@ -1,5 +1,4 @@
 -- Where an access of a guest goes, by the guest's own table: the tests in their order. The sixth, protection, is the store's.
-use mathlib.Core.Bool.{Bool}
 use Prim.Native.Nat.{ℕ, _+_, _*_, _/_}
 use lib.Dec.{ltb, leb}
 use Rattle.dlx.specs.Choice.{if_then_else_}

@@ -1,6 +1,5 @@
 -- Three guests, from the boot's own call: the last of them makes a step within (n-1)q+1 host steps, while another is stopped, started, and traps.
-use mathlib.Core.Path.{_≡_, refl, sym}
-use mathlib.Core.Bool.{true}
+use mathlib.Core.Path.{_≡_, refl}
 use mathlib.Core.List.{List, [], _∷_, _++_}
 use Prim.Native.Nat.{ℕ, suc, _+_, _-_, _*_, _^_, _<_}
 use native.Mathlib.Omega.{arith}
@@ -18,11 +17,10 @@ use Rattle.translate.specs.Walk.{walked, direct}
 use Rattle.translate.specs.Memory.{hosted, given, filled, looked, served, hostRead, emptied, hostWritten, hostReads, hostWrites}
 use Rattle.tickets.specs.Queues.{sending, taking, desk}
 use Rattle.house.specs.Lists.{listFrom, any, firstFrom}
-use Rattle.house.specs.House.{runs}
 use Rattle.house.specs.Boot.{sum, firstOf, bootVerdict, laid, offset, bootedHouse}
 use Rattle.house.specs.Turns.{World, world, nextFrom, turnOf, requestNow, replyNow, queuesNext, guestStep, settledHouse, stepWith, hostStep, hostSteps}
 use Rattle.house.specs.Calls.{bootCall, started, stopped}
-use Rattle.demands.specs.Histories.{Boot, booted, Call, run, start, stop, after, history, Grown, stepsOf, stepsMade, turnsMade, turnsIn, StaysRunning}
+use Rattle.demands.specs.Histories.{Boot, booted, Call, run, start, stop, after, history, stepsOf, stepsMade, turnsMade, turnsIn, StaysRunning}
 use Rattle.demands.specs.Demands.{BootOf}
 use Rattle.demands.proofs.Booted.FreshHouse.{booted-whole, booted-ready}
 use Rattle.demands.proofs.Instances.ClosedCalls.{below, below-at, Fit, fit-after, after-run, after-start, after-stop, runs-at-end, runs-onward}

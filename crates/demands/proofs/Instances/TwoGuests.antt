@@ -1,13 +1,12 @@
 -- Every premise of the demands holds somewhere, so that nothing is proved of nothing: a boot of two guests, calls under which a shadow is filled and
 -- emptied, and each demand's theorem applied to them.
 use mathlib.Core.Path.{_≡_, refl, sym, ap, subst, _∙_}
-use mathlib.Core.Bool.{Bool, true, false, _&&_, and-false}
+use mathlib.Core.Bool.{true, false}
 use mathlib.Core.List.{List, [], _∷_, _++_}
 use Prim.Native.Nat.{ℕ, zero, suc, _+_, _-_, _*_, _%_, _^_, _<_, _≤_}
 use native.Mathlib.Omega.{arith}
-use borrow.Author.Tests.{eq-eqb, ne-eqb, le-ltb, lt-leb, le-leb, ltb-true}
+use borrow.Author.Tests.{eq-eqb}
 use lib.Count.{trailingZeros}
-use lib.Dec.{ltb}
 use lib.ListN.{length, getD, set, replicate, length-set}
 use lib.Seq.{getD-set-other}
 use Rattle.dlx.specs.Words.{extendedBy, readIn, holds}
@@ -20,7 +19,6 @@ use Rattle.dlx.specs.declared.execute.Reply.{Reply}
 use Rattle.translate.specs.Entries.{entryOf, judged}
 use Rattle.translate.specs.Walk.{walked, direct}
 use Rattle.translate.specs.Memory.{loneMemory, loneFound, loneRead, hosted, given, filled, looked, served, hostRead, emptied, hostWritten, hostReads, hostWrites}
-use Rattle.dlx.proofs.Tests.{and-left}
 use Rattle.dlx.specs.Parts.{inner, outer}
 use Rattle.dlx.proofs.Parts.{part-at}
 use Rattle.dlx.proofs.Kept.{getD-set-elim}
@@ -31,7 +29,7 @@ use Rattle.tickets.specs.Queues.{sending, taking, desk, queueOf, oldest, ruled}
 use Rattle.house.specs.Damage.{damaged}
 use Rattle.house.specs.Boot.{Verdict, verdict, sum, firstOf, bootVerdict, laid, offset, bootedHouse}
 use Rattle.house.specs.Turns.{World, world, nextFrom, turnOf, requestNow, replyNow, queuesNext, guestStep, settledHouse, stepWith, hostStep, hostSteps}
-use Rattle.house.specs.Calls.{bootCall, runVerdict, runCall, oneVerdict, started, stopped, emptiedHouse, startCall, stopCall, emptyCall, readVerdict, readCall}
+use Rattle.house.specs.Calls.{bootCall, runVerdict, runCall, started, stopped, emptiedHouse, startCall, stopCall, emptyCall, readVerdict, readCall}
 use Rattle.house.specs.Sound.{Proper, Stays, Ready}
 use Rattle.demands.specs.Histories.{Boot, booted, Call, run, start, stop, empty, readOut, after, history, Grown, turnsIn, stepsOf, stepsMade, turnsMade, StaysRunning, loneOf, loneAtBoot, loneAsks, loneAnswer, eventOf, logIn, logOf, each, answersTo, feedOf}
 use Rattle.demands.specs.Demands.{AgreeOn, OwnFramesAlone, StepOf, SameAnswers, nowhere, word, byShadow, listed, byTable}

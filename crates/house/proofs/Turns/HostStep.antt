@@ -11,7 +11,7 @@ use Rattle.translate.specs.Memory.{Host}
 use Rattle.translate.proofs.Kept.{KeptHost}
 use Rattle.translate.proofs.Each.{Each}
 use Rattle.dlx.proofs.Tests.{by-eq}
-use Rattle.house.specs.House.{noPartition, partition, pagesOf, registersOf, framesOf, shadowOf, queuesOf}
+use Rattle.house.specs.House.{noPartition, partition, pagesOf, registersOf, framesOf, shadowOf}
 use Rattle.house.specs.Turns.{World, world, turnAfter, guestStep, queuedOn, counted, settledHouse, stepWith, hostStep, hostSteps}
 use Rattle.house.specs.Sound.{Proper, Undamaged, TypedPartition, Typed, Ready, Stays}
 use Rattle.house.specs.declared.Turn.{Turn}

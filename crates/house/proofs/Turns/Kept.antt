@@ -15,8 +15,7 @@ use Rattle.dlx.proofs.Kept.{either, getD-set-elim}
 use Rattle.dlx.proofs.Places.{step-count}
 use Rattle.translate.specs.Memory.{Host}
 use Rattle.translate.proofs.Steps.{Whole, step-whole}
-use Rattle.dlx.proofs.Tests.{by-test, by-eq}
-use Rattle.dlx.specs.Parts.{inner, outer}
+use Rattle.dlx.proofs.Tests.{by-eq}
 use Rattle.house.specs.House.{noPartition, turn, withTurn, withQueues, partition, pagesOf, registersOf, framesOf, shadowOf, queuesOf}
 use Rattle.house.specs.Turns.{World, world, following, nextFrom, nextOf, turnAfter, guestMemory, requestNow, queuesNext, guestStep, queuedOn, counted, settledHouse, stepWith, hostStep, hostSteps, turnOf}
 use Rattle.house.specs.Sound.{Shaped, SoundPartition, Sound, Undamaged}

@@ -15,7 +15,7 @@ use Rattle.dlx.specs.Processor.{withProcessor, withTable, withCounter}
 use Rattle.dlx.proofs.Kept.{either}
 use Rattle.translate.specs.Memory.{Host, hostMemory}
 use Rattle.dlx.proofs.Tests.{by-eq}
-use Rattle.house.specs.House.{noPartition, guests, turn, withTurn, withGuests, withQueues, partition, pagesOf, framesOf, queuesOf}
+use Rattle.house.specs.House.{guests, turn, withTurn, withGuests, withQueues, partition, pagesOf, framesOf, queuesOf}
 use Rattle.house.specs.Turns.{World, world, turnAfter, guest, guestMemory, requestNow, replyNow, queuesNext, guestStep, queuedOn, counted, countedOn, settledHouse, stepWith, hostStep, hostSteps, stretchedHouse, turnOf}
 use Rattle.tickets.specs.Queues.{Queues, desk}
 use Rattle.house.specs.Sound.{Shaped, Sound}

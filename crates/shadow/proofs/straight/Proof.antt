@@ -1,6 +1,6 @@
 use Rattle.translate.specs.Memory.{hosted}
 use Rattle.translate.specs.Walk.{direct}
-use Prim.Native.Nat.{_*_, _/_, _+_, _%_}
+use Prim.Native.Nat.{_*_}
 use native.Mathlib.Omega.{arith}
 use borrow.Author.Tests.{lt-ltb, le-ltb}
 use borrow.Author.Needs.{needs}

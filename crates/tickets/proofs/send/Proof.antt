@@ -1,4 +1,4 @@
-use borrow.Author.Tests.{lt-ltb, le-ltb, lt-leb, le-leb, eq-eqb, ne-eqb}
+use borrow.Author.Tests.{lt-ltb, le-ltb, lt-leb, le-leb}
 use Rattle.tickets.specs.Queues.{sending}
 use borrow.Author.Needs.{needs}
 use Rattle.tickets.proofs.send.Statement.{statement}

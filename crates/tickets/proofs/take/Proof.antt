@@ -1,6 +1,6 @@
 use native.Mathlib.Nat.{add-sub-cancel-left}
 use Rattle.dlx.specs.Parts.{inner, outer}
-use borrow.Author.Tests.{lt-ltb, le-ltb, lt-leb, le-leb, eq-eqb, ne-eqb}
+use borrow.Author.Tests.{eq-eqb, ne-eqb}
 use Rattle.tickets.specs.Queues.{taking}
 use borrow.Author.Needs.{needs}
 use Rattle.tickets.proofs.take.Statement.{statement}

@@ -1,10 +1,8 @@
 use Rattle.drill.proofs.Taken.{front-count}
-use mathlib.Core.Path.{_≡_, refl, sym, ap, _∙_}
-use mathlib.Core.List.{_++_}
+use mathlib.Core.Path.{refl, sym, ap, _∙_}
 use Prim.Native.Nat.{_*_}
 use native.Mathlib.Omega.{arith}
-use lib.ListN.{length, take, drop, length-append}
-use lib.Seq.{length-take-le}
+use lib.ListN.{drop}
 use Rattle.drill.specs.Player.{bootOf}
 use Rattle.drill.proofs.Taken.{front-length, front-taken, from-front}
 use borrow.Author.Needs.{needs}

@@ -1,8 +1,7 @@
-use mathlib.Core.Path.{_≡_, refl, sym, ap}
+use mathlib.Core.Path.{refl}
 use Prim.Native.Nat.{_-_, _≤_}
 use native.Mathlib.Omega.{arith}
 use lib.ListN.{length, length-take, length-drop, take, drop}
-use Rattle.drill_script.specs.Commands.{commandOf}
 use Rattle.drill.proofs.Commands.{command-sized, command-inside}
 use borrow.Author.Needs.{needs}
 use Rattle.drill.proofs.reading.found.Statement.{statement}

@@ -1,6 +1,5 @@
 use Rattle.decimal.proofs.Texts.{_then_}
 use Rattle.drill.specs.Told.{toldOf}
-use borrow.Author.Needs.{needs}
 use Rattle.drill.proofs.told.call.Statement.{statement}
 use Rattle.drill.proofs.told.call.Tie as tie
 

@@ -1,5 +1,5 @@
 use Rattle.drill_script.specs.Commands.{commandOf}
-use borrow.Author.Tests.{lt-ltb, le-ltb, lt-leb, le-leb, eq-eqb, ne-eqb}
+use borrow.Author.Tests.{lt-ltb, le-ltb, lt-leb, le-leb}
 use borrow.Author.Needs.{needs}
 use Rattle.drill_script.proofs.commands.read.Statement.{statement}
 use Rattle.drill_script.proofs.commands.read.Tie as tie

@@ -1,5 +1,5 @@
 use Rattle.drill_script.specs.Poke.{ownPoked}
-use borrow.Author.Tests.{lt-ltb, le-ltb, lt-leb, le-leb, eq-eqb, ne-eqb}
+use borrow.Author.Tests.{ne-eqb}
 use Rattle.drill_script.proofs.poke.own.Statement.{statement}
 use Rattle.drill_script.proofs.poke.own.Tie as tie
 

@@ -1,5 +1,5 @@
 use Rattle.drill_script.specs.Poke.{scalarPoked}
-use borrow.Author.Tests.{lt-ltb, le-ltb, lt-leb, le-leb, eq-eqb, ne-eqb}
+use borrow.Author.Tests.{ne-eqb}
 use borrow.Author.Needs.{needs}
 use Rattle.drill_script.proofs.poke.scalar.Statement.{statement}
 use Rattle.drill_script.proofs.poke.scalar.Tie as tie

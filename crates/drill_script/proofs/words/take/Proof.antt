@@ -1,10 +1,8 @@
-use Prim.Native.Nat.{ℕ, _+_, _*_, _-_, _≤_, min}
-use mathlib.Core.Path.{_≡_, refl, ap, _∙_}
+use Prim.Native.Nat.{ℕ, _+_, _*_, _-_, _≤_}
+use mathlib.Core.Path.{_≡_, refl, _∙_}
 use native.Mathlib.Omega.{arith}
 use borrow.Author.Needs.{needs}
 use lib.ListN.{length, length-set}
-use mathlib.Core.List.{List}
-use lib.ListN.{set}
 use Rattle.drill_script.specs.Words.{wordAt}
 use Rattle.drill_script.proofs.Filling.{set-to, set-none, set-on, set-end, set-all}
 use Rattle.drill_script.proofs.words.take.Statement.{statement}

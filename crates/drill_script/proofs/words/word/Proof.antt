@@ -1,4 +1,3 @@
-use native.Mathlib.Omega.{arith}
 use Rattle.drill_script.specs.Words.{wordAt}
 use borrow.Author.Needs.{needs}
 use Rattle.drill_script.proofs.words.word.Statement.{statement}

@@ -1,5 +1,4 @@
 use Rattle.drill_text.specs.Lines.{houseOf}
-use borrow.Author.Needs.{needs}
 use Rattle.drill_text.proofs.lines.house.Statement.{statement}
 use Rattle.drill_text.proofs.lines.house.Tie as tie
 

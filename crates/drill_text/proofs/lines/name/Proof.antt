@@ -4,7 +4,6 @@ use native.Mathlib.Omega.{arith}
 use lib.ListN.{length, drop, length-take}
 use Rattle.decimal.specs.Texts.{ascii}
 use Rattle.decimal.proofs.Texts.{puts}
-use borrow.Author.Needs.{needs}
 use Rattle.drill_text.proofs.lines.name.Statement.{statement}
 use Rattle.drill_text.proofs.lines.name.Tie as tie
 

@@ -1,7 +1,6 @@
 use Rattle.decimal.specs.Texts.{ascii}
 use Rattle.decimal.proofs.Texts.{exactly, _then_}
 use Rattle.drill_text.specs.Lines.{rowOf}
-use borrow.Author.Needs.{needs}
 use Rattle.drill_text.proofs.lines.rest.Statement.{statement}
 use Rattle.drill_text.proofs.lines.rest.Tie as tie
 

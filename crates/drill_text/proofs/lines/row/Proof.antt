@@ -1,6 +1,5 @@
 use Rattle.decimal.proofs.Texts.{exactly, _then_}
 use Rattle.drill_text.specs.Lines.{rowOf}
-use borrow.Author.Needs.{needs}
 use Rattle.drill_text.proofs.lines.row.Statement.{statement}
 use Rattle.drill_text.proofs.lines.row.Tie as tie
 

@@ -1,8 +1,8 @@
-use mathlib.Core.Path.{_≡_, sym, ap, _∙_}
+use mathlib.Core.Path.{sym, ap, _∙_}
 use Rattle.drill_text.specs.Partitions.{zerosOf}
 use Rattle.drill_text.proofs.Blank.{fails, holds, own-not, registers-not, frames-not, shadow-left}
 use Rattle.drill_text.specs.Partitions.{blankOf}
-use borrow.Author.Tests.{lt-ltb, le-ltb, lt-leb, le-leb, eq-eqb, ne-eqb}
+use borrow.Author.Tests.{eq-eqb, ne-eqb}
 use borrow.Author.Needs.{needs}
 use Rattle.drill_text.proofs.partitions.blank.Statement.{statement}
 use Rattle.drill_text.proofs.partitions.blank.Tie as tie

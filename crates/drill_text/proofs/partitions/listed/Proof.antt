@@ -1,8 +1,8 @@
-use Prim.Native.Nat.{ℕ, _≤_, _-_, _+_}
-use mathlib.Core.Path.{_≡_, refl, ap, _∙_}
+use Prim.Native.Nat.{_≤_, _-_}
+use mathlib.Core.Path.{_≡_, refl}
 use native.Mathlib.Omega.{arith}
 use borrow.Author.Needs.{needs}
-use lib.ListN.{length, getD}
+use lib.ListN.{length}
 use Rattle.drill_text.specs.Partitions.{listedTo, listedOf}
 use Rattle.drill_text.proofs.Listed.{listed-on, listed-is, listed-none}
 use Rattle.drill_text.proofs.partitions.listed.Statement.{statement}

@@ -1,5 +1,4 @@
 use Rattle.drill_text.specs.Partitions.{ownOf}
-use borrow.Author.Needs.{needs}
 use Rattle.drill_text.proofs.partitions.own.Statement.{statement}
 use Rattle.drill_text.proofs.partitions.own.Tie as tie
 

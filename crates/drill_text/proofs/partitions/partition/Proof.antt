@@ -2,7 +2,6 @@ use mathlib.Core.Path.{sym, _∙_}
 use native.Mathlib.Omega.{arith}
 use Rattle.decimal.proofs.Texts.{nothing, roomy, _then_}
 use Rattle.drill_text.specs.Partitions.{partitionOf}
-use borrow.Author.Needs.{needs}
 use Rattle.drill_text.proofs.partitions.partition.Statement.{statement}
 use Rattle.drill_text.proofs.partitions.partition.Tie as tie
 

@@ -1,5 +1,5 @@
 use native.Mathlib.Omega.{arith}
-use Prim.Native.Nat.{_/_, _%_}
+use Prim.Native.Nat.{_%_}
 use Rattle.dlx.specs.Instructions.{registerType}
 use borrow.Author.Tests.{lt-leb, le-leb, ne-eqb}
 use borrow.Author.Needs.{needs}
