@@ -29,7 +29,7 @@ returns-2 : tie.Need-returns-2
 returns-2 c = inside-found (c .before .before .before .before .before .before .before .before .before .before .before .before .before .before .before .before .args .h) (sym (c .before .before .before .before .before .before .before .outside-limits .ensures) ∙ c .before .before .before .before .before .before .if1 .left) (sym (c .before .inside-wrong .ensures) ∙ c .if2 .taken)
 
 slice-aggregate-queues-wrong : tie.Need-slice-aggregate-queues-wrong
-slice-aggregate-queues-wrong c = search needs
+slice-aggregate-queues-wrong c = search (needs, c .before .before .before .before .before .before .before .before .before .before .before .before .before .before .before .before .before .good)
 
 queues-wrong-requires : tie.Need-queues-wrong-requires
 queues-wrong-requires c κs = search (needs, c .before .before .before .before .before .before .before .before .before .before .before .before .before .before .before .before .before .before .good)
