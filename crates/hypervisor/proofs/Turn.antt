@@ -8,6 +8,7 @@ use borrow.Author.Tests.{leb-true, leb-false}
 use lib.Dec.{leb}
 use lib.ListN.{length, getD, set, take, drop}
 use Rattle.dlx.specs.Choice.{if_then_else_}
+use Rattle.dlx.specs.Processor.{withProcessor, withTable, withCounter}
 use Rattle.dlx.specs.Machine.{core, stretchFrom}
 use Rattle.dlx.proofs.Kept.{either}
 use Rattle.dlx.specs.declared.partition.Partition.{Partition}
@@ -53,7 +54,7 @@ module _ (h : House) (current left : ℕ) (parts : List Partition) (regs shadows
     -- the house that the loop's body makes of its answer
     abbrev Made : Turn → ℕ → ℕ → World
     Made t counter i =
-        world (withQueues (houseAt h (t .current) (t .left) (set parts i (record { pages = getD parts i noPartition .pages; processor = s .processor; table = s .table; counter = counter })) (back i 32 regs regs′) (back i 256 shadows shadow′)) (queues tickets′ waiting′)) m′
+        world (withQueues (houseAt h (t .current) (t .left) (set parts i (withCounter (withTable (withProcessor (getD parts i noPartition) (s .processor)) (s .table)) counter)) (back i 32 regs regs′) (back i 256 shadows shadow′)) (queues tickets′ waiting′)) m′
 
     pub after-turn : (i : ℕ) (t : Turn) (counter : ℕ) → i ≡ current → Turned here n (stretchOf s regs′ m′ shadow′ (queues tickets′ waiting′)) → t ≡ turnOf (h .running) (h .count) (h .q) current left (s .made) (s .called) → counter ≡ (getD parts i noPartition .counter + s .made) % 2 ^ 64 → Made t counter i ≡ hostSteps (s .made) here
     unfolding stretchedHouse outer
