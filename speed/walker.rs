@@ -247,8 +247,8 @@ impl Guest {
     fn interrupt(&mut self, cause: Cause) -> bool {
         let calls = matches!(cause, Cause::Trap(_)) && self.mode == 0;
         (self.edpc, self.epc) = match cause {
-            Cause::FetchFault(_) | Cause::DataFault(_) => (self.dpc, self.pc),
-            _ => (self.pc, self.pc.wrapping_add(4)),
+            Cause::Trap(_) | Cause::Overflow => (self.pc, self.pc.wrapping_add(4)),
+            _ => (self.dpc, self.pc),
         };
         if let Cause::FetchFault(d) | Cause::DataFault(d) | Cause::Trap(d) = cause {
             self.edata = d;

@@ -94,9 +94,9 @@ numbers p =
 unfoldable pub pair : Outcome × Flat → ℕ → ℕ → Bool
 pair m dpc pc = eqb (processor m .dpc) dpc && eqb (processor m .pc) pc
 
--- the word w is ill at DPC 0, PC 4, where the mode is as given: the pair behind is saved, EDATA is kept
+-- the word w is ill at DPC 0, PC 4, where the mode is as given: the old pair is saved, EDATA is kept
 unfoldable pub is-ill : ℕ → ℕ → Bool
-is-ill mode w = interrupt (once (at 0 4 0 mode) zeros w) 2 4 8 95 0 mode
+is-ill mode w = interrupt (once (at 0 4 0 mode) zeros w) 2 0 4 95 0 mode
 
 -- ---- the request's examples
 
@@ -105,8 +105,8 @@ papers =
     -- 0x20010005: register 1 = 5; 0xAC010008 after it: byte address 8 holds 5
     eqb (reg (booted 1 (0x20010005 ∷ 0xAC010008 ∷ 0 ∷ []) .0 .registers) 1) 5
     ∷ eqb (getD (booted 2 (0x20010005 ∷ 0xAC010008 ∷ 0 ∷ []) .1 .words) 2 0) 5
-    -- the third step: ill, ECA 2, EDPC 12, EPC 16
-    ∷ (let p = booted 3 (0x20010005 ∷ 0xAC010008 ∷ 0 ∷ []) .0 .processor in eqb (p .eca) 2 && eqb (p .edpc) 12 && eqb (p .epc) 16)
+    -- the third step: ill, ECA 2, EDPC 8, EPC 12
+    ∷ (let p = booted 3 (0x20010005 ∷ 0xAC010008 ∷ 0 ∷ []) .0 .processor in eqb (p .eca) 2 && eqb (p .edpc) 8 && eqb (p .epc) 12)
     -- 0xF8000007 in system mode: ECA 32, EDATA 7, the guest calls; in user mode it doesn't
     ∷ interrupt (once in-system zeros 0xF8000007) 32 4 8 7 0 0
     ∷ once in-system zeros 0xF8000007 .0 .calls
@@ -259,7 +259,7 @@ enters p rs w eca edpc epc edata calls seen =
 
 -- the word w is ill: the pair behind is saved, EDATA is kept
 unfoldable pub refuses : ℕ → ℕ → Bool
-refuses mode w = enters (at 8 20 64 mode) known w 2 20 24 95 0 ((8 + mode) ∷ [])
+refuses mode w = enters (at 8 20 64 mode) known w 2 8 20 95 0 ((8 + mode) ∷ [])
 
 unfoldable pub each : (ℕ → Bool) → List ℕ → Bool
 each f [] = true
@@ -540,20 +540,20 @@ wraps w x y v =
 
 unfoldable pub causes : List Bool
 causes =
-    -- [cause 1 ill] the pair behind, EDATA kept; with all of SR, with none, and where PC + 4 wraps
-    enters (at 8 20 masked 0) known 0 2 20 24 95 0 (8 ∷ [])
-    ∷ enters (at 8 20 0 1) known 0 2 20 24 95 0 (9 ∷ [])
-    ∷ enters (at 8 0xFFFFFFFC 64 0) known 0 2 0xFFFFFFFC 0 95 0 (8 ∷ [])
-    -- [cause 2 mal] of DPC, with no fetch; of a data address, with no access; the pair behind, EDATA kept
-    ∷ enters (at 9 20 masked 0) known 0 4 20 24 95 0 []
-    ∷ enters (at 10 20 0 1) known 0 4 20 24 95 0 []
-    ∷ enters (at 11 0xFFFFFFFC 64 0) known 0 4 0xFFFFFFFC 0 95 0 []
-    ∷ enters (at 8 20 masked 0) (given 16 219) (i-word 35 5) 4 20 24 95 0 (8 ∷ [])
-    ∷ enters (at 8 20 0 1) (given 16 219) (i-word 35 6) 4 20 24 95 0 (9 ∷ [])
-    ∷ enters (at 8 0xFFFFFFFC 64 0) (given 17 219) (i-word 35 6) 4 0xFFFFFFFC 0 95 0 (8 ∷ [])
-    ∷ enters (at 8 20 masked 0) (given 16 219) (i-word 43 5) 4 20 24 95 0 (8 ∷ [])
-    ∷ enters (at 8 20 0 1) (given 16 219) (i-word 43 6) 4 20 24 95 0 (9 ∷ [])
-    ∷ enters (at 8 0xFFFFFFFC 64 0) (given 17 219) (i-word 43 6) 4 0xFFFFFFFC 0 95 0 (8 ∷ [])
+    -- [cause 1 ill] the old pair, in a delay slot and where PC + 4 would wrap, EDATA kept; with all of SR, and with none
+    enters (at 8 20 masked 0) known 0 2 8 20 95 0 (8 ∷ [])
+    ∷ enters (at 8 20 0 1) known 0 2 8 20 95 0 (9 ∷ [])
+    ∷ enters (at 8 0xFFFFFFFC 64 0) known 0 2 8 0xFFFFFFFC 95 0 (8 ∷ [])
+    -- [cause 2 mal] of DPC, with no fetch; of a data address, with no access; the old pair, EDATA kept
+    ∷ enters (at 9 20 masked 0) known 0 4 9 20 95 0 []
+    ∷ enters (at 10 20 0 1) known 0 4 10 20 95 0 []
+    ∷ enters (at 11 0xFFFFFFFC 64 0) known 0 4 11 0xFFFFFFFC 95 0 []
+    ∷ enters (at 8 20 masked 0) (given 16 219) (i-word 35 5) 4 8 20 95 0 (8 ∷ [])
+    ∷ enters (at 8 20 0 1) (given 16 219) (i-word 35 6) 4 8 20 95 0 (9 ∷ [])
+    ∷ enters (at 8 0xFFFFFFFC 64 0) (given 17 219) (i-word 35 6) 4 8 0xFFFFFFFC 95 0 (8 ∷ [])
+    ∷ enters (at 8 20 masked 0) (given 16 219) (i-word 43 5) 4 8 20 95 0 (8 ∷ [])
+    ∷ enters (at 8 20 0 1) (given 16 219) (i-word 43 6) 4 8 20 95 0 (9 ∷ [])
+    ∷ enters (at 8 0xFFFFFFFC 64 0) (given 17 219) (i-word 43 6) 4 8 0xFFFFFFFC 95 0 (8 ∷ [])
     -- [cause 3 pff] the old pair, EDATA = DPC
     ∷ enters (at 48 20 masked 0) known 0 8 48 20 48 0 (48 ∷ [])
     ∷ enters (at 52 20 0 1) known 0 8 52 20 52 0 (53 ∷ [])
@@ -569,10 +569,10 @@ causes =
     ∷ enters (at 8 20 0 1) known (j-word 62 7) 32 20 24 7 0 (9 ∷ [])
     ∷ enters (at 8 0xFFFFFFFC 64 0) known (j-word 62 7) 32 0xFFFFFFFC 0 7 1 (8 ∷ [])
     -- [order of causes] mal of DPC before pff and before ill; mal of a data address before pfls; a data address never overflows
-    ∷ enters (at 50 20 64 0) known 0 4 20 24 95 0 []
-    ∷ enters (at 10 20 64 1) known (j-word 63 0) 4 20 24 95 0 []
-    ∷ enters (at 8 20 64 0) (given 49 219) (i-word 35 12) 4 20 24 95 0 (8 ∷ [])
-    ∷ enters (at 8 20 64 0) (given 49 219) (i-word 43 12) 4 20 24 95 0 (8 ∷ [])
+    ∷ enters (at 50 20 64 0) known 0 4 50 20 95 0 []
+    ∷ enters (at 10 20 64 1) known (j-word 63 0) 4 10 20 95 0 []
+    ∷ enters (at 8 20 64 0) (given 49 219) (i-word 35 12) 4 8 20 95 0 (8 ∷ [])
+    ∷ enters (at 8 20 64 0) (given 49 219) (i-word 43 12) 4 8 20 95 0 (8 ∷ [])
     ∷ enters (at 8 20 64 0) (given 0x7FFFFFFC 219) (i-word 35 12) 16 8 20 0x80000008 0 (0x80000008 ∷ 8 ∷ [])
     ∷ enters (at 8 20 64 0) (given 0x7FFFFFFC 219) (i-word 43 12) 16 8 20 0x80000008 0 (0x8000000A ∷ 8 ∷ [])
     -- [level] the lowest set bit

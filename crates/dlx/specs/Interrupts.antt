@@ -33,9 +33,9 @@ unmasked sr = eqb (sr / 2 ^ 6 % 2) 1
 unfoldable pub levelOf : ℕ → ℕ
 levelOf causes = trailingZeros 32 causes
 
--- for 3 and 4 the saved pair is the old one
+-- for 1, 2, 3 and 4 the saved pair is the old one, as in the board's log sheets
 abbrev pub savesOld : ℕ → Bool
-savesOld l = eqb l 3 || eqb l 4
+savesOld l = eqb l 1 || eqb l 2 || eqb l 3 || eqb l 4
 
 -- trap brings its immediate, pff DPC, pfls the data address; else EDATA is kept
 abbrev pub bringsDatum : ℕ → Bool

@@ -205,8 +205,8 @@ papers =
     -- 0x20010005: register 1 = 5; 0xAC010008 after it: byte address 8 holds 5
     eqb (register (ran 1) 1) 5
     ∷ same (readOut (ran 2) 0 8 1 []) (5 ∷ [])
-    -- third step above: ill, ECA 2, EDPC 12, EPC 16, 1 step left; 3 steps, mode 0, dpc 0, pc 4 stand in the report
-    ∷ interrupt (ran 3) 2 12 16 0
+    -- third step above: ill, ECA 2, EDPC 8, EPC 12, 1 step left; 3 steps, mode 0, dpc 0, pc 4 stand in the report
+    ∷ interrupt (ran 3) 2 8 12 0
     ∷ current (ran 3 .house) 0 1
     ∷ eqb (counter (ran 3 .house) 0) 3
     -- 0xF8000007 in system mode: ECA 32, EDATA 7, turn passes; in user mode it doesn't
@@ -225,7 +225,7 @@ papers =
     -- causes 3 and 6 (72): level 3
     ∷ eqb (levelOf 72) 3
     -- rfe in user mode: ECA 2
-    ∷ interrupt (user [] 0xFC000000) 2 12 16 95
+    ∷ interrupt (user [] 0xFC000000) 2 8 12 95
     -- 0x80000000 sls 1: 1
     ∷ eqb (register (system (0 ∷ 0x80000000 ∷ 1 ∷ []) 0x0022182C) 3) 1
     -- entry 0x00003800, 4 pages: page 3
@@ -379,7 +379,7 @@ turns =
     -- [turn: one step] changes nothing of another partition's
     ∷ same (numbers six)
     (2 ∷ 5 ∷ 2048 ∷ 1 ∷ 4 ∷ 1 ∷ 1 ∷ zeros 6
-    ++ (1 ∷ 0 ∷ 4 ∷ 0 ∷ 0 ∷ 2 ∷ 8 ∷ 4 ∷ zeros 5 ++ (5 ∷ 1 ∷ 4 ∷ 8 ∷ zeros 10 ++ (1 ∷ zeros 84 ++ (zeros 33 ++ (5 ∷ zeros 222 ++ (zeros 256 ++ (1 ∷ zeros 4103))))))))
+    ++ (1 ∷ 0 ∷ 4 ∷ 0 ∷ 0 ∷ 2 ∷ 4 ∷ 0 ∷ zeros 5 ++ (5 ∷ 1 ∷ 4 ∷ 8 ∷ zeros 10 ++ (1 ∷ zeros 84 ++ (zeros 33 ++ (5 ∷ zeros 222 ++ (zeros 256 ++ (1 ∷ zeros 4103))))))))
     -- in a full house: 0xAC4116B2 stores 1033 at 0x1ABC of partition 1, so in frame 0
     ∷ comes (stepping 5 0 0xAC4116B2) 1 4 (own 12 16 0 1) (busy alternate 1 0 .regs) (busy alternate 1 0 .shadows)
     (set (lent 0xAC4116B2) 687 1033)
@@ -398,7 +398,7 @@ turns =
     (record { dpc = 0; pc = 4; sr = 0; esr = 64; eca = 32; epc = 16; edpc = 12; edata = 7; mode = 0; emode = 1 }) (busy alternate 1 0 .regs)
     (set (busy alternate 1 0 .shadows) 256 0x00001800) (lent 0xF8000007)
     ∷ comes (stepping 5 0 0) 1 4
-    (record { dpc = 0; pc = 4; sr = 0; esr = 64; eca = 2; epc = 16; edpc = 12; edata = 95; mode = 0; emode = 0 }) (busy alternate 1 0 .regs)
+    (record { dpc = 0; pc = 4; sr = 0; esr = 64; eca = 2; epc = 12; edpc = 8; edata = 95; mode = 0; emode = 0 }) (busy alternate 1 0 .regs)
     (busy alternate 1 0 .shadows) (lent 0)
     -- [turn: stopping the current one] passes it likewise
     ∷ current (stopped (after 1 three) 0) 1 2

@@ -26,18 +26,15 @@ fn enter(p: Processor, causes: u32, edpc: u32, epc: u32, edata: u32) -> Processo
 pub fn interrupt(p: Processor, causes: u32, datum: u32) -> Processor
     ensures { λ r. ⌜ r ≡ interrupted p causes datum ⌝ }
 {
-    let l = level(causes);
-    if l == 3 {
-        return enter(p, causes, p.dpc, p.pc, datum);
-    }
-    if l == 4 {
-        return enter(p, causes, p.dpc, p.pc, datum);
-    }
     let behind = std::num::wrapping_add_u32(p.pc, 4);
-    if l == 5 {
-        return enter(p, causes, p.pc, behind, datum);
+    match level(causes) {
+        1 => enter(p, causes, p.dpc, p.pc, p.edata),
+        2 => enter(p, causes, p.dpc, p.pc, p.edata),
+        3 => enter(p, causes, p.dpc, p.pc, datum),
+        4 => enter(p, causes, p.dpc, p.pc, datum),
+        5 => enter(p, causes, p.pc, behind, datum),
+        _ => enter(p, causes, p.pc, behind, p.edata),
     }
-    enter(p, causes, p.pc, behind, p.edata)
 }
 
 // rfe.

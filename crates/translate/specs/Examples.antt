@@ -314,8 +314,8 @@ stepped =
     -- 0x20010005: register 1 = 5; 0xAC010008 after it: byte address 8 holds 5
     same (booted 1 program .0 .registers) (set zeros 1 5)
     ∷ sameHost (booted 2 program .1) (host (table 0 0) (0x20010005 ∷ 0xAC010008 ∷ 5 ∷ replicate 1021 0) freshShadow)
-    -- the third step: ill, ECA 2, EDPC 12, EPC 16
-    ∷ (let p = booted 3 program .0 .processor in eqb (p .eca) 2 && eqb (p .edpc) 12 && eqb (p .epc) 16)
+    -- the third step: ill, ECA 2, EDPC 8, EPC 12
+    ∷ (let p = booted 3 program .0 .processor in eqb (p .eca) 2 && eqb (p .edpc) 8 && eqb (p .epc) 12)
     ∷ []
 
 -- ---- single steps of the guest of three pages, with register 1 = 9
@@ -367,7 +367,7 @@ single =
     -- 0xF8000007 in system mode: ECA 32, EDATA 7, the guest calls; in user mode it doesn't. [fill: the fetch's survives] every interrupt
     interrupt (system 0xF8000007 full) 0 (saving 32 8 4 7) true 2048 0xF8000007 full
     ∷ interrupt (user 0xF8000007 freshShadow) 1 (saving 32 8 4 7) false 2048 0xF8000007 (only 0 0x00002800)
-    ∷ interrupt (user 0 freshShadow) 1 (saving 2 8 4 95) false 2048 0 (only 0 0x00002800)
+    ∷ interrupt (user 0 freshShadow) 1 (saving 2 4 0 95) false 2048 0 (only 0 0x00002800)
     -- [fill: by a load] 0x8C022ABC into register 2, through the protected entry 2
     ∷ goesOn (user 0x8C022ABC freshShadow) 1 (set nine 2 (word 1711)) 0x8C022ABC 2048 0x8C022ABC (set (only 0 0x00002800) 2 0x00001C00)
     -- [emptying: store in user mode] 0xAC011008 through the mapped page 1 into entry 2 of the table
@@ -383,16 +383,16 @@ single =
     -- a fetch outside: pff with DPC
     ∷ interrupt (once (at 0x4000 0x4004 1) 2048 5 freshShadow) 1 (saving 8 0x4004 0x4000 0x4000) false 2048 5 freshShadow
     -- [fill: none on a misaligned address] 0xAC011006 and 0x8C015002, and a fetch at 2
-    ∷ interrupt (user 0xAC011006 freshShadow) 1 (saving 4 8 4 95) false 2048 0xAC011006 (only 0 0x00002800)
-    ∷ interrupt (user 0x8C015002 freshShadow) 1 (saving 4 8 4 95) false 2048 0x8C015002 (only 0 0x00002800)
-    ∷ interrupt (once (at 2 8 1) 2048 5 freshShadow) 1 (saving 4 12 8 95) false 2048 5 freshShadow
+    ∷ interrupt (user 0xAC011006 freshShadow) 1 (saving 4 4 0 95) false 2048 0xAC011006 (only 0 0x00002800)
+    ∷ interrupt (user 0x8C015002 freshShadow) 1 (saving 4 4 0 95) false 2048 0x8C015002 (only 0 0x00002800)
+    ∷ interrupt (once (at 2 8 1) 2048 5 freshShadow) 1 (saving 4 8 2 95) false 2048 5 freshShadow
     -- [emptying: movi2s to PTO] 0x002001D1 empties all, and changes PTO; [emptying: movi2s to PTL] 0x00200211
     ∷ leaves (system 0x002001D1 full) (4 ∷ 8 ∷ 3 ∷ 91 ∷ 92 ∷ 93 ∷ 94 ∷ 95 ∷ 0 ∷ 0 ∷ []) nine false (host (table 9 6) (set memory 2048 0x002001D1) freshShadow)
     ∷ leaves (system 0x00200211 full) (4 ∷ 8 ∷ 3 ∷ 91 ∷ 92 ∷ 93 ∷ 94 ∷ 95 ∷ 0 ∷ 0 ∷ []) nine false (host (table 1 9) (set memory 2048 0x00200211) freshShadow)
     -- [emptying: nothing else] movi2s to ESR, rfe, and an interrupt in either mode
     ∷ leaves (system 0x00200051 full) (4 ∷ 8 ∷ 3 ∷ 9 ∷ 92 ∷ 93 ∷ 94 ∷ 95 ∷ 0 ∷ 0 ∷ []) nine false (host (table 1 6) (set memory 2048 0x00200051) full)
     ∷ leaves (system 0xFC000000 full) (94 ∷ 93 ∷ 91 ∷ 91 ∷ 92 ∷ 93 ∷ 94 ∷ 95 ∷ 0 ∷ 0 ∷ []) nine false (host (table 1 6) (set memory 2048 0xFC000000) full)
-    ∷ interrupt (system 0 full) 0 (saving 2 8 4 95) false 2048 0 full
+    ∷ interrupt (system 0 full) 0 (saving 2 4 0 95) false 2048 0 full
     ∷ []
 
 unfoldable pub all : List Bool → Bool
