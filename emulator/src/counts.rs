@@ -12,6 +12,8 @@ pub struct Counts {
     pub steps: [u64; 2],
     /// Interrupts, by cause (1 ill to 6 ovf).
     pub interrupts: [u64; 7],
+    /// Interrupts where PC is not DPC + 4, as in a delay slot, by cause.
+    pub slots: [u64; 7],
     /// Interrupts raised by the first word of the handler: a guest in an interrupt loop.
     pub loops: u64,
     /// Shadow entries filled.
@@ -58,18 +60,19 @@ impl Counts {
         let pairs: Vec<String> = given.map(|(number, count)| format!("{number}:{count}")).collect();
         pairs.join(" ")
     }
+}
 
-    /// The interrupts as `cause:count` pairs.
-    fn interrupts_text(&self) -> String {
-        let pair = |cause: &Cause| format!("{}:{}", cause.name(), self.interrupts[*cause as usize]);
-        Cause::ALL.iter().map(pair).collect::<Vec<_>>().join(" ")
-    }
+/// Interrupts as `cause:count` pairs.
+fn causes_text(counts: &[u64; 7]) -> String {
+    let pair = |cause: &Cause| format!("{}:{}", cause.name(), counts[*cause as usize]);
+    Cause::ALL.iter().map(pair).collect::<Vec<_>>().join(" ")
 }
 
 impl fmt::Display for Counts {
     fn fmt(&self, f: &mut fmt::Formatter<'_>) -> fmt::Result {
         writeln!(f, "steps by mode: system:{} user:{}", self.steps[0], self.steps[1])?;
-        writeln!(f, "interrupts by cause: {}", self.interrupts_text())?;
+        writeln!(f, "interrupts by cause: {}", causes_text(&self.interrupts))?;
+        writeln!(f, "interrupts with PC not DPC + 4, by cause: {}", causes_text(&self.slots))?;
         writeln!(f, "interrupts from the handler's first word: {}", self.loops)?;
         writeln!(f, "shadow entries filled: {}", self.fills)?;
         writeln!(
@@ -94,6 +97,7 @@ impl AddAssign<&Counts> for Counts {
     fn add_assign(&mut self, other: &Counts) {
         add_all(&mut self.steps, &other.steps);
         add_all(&mut self.interrupts, &other.interrupts);
+        add_all(&mut self.slots, &other.slots);
         add_all(&mut self.sends, &other.sends);
         add_all(&mut self.takes, &other.takes);
         add_all(&mut self.answers, &other.answers);

@@ -73,6 +73,12 @@ impl Cause {
             Cause::Ovf => "ovf",
         }
     }
+
+    /// True where the old pair is saved, so that rfe comes back to the interrupted instruction:
+    /// for 3 and 4 by 01, for 1 and 2 by request 4 of 02. After the others rfe goes on behind it.
+    fn aborts(self) -> bool {
+        matches!(self, Cause::Ill | Cause::Mal | Cause::Pff | Cause::Pfls)
+    }
 }
 
 /// The level of a masked cause word: its lowest set bit, 32 for cause word 0.
@@ -325,6 +331,8 @@ impl Guest {
         counts.steps[usize::from(self.user())] += 1;
         let interrupt = self.instruction(memory, tickets, counts).err()?;
         counts.interrupts[interrupt.cause as usize] += 1;
+        let in_line = self.pc == self.dpc.wrapping_add(4);
+        counts.slots[interrupt.cause as usize] += u64::from(!in_line);
         counts.loops += u64::from(self.dpc == 0 && !self.user());
         self.enter(interrupt);
         Some(interrupt.cause)
@@ -496,9 +504,10 @@ impl Guest {
 
     /// Saves the old state and goes to the handler at 0 in system mode.
     fn enter(&mut self, interrupt: Interrupt) {
-        let (edpc, epc) = match interrupt.cause {
-            Cause::Pff | Cause::Pfls => (self.dpc, self.pc),
-            _ => (self.pc, self.pc.wrapping_add(4)),
+        let (edpc, epc) = if interrupt.cause.aborts() {
+            (self.dpc, self.pc)
+        } else {
+            (self.pc, self.pc.wrapping_add(4))
         };
         let specials = &mut self.specials;
         specials[ESR] = specials[SR];

@@ -1,6 +1,7 @@
 //! Scripts and house files with a name: the examples of 01, and what follows from the rules and is
 //! easy to miss.
 
+mod pairs;
 mod tickets;
 
 use crate::assemble::{
@@ -132,6 +133,7 @@ pub fn scripts() -> Vec<Script> {
     let groups = [
         instructions(),
         interrupts(),
+        pairs::group(),
         translation(),
         shadows(),
         turns(),

@@ -54,7 +54,7 @@ fn the_example_of_the_format() {
     let before = memory(&[0x2001_0005, 0xAC01_0008]);
     let after = memory(&[0x2001_0005, 0xAC01_0008, 5]);
     let house = "house 1 2 1024 0 1 1 0 0 0 0 0 0 0\n\
-                 partition 0 1 3 0 4 0 0 2 16 12 0 0 0 0 0\n";
+                 partition 0 1 3 0 4 0 0 2 12 8 0 0 0 0 0\n";
     let rest = format!("registers 0 5{zeros}\nframes\nshadow\n{after}\n");
     let expected = format!(
         "call boot -> 0 0\n\

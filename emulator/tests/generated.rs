@@ -43,6 +43,18 @@ fn the_default_run_reaches_every_rule() {
     assert!(emptied.iter().all(|&count| count >= 300), "{emptied:?}");
 }
 
+/// PC is not DPC + 4: in programs behind a jump or branch, and where rfe comes back to that; in
+/// states also where the pair was set by hand.
+#[test]
+fn every_cause_comes_in_delay_slots() {
+    let scripts = scripts(SEED, STEPS);
+    for (kind, least) in [("programs", 80), ("states", 30)] {
+        let of_kind = scripts.iter().filter(|one| one.name.starts_with(kind)).cloned();
+        let slots = counts_of(&of_kind.collect::<Vec<_>>()).slots;
+        assert!(slots[1..].iter().all(|&count| count >= least), "{kind}: {slots:?}");
+    }
+}
+
 #[test]
 fn the_default_run_has_ticket_traffic() {
     let scripts = scripts(SEED, STEPS);

@@ -1,4 +1,4 @@
-//! What follows from 01 and is easy to miss.
+//! What follows from the rules and is easy to miss.
 
 mod common;
 
@@ -22,7 +22,7 @@ fn every_named_script_has_a_call() {
 #[test]
 fn words_not_in_the_table_are_ill() {
     for after in &play("ill words")[1..] {
-        assert_eq!((after.special(ECA), after.special(EDPC), after.special(EPC)), (2, 12, 16));
+        assert_eq!((after.special(ECA), after.special(EDPC), after.special(EPC)), (2, 8, 12));
         assert_eq!(after.special(EDATA), 0);
     }
 }
@@ -63,7 +63,7 @@ fn a_misaligned_target_shows_when_it_reaches_dpc() {
     assert_eq!(states[1].pair(), (4, 6));
     assert_eq!(states[2].pair(), (6, 10));
     let mal = &states[3];
-    assert_eq!((mal.special(ECA), mal.special(EDPC), mal.special(EPC)), (4, 10, 14));
+    assert_eq!((mal.special(ECA), mal.special(EDPC), mal.special(EPC)), (4, 6, 10));
 }
 
 #[test]
@@ -84,7 +84,8 @@ fn emode_takes_a_value_modulo_2() {
 
 #[test]
 fn a_misaligned_dpc_is_mal_even_where_the_word_is_ill() {
-    assert_eq!(last("misaligned DPC before ill").special(ECA), 4);
+    let after = last("misaligned DPC before ill");
+    assert_eq!((after.special(ECA), after.special(EDPC), after.special(EPC)), (4, 2, 6));
 }
 
 #[test]

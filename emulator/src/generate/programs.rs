@@ -20,6 +20,8 @@ const LAST_DATA_WORD: u32 = 980;
 const COUNTER: u32 = 4 * 760;
 /// First word of the code for user mode: behind the table, if both share a page.
 const USER_WORD: u32 = 260;
+/// ill and mal in ECA: a handler that only returns would meet the same instruction again.
+const ABORTED: u32 = 2 | 4;
 /// No snippet begins after so many words of a piece of code.
 const MOST_CODE: usize = 150;
 
@@ -263,23 +265,27 @@ fn handler(rng: &mut Rng, plan: &Plan, code: &mut Code, again: usize) {
     let fault = code.branch(opcode::BNEZ, 28, nop());
     code.push(&[andi(28, 21, 3)]);
     let misaligned = code.branch(opcode::BNEZ, 28, nop());
+    code.push(&[andi(28, 30, ABORTED)]);
+    let aborted = code.branch(opcode::BNEZ, 28, nop());
     code.push(&[andi(28, 30, 32)]);
     let no_trap = code.branch(opcode::BEQZ, 28, nop());
     service(rng, plan, code);
     code.land(no_trap);
     leave(code);
+    code.land(aborted);
+    skip_and_leave(code);
     code.land(fault);
     user_fault(plan, code);
     code.land(misaligned);
     restart(plan, code);
 }
 
-/// An interrupt in system mode: skip what faulted, go on after the rest, or begin again.
+/// An interrupt in system mode: skip what was aborted, go on after the rest, or begin again.
 fn from_system(code: &mut Code, again: usize) {
     code.push(&[andi(28, 30, 8), movs2i(26, EDPC), andi(26, 26, 3)]);
     code.push(&[r_type(function::OR, 28, 28, 26)]);
     let lost = code.branch(opcode::BNEZ, 28, nop());
-    code.push(&[andi(28, 30, 16)]);
+    code.push(&[andi(28, 30, ABORTED | 16)]);
     let done = code.branch(opcode::BEQZ, 28, nop());
     code.push(&[movs2i(28, EPC), movi2s(EDPC, 28), addi(28, 28, 4), movi2s(EPC, 28)]);
     code.land(done);
@@ -304,6 +310,12 @@ fn leave(code: &mut Code) {
     code.push(&[movi2s(EPC, 20), movi2s(EDPC, 21), movi2s(ESR, 22), movi2s(EMODE, 23), rfe()]);
 }
 
+/// Leaves for the instruction after the aborted one: behind a delay slot, where the jump goes.
+fn skip_and_leave(code: &mut Code) {
+    code.push(&[r_type(function::OR, 21, 20, 0), addi(20, 20, 4)]);
+    leave(code);
+}
+
 /// A fault in user mode: begin again, set up the table, map the page, or skip the instruction.
 fn user_fault(plan: &Plan, code: &mut Code) {
     code.push(&[andi(28, 29, 31)]);
@@ -314,8 +326,7 @@ fn user_fault(plan: &Plan, code: &mut Code) {
     let skip = code.branch(opcode::BEQZ, 28, nop());
     map_page(plan, code);
     code.land(skip);
-    code.push(&[r_type(function::OR, 21, 20, 0), addi(20, 20, 4)]);
-    leave(code);
+    skip_and_leave(code);
     code.land(fetch);
     repair(plan, code);
     leave(code);
@@ -395,7 +406,8 @@ impl Writer<'_> {
             return (0..count).for_each(|_| code.push(&[words::instruction(self.rng)]));
         }
         match self.rng.below(100) {
-            0..=14 => self.compute(code),
+            0..=11 => self.compute(code),
+            12..=14 => self.interrupted_slot(code),
             15..=17 => self.tickets(code),
             18..=25 => self.overflow(code),
             26..=42 => self.access(code),
@@ -552,6 +564,61 @@ impl Writer<'_> {
         code.land(ahead);
     }
 
+    /// A jump or branch over one word, with an instruction in its delay slot that is mostly
+    /// interrupted.
+    fn interrupted_slot(&mut self, code: &mut Code) {
+        let slot = self.interrupted(code);
+        let ahead = match self.rng.below(3) {
+            0 => Some(code.jump(self.rng.pick(&[opcode::J, opcode::JAL]), slot)),
+            1 => {
+                code.constant(13, self.rng.below(2));
+                Some(code.branch(self.rng.pick(&[opcode::BEQZ, opcode::BNEZ]), 13, slot))
+            }
+            _ => {
+                code.long_constant(13, self.base + 4 * (code.here() as u32 + 5));
+                let op = self.rng.pick(&[opcode::JR, opcode::JALR]);
+                code.push(&[i_type(op, 0, 13, 0), slot]);
+                None
+            }
+        };
+        code.push(&[words::compute(self.rng)]);
+        if let Some(ahead) = ahead {
+            code.land(ahead);
+        }
+    }
+
+    /// An instruction that is mostly interrupted, by any cause that an aligned word which is found
+    /// can have; its registers are set before it.
+    fn interrupted(&mut self, code: &mut Code) -> u32 {
+        let pointer = self.loop_registers().1;
+        let access = i_type(self.rng.pick(&[opcode::LW, opcode::SW]), 9, pointer, 0);
+        match self.rng.below(10) {
+            0 if self.user => self.rng.pick(&[rfe(), movs2i(9, ECA), movi2s(EPC, 9)]),
+            0 | 1 => words::ill(self.rng),
+            2 | 3 => {
+                code.constant(pointer, self.address() & !3 | self.rng.between(1, 3));
+                access
+            }
+            4 | 5 => {
+                code.constant(pointer, self.faulting_address());
+                access
+            }
+            6 | 7 => trap(self.rng.word()),
+            _ => {
+                let (word, one, two) = words::overflow(self.rng);
+                code.constant(1, one);
+                code.constant(2, two);
+                word
+            }
+        }
+    }
+
+    /// An address that is mostly not there; behind some pages of user mode it is only protected.
+    fn faulting_address(&mut self) -> u32 {
+        let page = if self.user { self.rng.pick(&self.plan.odd) } else { self.plan.pages };
+        4_096 * page + self.data_offset()
+    }
+
     /// A call by jal or jalr, and the subroutine right behind it.
     fn subroutine(&mut self, code: &mut Code) {
         let call = if self.rng.chance(50) {
@@ -647,7 +714,8 @@ impl Writer<'_> {
         code.special(number, 12, value);
     }
 
-    /// A jump to an address that is misaligned or not mapped.
+    /// A jump to an address that is misaligned or not mapped; often its delay slot has another
+    /// jump, so that PC is then not DPC + 4.
     fn far_jump(&mut self, code: &mut Code) {
         let target = match self.rng.below(3) {
             0 => self.base + self.rng.between(1, 3),
@@ -656,7 +724,12 @@ impl Writer<'_> {
         };
         code.constant(13, target);
         let op = self.rng.pick(&[opcode::JR, opcode::JALR]);
-        code.push(&[i_type(op, 0, 13, 0), words::compute(self.rng)]);
+        let slot = match self.rng.below(4) {
+            0 => jr(13),
+            1 => i_type(opcode::BEQZ, 0, 0, 4 * self.rng.between(1, 32)),
+            _ => words::compute(self.rng),
+        };
+        code.push(&[i_type(op, 0, 13, 0), slot]);
     }
 
     /// Stores an instruction into the code a few words ahead.

@@ -48,18 +48,38 @@ fn one_case(draft: &mut Draft) {
     if draft.rng.chance(25) {
         set_shadow(draft, partition);
     }
-    let instruction = if draft.rng.chance(25) {
-        trap(words::trap_number(&mut draft.rng))
-    } else {
-        words::instruction(&mut draft.rng)
+    let instruction = match draft.rng.below(20) {
+        0 => overflow(draft, partition),
+        _ => any_instruction(draft, partition),
     };
-    set_registers(draft, partition, instruction);
     place_instruction(draft, partition, instruction);
     let steps = if draft.rng.chance(75) { 1 } else { draft.rng.between(2, 6) };
     draft.emit(Command::Run { steps });
     if draft.rng.chance(5) {
         draft.emit(Command::Empty { partition });
     }
+}
+
+/// Any instruction, often a trap, and its registers.
+fn any_instruction(draft: &mut Draft, partition: u32) -> u32 {
+    let instruction = if draft.rng.chance(25) {
+        trap(words::trap_number(&mut draft.rng))
+    } else {
+        words::instruction(&mut draft.rng)
+    };
+    set_registers(draft, partition, instruction);
+    instruction
+}
+
+/// An instruction that overflows, and its registers; SR mostly lets it through.
+fn overflow(draft: &mut Draft, partition: u32) -> u32 {
+    let (instruction, one, two) = words::overflow(&mut draft.rng);
+    set_register(draft, partition, 1, one);
+    set_register(draft, partition, 2, two);
+    if draft.rng.chance(80) {
+        draft.field(fields::special(partition, SR), 64);
+    }
+    instruction
 }
 
 fn set_specials(draft: &mut Draft, partition: u32) {
@@ -87,7 +107,8 @@ fn set_specials(draft: &mut Draft, partition: u32) {
     }
 }
 
-/// DPC and PC. In system mode the page is mostly one of the guest's own.
+/// DPC and PC. In system mode the page is mostly one of the guest's own. PC is often not DPC + 4,
+/// as it is in a delay slot.
 fn set_pair(draft: &mut Draft, partition: u32) {
     let guest = &draft.player.house.guests[partition as usize];
     let (user, pages) = (guest.user(), guest.space.pages);
@@ -101,6 +122,7 @@ fn set_pair(draft: &mut Draft, partition: u32) {
     let pc = match rng.below(10) {
         0 => rng.word(),
         1 => rng.pick(&[u32::MAX, 0xFFFF_FFFC, 0xFFFF_FFF8, 0]),
+        2 => (dpc & !0xFFF) + 4 * rng.below(1_024),
         _ => dpc.wrapping_add(4),
     };
     draft.field(fields::scalar(partition, fields::DPC), dpc);

@@ -51,6 +51,19 @@ pub fn compute(rng: &mut Rng) -> u32 {
     }
 }
 
+/// An addition or subtraction that overflows, and the values that registers 1 and 2 have for it.
+pub fn overflow(rng: &mut Rng) -> (u32, u32, u32) {
+    let edge = rng.pick(&[0x7FFF_FFFF, 0x8000_0000]);
+    let away: u32 = if edge == 0x8000_0000 { u32::MAX } else { 1 };
+    let rd = rng.below(13);
+    match rng.below(4) {
+        0 => (i_type(opcode::ADDI, rd, 1, away), edge, 0),
+        1 => (i_type(opcode::SUBI, rd, 1, away.wrapping_neg()), edge, 0),
+        2 => (r_type(function::ADD, rd, 1, 2), edge, edge),
+        _ => (r_type(function::SUB, rd, 1, 2), edge, !edge),
+    }
+}
+
 /// A word that is not in the table, or a special number above 9.
 pub fn ill(rng: &mut Rng) -> u32 {
     let above = rng.between(10, 31) as usize;
