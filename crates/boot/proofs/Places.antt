@@ -2,19 +2,20 @@
 use mathlib.Core.Path.{_≡_, sym, subst, _∙_}
 use mathlib.Core.Bool.{true, false}
 use mathlib.Core.List.{List}
-use Prim.Native.Nat.{ℕ, _+_, _<_, _≤_}
+use Prim.Native.Nat.{ℕ, _+_, _/_, _%_, _<_, _≤_}
 use native.Mathlib.Omega.{arith}
-use borrow.Author.Tests.{lt-ltb, le-ltb, ltb-true, ltb-false}
-use lib.Dec.{ltb}
+use borrow.Author.Tests.{lt-ltb, le-ltb, ltb-true, ltb-false, leb-true, leb-false}
+use lib.Dec.{ltb, leb, eqb}
 use lib.ListN.{length, getD, set, replicate, List·getD-eq-default}
 use Rattle.dlx.specs.Choice.{if_then_else_}
 use Rattle.dlx.proofs.Tests.{by-test}
-use Rattle.house.specs.Lists.{listFrom, any}
-use Rattle.house.specs.Boot.{pagesWrong, bootVerdict}
-use Rattle.house.proofs.Lists.Bounded.{any-none}
+use Rattle.house.specs.Lists.{listFrom, any, firstFrom, between}
+use Rattle.house.specs.Damage.{wholeFrames}
+use Rattle.house.specs.Boot.{pagesWrong, frameOutside, bootVerdict}
+use Rattle.house.proofs.Lists.Bounded.{any-none, and-right}
 use Rattle.house.proofs.Damage.Conditions.{within}
 use Rattle.house.proofs.Calls.Verdicts.{boot-done}
-use Rattle.house.proofs.Lists.ByRule.{listFrom-same, listFrom-replicate, set-listFrom}
+use Rattle.house.proofs.Lists.ByRule.{any-missed, listFrom-same, listFrom-replicate, set-listFrom}
 use Rattle.boot.specs.Places.{filled, Few, Fitting}
 
 -- ---- a list filled from the front
@@ -68,6 +69,14 @@ few-of ps l h = record {
 
 pub few : (ps : List ℕ) → length ps ≤ 8 → any (pagesWrong ps) (length ps) ≡ false → Few ps
 few ps l e = few-of ps l (λ i t. within 1 (getD ps i 0) 256 (any-none (pagesWrong ps) (length ps) e i t) .1)
+
+-- where no position is outside the memory, each frame has a mark
+pub below : (fr : List ℕ) (words r : ℕ) → wholeFrames words ≡ true → r ≡ firstFrom (frameOutside fr words) 0 (length fr) → length fr ≤ r → (k : ℕ) → k < length fr → getD fr k 0 < 1024
+below fr words r w e l k m =
+    let size = words / 1024 in
+    let small : size ≤ 1024 = leb-true size 1024 (and-right (leb 1 size) (leb size 1024) (and-right (eqb (words % 1024) 0) (between 1 size 1024) w)) in
+    let less : getD fr k 0 < size = leb-false size (getD fr k 0) (any-none (frameOutside fr words) (length fr) (any-missed (frameOutside fr words) (length fr) r e l) k m) in
+    omega (arith, small, less)
 
 pub fitting : (ps : List ℕ) (q : ℕ) (fr : List ℕ) (words : ℕ) → bootVerdict ps q fr words .number ≡ 0 → Fitting ps fr × (words ≤ 1048576)
 fitting ps q fr words e =

@@ -1,7 +1,7 @@
 // Boot: the refusals in their order, each search giving both the test and the detail; then the house, with every frame list at its place.
 ghost use mathlib.Core.Path.{_≡_};
 ghost use mathlib.Core.Bool.{not};
-ghost use Prim.Native.Nat.{_*_, _+_, _<_, _≤_};
+ghost use Prim.Native.Nat.{ℕ, _*_, _+_, _<_, _≤_};
 ghost use lib.Dec.{ltb};
 ghost use lib.ListN.{length, getD};
 ghost use Rattle.dlx.specs.Processor.{freshOf};
@@ -15,6 +15,7 @@ ghost use Rattle.boot.specs.Places.{filled, Few, Fitting};
 use dlx::partition::Partition;
 use house::Answer;
 use house::House;
+use marks::mark;
 
 // A refusal's number and detail; 0 and 0 where nothing refuses.
 pub struct Refusal {
@@ -100,20 +101,12 @@ fn first_outside(frames: &[u32], words: usize) -> usize
 
 // The smallest position whose frame stood earlier, or the list's length.
 fn first_repeat(frames: &[u32]) -> usize
+    requires { ⌜ ((k : ℕ) → k < length (now frames) → getD (now frames) k 0 < 1024) ⌝ }
     ensures { λ r. ⌜ r ≡ firstFrom (stoodEarlier (now (frames .entry))) 0 (length (now (frames .entry))) ⌝ }
 {
-    let mut i = 0;
-    'outer: while i < frames.len() {
-        let mut j = 0;
-        while j < i {
-            if frames[j] == frames[i] {
-                break 'outer;
-            }
-            j += 1;
-        }
-        i += 1;
-    }
-    i
+    let mut seen = [0u32; 1024];
+    let found = mark(frames, frames.len(), 1, &mut seen);
+    return found.at;
 }
 
 // The first refusal that applies.

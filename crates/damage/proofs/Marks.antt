@@ -8,8 +8,7 @@ use native.Mathlib.Nat.{add-sub-cancel-left}
 use native.Mathlib.Omega.{arith}
 use borrow.Author.Tests.{not-false, eqb-true, eq-eqb, ne-eqb, leb-true, leb-false}
 use lib.Dec.{eqb, leb}
-use lib.ListN.{length, getD, set, take, drop, length-set, length-replicate, getD-replicate, List·getD-eq-default}
-use lib.Seq.{getD-set-same, getD-set-other}
+use lib.ListN.{length, getD, take, drop, length-replicate, getD-replicate, List·getD-eq-default}
 use Rattle.dlx.specs.Choice.{if_then_else_}
 use Rattle.dlx.specs.declared.partition.Partition.{Partition}
 use Rattle.dlx.proofs.Tests.{by-test, by-eq}
@@ -21,51 +20,14 @@ use Rattle.house.specs.House.{noPartition}
 use Rattle.house.specs.Damage.{stands, entryWrong, wholeFrames, notZero, partitionUsed, damaged, outsideLimits, frameTwice, turnWrong, registersWrong, shadowWrong, unusedWrong, queuesWrong}
 use Rattle.house.specs.declared.House.{House}
 use Rattle.house.proofs.Lists.Bounded.{one-way, same-test, or-left, or-right, any-yes, any-at, any-none, any-same, and-right}
-use Rattle.damage.specs.Marks.{Within, shadowMarked, shadowOutside, pagesAt, partAt, pagesOutside, frameOutside, framesOutside, marked, ownersOf, twiceMarked, twiceAt, twiceIn, entryMarked, outside, turnOutside, registersAt, roomWrong, queueAt, inside}
+use Rattle.marks.specs.Marked.{marked, twiceMarked}
+use Rattle.marks.proofs.Marked.{marked-length, marked-at}
+use Rattle.damage.specs.Marks.{Within, shadowMarked, shadowOutside, pagesAt, partAt, pagesOutside, frameOutside, framesOutside, ownersOf, twiceAt, twiceIn, entryMarked, outside, turnOutside, registersAt, roomWrong, queueAt, inside}
 
 -- partition i's part of a list, as the code lends it
 pub part-is : (l : List ℕ) (i : ℕ) → take (i * 256 + 256 - i * 256) (drop (i * 256) l) ≡ partAt l i
 unfolding inner
 part-is l i = simp add-sub-cancel-left
-
--- ---- one list
-
-module _ (fr : List ℕ) (tag : ℕ) (o : List ℕ) where
-  pub marked-length : (k : ℕ) → length (marked fr tag o k) ≡ length o
-  unfolding marked
-  marked-length zero = refl
-  marked-length (suc k) = length-set (marked fr tag o k) (getD fr k 0) tag ∙ marked-length k
-
-  pub marked-more : (k : ℕ) → set (marked fr tag o k) (getD fr k 0) tag ≡ marked fr tag o (k + 1)
-  unfolding marked
-  marked-more k = rw add-one
-
-  -- a frame's mark is the tag where the frame is among the marked ones, else as it was
-  pub marked-at : (k f : ℕ) → f < length o → getD (marked fr tag o k) f 0 ≡ (if stands fr k f then tag else getD o f 0)
-  unfolding marked any
-  marked-at zero f l = refl
-  marked-at (suc k) f l =
-      by-eq f (getD fr k 0)
-      (λ q. rw (eq-eqb (getD fr k 0) f (sym q))
-      (ap (λ (x : ℕ). getD (set (marked fr tag o k) (getD fr k 0) tag) x 0) q
-      ∙ getD-set-same (marked fr tag o k) (getD fr k 0) tag 0 (omega (arith, marked-length k))))
-      (λ q. rw (ne-eqb (getD fr k 0) f (λ e. q (sym e)))
-      (getD-set-other (marked fr tag o k) (getD fr k 0) f tag 0 q ∙ marked-at k f l))
-
-  module _ (k : ℕ) (l : getD fr k 0 < length o) where
-    -- a mark at the k-th frame: it stands before, or had an owner
-    pub mark-found : (getD (marked fr tag o k) (getD fr k 0) 0 ≡ 0 → ⊥) → twiceMarked o fr k ≡ true
-    mark-found h =
-        by-test (stands fr k (getD fr k 0))
-        (λ e. rw e)
-        (λ e. rw (e, ne-eqb (getD o (getD fr k 0) 0) 0 (λ z. h (marked-at k (getD fr k 0) l ∙ rw e z))))
-
-    pub mark-free : 0 < tag → getD (marked fr tag o k) (getD fr k 0) 0 ≡ 0 → twiceMarked o fr k ≡ false
-    mark-free t h =
-        by-test (stands fr k (getD fr k 0))
-        (λ e. absurd (let z : tag ≡ 0 = rw e at (sym (marked-at k (getD fr k 0) l) ∙ h) in omega arith))
-        (λ e. let z : getD o (getD fr k 0) 0 ≡ 0 = rw e at (sym (marked-at k (getD fr k 0) l) ∙ h) in
-        rw (e, eq-eqb _ _ z))
 
 -- ---- all lists: a frame's mark is the number + 1 of the last partition that has it
 
@@ -127,10 +89,9 @@ module _ (ps : List Partition) (fr : List ℕ) where
         (λ k l. rw (owners-none i (getD (partAt fr i) k 0) (below k l), Bool·not-not))
 
     -- what marking partition i's part finds, and leaves
-    pub mark-part : (part o o′ : List ℕ) (pages tag : ℕ) (r : Bool) → part ≡ partAt fr i → pages ≡ pagesAt ps i → tag ≡ i + 1 → o ≡ ownersOf ps fr i → (r ≡ any (twiceMarked o part) pages) × (r ≡ false → o′ ≡ marked part tag o pages) → (r ≡ twiceIn ps fr i) × (r ≡ false → o′ ≡ ownersOf ps fr (i + 1))
+    pub mark-part : (part o o′ : List ℕ) (pages tag : ℕ) (r : Bool) → part ≡ partAt fr i → pages ≡ pagesAt ps i → tag ≡ i + 1 → o ≡ ownersOf ps fr i → r ≡ any (twiceMarked o part) pages → (r ≡ false → o′ ≡ marked part tag o pages) → (r ≡ twiceIn ps fr i) × (r ≡ false → o′ ≡ ownersOf ps fr (i + 1))
     unfolding ownersOf
-    mark-part part o o′ pages tag r p q t e h =
-        (h .0 ∙ rw (p, q, e) twice-by-marks, λ z. h .1 z ∙ rw (p, q, t, e, add-one))
+    mark-part part o o′ pages tag r p q t e h m = (h ∙ rw (p, q, e) twice-by-marks, λ z. m z ∙ rw (p, q, t, e, add-one))
 
     module _ (once : any (twiceIn ps fr) n ≡ false) (there : i < n) where
       owner-is : (f : ℕ) → eqb (getD (ownersOf ps fr n) f 0) (i + 1) ≡ has f i

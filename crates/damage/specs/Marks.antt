@@ -3,7 +3,7 @@ use mathlib.Core.Bool.{Bool, false, not, _&&_, _||_}
 use mathlib.Core.List.{List}
 use Prim.Native.Nat.{ℕ, zero, suc, _+_, _*_, _/_, _%_, _<_, _≤_}
 use lib.Dec.{ltb, leb, eqb}
-use lib.ListN.{getD, set, replicate}
+use lib.ListN.{getD, replicate}
 use Rattle.dlx.specs.Choice.{if_then_else_}
 use Rattle.dlx.specs.declared.partition.Partition.{Partition}
 use Rattle.dlx.specs.declared.partition.Processor.{Processor}
@@ -13,6 +13,7 @@ use Rattle.dlx.specs.Parts.{inner}
 use Rattle.house.specs.Lists.{any, between}
 use Rattle.house.specs.House.{noPartition}
 use Rattle.house.specs.Damage.{wholeFrames, stands, entryWrong, notZero, partitionUsed}
+use Rattle.marks.specs.Marked.{marked}
 
 -- partition i's page count, and its part of the frames or of the shadows
 abbrev pub pagesAt : List Partition → ℕ → ℕ
@@ -48,19 +49,10 @@ pub record Within (count : ℕ) (ps : List Partition) (fr : List ℕ) : Type 0 w
 
 -- ---- marks: 0 for a frame of no partition, else its partition's number + 1
 
--- the first k frames of a list, marked
-unfoldable pub marked : List ℕ → ℕ → List ℕ → ℕ → List ℕ
-marked fr tag o zero = o
-marked fr tag o (suc k) = set (marked fr tag o k) (getD fr k 0) tag
-
 -- the first i partitions' frames, marked
 unfoldable pub ownersOf : List Partition → List ℕ → ℕ → List ℕ
 ownersOf ps fr zero = replicate 1024 0
 ownersOf ps fr (suc i) = marked (partAt fr i) (suc i) (ownersOf ps fr i) (pagesAt ps i)
-
--- the k-th frame stands before it in its list, or has an owner
-abbrev pub twiceMarked : List ℕ → List ℕ → ℕ → Bool
-twiceMarked o fr k = stands fr k (getD fr k 0) || not (eqb (getD o (getD fr k 0) 0) 0)
 
 -- the k-th frame of partition i stands before it
 abbrev pub twiceAt : List Partition → List ℕ → ℕ → ℕ → Bool

@@ -7,11 +7,12 @@ ghost use Rattle.translate.specs.Walk.{entries};
 ghost use Rattle.house.specs.Lists.{any};
 ghost use Rattle.house.specs.House.{noPartition};
 ghost use Rattle.house.specs.Damage.{damaged, partitionUsed, notZero};
-ghost use Rattle.damage.specs.Marks.{Within, inside, pagesAt, partAt, pagesOutside, frameOutside, framesOutside, outside, marked, ownersOf, twiceMarked, twiceIn, entryMarked, shadowMarked, turnOutside, processorWrong, registersAt, behind, roomWrong, countWrong, queueOutside, queueAt};
+ghost use Rattle.damage.specs.Marks.{Within, inside, pagesAt, partAt, pagesOutside, frameOutside, framesOutside, outside, ownersOf, twiceIn, entryMarked, shadowMarked, turnOutside, processorWrong, registersAt, behind, roomWrong, countWrong, queueOutside, queueAt};
 use dlx::partition::Partition;
 use dlx::partition::Processor;
 use dlx::words::wide;
 use house::House;
+use marks::mark;
 
 // Some partition below n runs.
 pub fn any_runs(running: &[bool; 8], n: usize) -> bool
@@ -123,23 +124,6 @@ fn outside_limits(count: u32, q: u32, words: u32, parts: [Partition; 8], frames:
     frames_outside(parts, frames, n, size)
 }
 
-// Marks the first n frames of a list with the tag, their partition's number + 1, up to one that has an owner already.
-fn mark(frames: &[u32], n: usize, tag: u32, owners: &mut [u32; 1024]) -> bool
-    requires { ⌜ (n ≤ length (now frames)) × (0 < tag) × (length (now owners) ≡ 1024) × ((k : ℕ) → k < n → getD (now frames) k 0 < 1024) ⌝ }
-    ensures { λ r. ⌜ (r ≡ any (twiceMarked (now (owners .entry)) (now (frames .entry))) n) × (r ≡ false → now (owners .exit) ≡ marked (now (frames .entry)) tag (now (owners .entry)) n) ⌝ }
-{
-    let mut k = 0;
-    while k < n {
-        let f = wide(frames[k]);
-        if owners[f] != 0 {
-            return true;
-        }
-        owners[f] = tag;
-        k += 1;
-    }
-    false
-}
-
 // Marks the frames of the first n partitions, up to one that stands twice.
 fn mark_all(parts: [Partition; 8], frames: &[u32], n: usize, owners: &mut [u32; 1024]) -> bool
     requires { ⌜ (n ≤ 8) × (length (now frames) ≡ 2048) × ((i : ℕ) → i < n → (pagesAt parts i ≤ 256) × ((k : ℕ) → k < pagesAt parts i → getD (partAt (now frames) i) k 0 < 1024)) × (now owners ≡ replicate 1024 0) ⌝ }
@@ -151,7 +135,8 @@ fn mark_all(parts: [Partition; 8], frames: &[u32], n: usize, owners: &mut [u32; 
         let pages = wide(pages_at(parts, i));
         let a = i * 256;
         let e = a + 256;
-        if mark(&frames[a..e], pages, tag, owners) {
+        let found = mark(&frames[a..e], pages, tag, owners);
+        if found.twice {
             return true;
         }
         tag += 1;

@@ -5,7 +5,7 @@ use lib.ListN.{length}
 use Rattle.house.specs.Boot.{pagesWrong, frameOutside, stoodEarlier, firstOf, bootVerdict}
 use Rattle.house.proofs.Lists.Bounded.{and-right}
 use Rattle.house.proofs.Lists.ByRule.{any-found, any-missed}
-use Rattle.boot.proofs.Places.{few}
+use Rattle.boot.proofs.Places.{few, below}
 use borrow.Author.Needs.{needs}
 use Rattle.boot.proofs.first_refusal.Statement.{statement}
 use Rattle.boot.proofs.first_refusal.Tie as tie
@@ -56,7 +56,7 @@ unfolding bootVerdict firstOf
 returns-6 c = simp (sym (c .before .before .before .before .before .before .before .before .before .before .before .before .within .ensures) ∙ not-false _ (c .before .before .before .before .before .before .before .before .before .before .before .if1 .left), any-missed (pagesWrong (c .before .before .before .before .before .before .before .before .before .before .before .before .before .before .before .args .pages .now)) _ _ (c .before .before .before .before .before .before .before .before .before .before .first-wrong .ensures) (c .before .before .before .before .before .before .before .before .before .if2 .left), (simp (c .before .before .before .before .before .before .before .before .wide .ensures) at (sym (c .before .before .before .before .before .before .before .within2 .ensures) ∙ not-false _ (c .before .before .before .before .before .before .if3 .left))), sym (c .before .before .before .before .before .whole .ensures) ∙ not-false _ (c .before .before .before .before .if4 .left), eq-eqb _ _ (simp (c .before .before .before .total .ensures) at (c .before .before .if5 .left)), any-found (frameOutside (c .before .before .before .before .before .before .before .before .before .before .before .before .before .before .before .args .frames .now) (c .before .before .before .before .before .before .before .before .before .before .before .before .before .before .before .args .words)) _ _ (c .before .first-outside .ensures) (c .if6 .taken), c .before .first-outside .ensures)
 
 first-repeat-requires : tie.Need-first-repeat-requires
-first-repeat-requires c κs = search needs
+first-repeat-requires c κs = below (c .before .before .before .before .before .before .before .before .before .before .before .before .before .before .before .args .frames .now) _ _ (sym (c .before .before .before .before .before .whole .ensures) ∙ not-false _ (c .before .before .before .before .if4 .left)) (c .before .first-outside .ensures) (c .if6 .left)
 
 returns-7 : tie.Need-returns-7
 unfolding bootVerdict firstOf

@@ -62,7 +62,7 @@ mark-requires c κs = let l = c .before .before .before .before .before .loop in
 
 returns : tie.Need-returns Inv-loop μ-loop
 returns c = let a = c .before .before .before .before .before .before .before .before .before .args in let l = c .before .before .before .before .before .before .before .loop in
-    let m = mark-part (a .parts) (a .frames .now) (a .n) (l .i) (c .before .before .before .before .before .before .before .before .before .pre .2 (l .i) (c .before .before .before .before .before .before .loop-test .taken) .1) _ _ _ _ _ _ (part-is (a .frames .now) (l .i)) (c .before .before .before .before .wide .ensures ∙ c .before .before .before .before .before .pages-at .ensures) (l .inv .2) (l .inv .1) (c .before .mark .ensures) in
+    let m = mark-part (a .parts) (a .frames .now) (a .n) (l .i) (c .before .before .before .before .before .before .before .before .before .pre .2 (l .i) (c .before .before .before .before .before .before .loop-test .taken) .1) _ _ _ _ _ _ (part-is (a .frames .now) (l .i)) (c .before .before .before .before .wide .ensures ∙ c .before .before .before .before .before .pages-at .ensures) (l .inv .2) (l .inv .1) (c .before .mark .ensures .0) (c .before .mark .ensures .2) in
     (sym (any-yes (twiceIn (a .parts) (a .frames .now)) (a .n) (l .i) (c .before .before .before .before .before .before .loop-test .taken) (sym (m .0) ∙ c .if1 .taken)), λ e. one-way true refl e)
 
 add-tag : tie.Need-add-tag Inv-loop μ-loop
@@ -76,7 +76,7 @@ loop-less c = omega arith
 
 loop-again : tie.Need-loop-again Inv-loop μ-loop
 loop-again c = let a = c .before .before .before .before .before .before .before .before .before .args in let l = c .before .before .before .before .before .before .before .loop in
-    let m = mark-part (a .parts) (a .frames .now) (a .n) (l .i) (c .before .before .before .before .before .before .before .before .before .pre .2 (l .i) (c .before .before .before .before .before .before .loop-test .taken) .1) _ _ _ _ _ _ (part-is (a .frames .now) (l .i)) (c .before .before .before .before .wide .ensures ∙ c .before .before .before .before .before .pages-at .ensures) (l .inv .2) (l .inv .1) (c .before .mark .ensures) in
+    let m = mark-part (a .parts) (a .frames .now) (a .n) (l .i) (c .before .before .before .before .before .before .before .before .before .pre .2 (l .i) (c .before .before .before .before .before .before .loop-test .taken) .1) _ _ _ _ _ _ (part-is (a .frames .now) (l .i)) (c .before .before .before .before .wide .ensures ∙ c .before .before .before .before .before .pages-at .ensures) (l .inv .2) (l .inv .1) (c .before .mark .ensures .0) (c .before .mark .ensures .2) in
     (any-more (twiceIn (a .parts) (a .frames .now)) (l .i) (l .inv .0) (sym (m .0) ∙ c .if1 .left), m .1 (c .if1 .left), omega arith, omega arith)
 
 returns-2 : tie.Need-returns-2 Inv-loop μ-loop

@@ -5,12 +5,12 @@ use mathlib.Core.Bool.{true, false}
 use mathlib.Core.Path.{_≡_, refl, sym}
 use Prim.Native.Nat.{_≤_, _-_, zero-le}
 use Rattle.house.specs.Lists.{any}
-use Rattle.house.proofs.Lists.Bounded.{any-more, any-yes}
-use Rattle.damage.specs.Marks.{marked, twiceMarked}
-use Rattle.house.proofs.Lists.Bounded.{one-way}
-use Rattle.damage.proofs.Marks.{marked-more, mark-found, mark-free}
-use Rattle.damage.proofs.mark.Statement.{statement}
-use Rattle.damage.proofs.mark.Tie as tie
+use Rattle.house.proofs.Lists.Bounded.{any-more, any-yes, one-way}
+use Rattle.house.proofs.Lists.ByRule.{first-is, first-none}
+use Rattle.marks.specs.Marked.{marked, twiceMarked}
+use Rattle.marks.proofs.Marked.{marked-more, mark-found, mark-free}
+use Rattle.marks.proofs.mark.Statement.{statement}
+use Rattle.marks.proofs.mark.Tie as tie
 
 abbrev Inv-loop : tie.InvT-loop
 Inv-loop frames n tag owners₀ k₀ owners k = (any (twiceMarked owners₀ frames) k ≡ false) × (owners ≡ marked frames tag owners₀ k) × (length owners ≡ 1024) × (k ≤ n)
@@ -39,9 +39,10 @@ element-copy-out-if1 c = let b = c .before .before .before .before .before .pre 
 
 returns : tie.Need-returns Inv-loop μ-loop
 returns c = let a = c .before .before .before .before .before .before .before .args in let l = c .before .before .before .before .before .loop in
-    let b = c .before .before .before .before .before .before .before .pre .3 (l .k) (c .before .before .before .before .loop-test .taken) in (
-      sym (any-yes (twiceMarked (a .owners .now) (a .frames .now)) _ (l .k) (c .before .before .before .before .loop-test .taken)
-          (mark-found (a .frames .now) (a .tag) (a .owners .now) (l .k) (omega (arith, b, c .before .before .before .before .before .before .before .pre .2)) (rw (l .inv .1, c .before .before .wide .ensures) at (c .if1 .taken)))),
+    let b = c .before .before .before .before .before .before .before .pre .3 (l .k) (c .before .before .before .before .loop-test .taken) in
+    let f = mark-found (a .frames .now) (a .tag) (a .owners .now) (l .k) (omega (arith, b, c .before .before .before .before .before .before .before .pre .2)) (rw (l .inv .1, c .before .before .wide .ensures) at (c .if1 .taken)) in (
+      sym (any-yes (twiceMarked (a .owners .now) (a .frames .now)) _ (l .k) (c .before .before .before .before .loop-test .taken) f),
+      sym (first-is (twiceMarked (a .owners .now) (a .frames .now)) _ (l .k) (l .inv .0) (c .before .before .before .before .loop-test .taken) f),
       λ e. one-way true refl e,
     )
 
@@ -62,15 +63,15 @@ loop-again c = let a = c .before .before .before .before .before .before .before
     let b = c .before .before .before .before .before .before .before .pre .3 (l .k) (c .before .before .before .before .loop-test .taken) in (
       any-more (twiceMarked (a .owners .now) (a .frames .now)) (l .k) (l .inv .0)
           (mark-free (a .frames .now) (a .tag) (a .owners .now) (l .k) (omega (arith, b, c .before .before .before .before .before .before .before .pre .2)) (c .before .before .before .before .before .before .before .pre .1) (rw (l .inv .1, c .before .before .wide .ensures) at (c .if1 .left))),
-      rw (l .inv .1, c .before .before .wide .ensures) (marked-more (a .frames .now) (a .tag) (a .owners .now) (l .k)),
+      marked-more (a .frames .now) (a .tag) (a .owners .now) _ (l .k) _ (l .inv .1) (c .before .before .wide .ensures),
       simp length-set (l .inv .2),
       omega arith,
     )
 
 returns-2 : tie.Need-returns-2 Inv-loop μ-loop
-returns-2 c = let l = c .before .loop in
+returns-2 c = let a = c .before .before .before .args in let l = c .before .loop in
     let q = le-antisymm (c .loop-test .left) (l .inv .3) in
-    (sym (rw q (l .inv .0)), λ e. rw q (l .inv .1))
+    (sym (rw q (l .inv .0)), sym (first-none (twiceMarked (a .owners .now) (a .frames .now)) _ (rw q (l .inv .0))), λ e. rw q (l .inv .1))
 
 pub mark-spec : {M : Type 1} → statement M
 mark-spec =
