@@ -80,8 +80,8 @@ damaging = 0
 
 -- ---- the claim
 
--- the frames 0 to 255 stand once each
-apart : any (λ i. any (λ j. eqb (getD (listFrom (λ i. i) 0 256) j 0) (getD (listFrom (λ i. i) 0 256) i 0)) i) 256 ≡ false
+-- the frames 1 to 256 stand once each
+apart : any (λ i. any (λ j. eqb (getD (listFrom (λ i. i + 1) 0 256) j 0) (getD (listFrom (λ i. i + 1) 0 256) i 0)) i) 256 ≡ false
 apart = simp rule-at (unfold any in refl)
 
 pub checked : all (papers ++ (boots ++ (widest ++ (turns ++ (calls ++ (damages ++ (places ++ (exchanges ++ whole)))))))) ≡ true

@@ -43,6 +43,10 @@ pagesWrong ps i = not (between 1 (getD ps i 0) 256)
 abbrev pub frameOutside : List ℕ → ℕ → ℕ → Bool
 frameOutside fr words i = leb (words / 1024) (getD fr i 0)
 
+-- the frame at position i is frame 0, which the house keeps
+abbrev pub frameKept : List ℕ → ℕ → Bool
+frameKept fr i = eqb (getD fr i 0) 0
+
 -- the frame at position i stood earlier
 abbrev pub stoodEarlier : List ℕ → ℕ → Bool
 stoodEarlier fr i = any (λ j. eqb (getD fr j 0) (getD fr i 0)) i
@@ -56,6 +60,7 @@ bootVerdict ps q fr words =
     ∷ case (not (wholeFrames words)) 4 0
     ∷ case (not (eqb (length fr) (sum ps))) 5 0
     ∷ case (any (frameOutside fr words) (length fr)) 6 (firstFrom (frameOutside fr words) 0 (length fr))
+    ∷ case (any (frameKept fr) (length fr)) 16 (firstFrom (frameKept fr) 0 (length fr))
     ∷ case (any (stoodEarlier fr) (length fr)) 7 (firstFrom (stoodEarlier fr) 0 (length fr))
     ∷ [])
     (verdict 0 0)

@@ -17,13 +17,17 @@ use Rattle.house.specs.declared.House.{House}
 abbrev pub wholeFrames : ℕ → Bool
 wholeFrames words = eqb (words % 1024) 0 && between 1 (words / 1024) 1024
 
+-- in a memory of so many frames, none for a partition: outside it, or frame 0, which the house keeps
+abbrev pub frameBarred : ℕ → ℕ → Bool
+frameBarred size f = leb size f || eqb f 0
+
 unfoldable pub outsideLimits : House → Bool
 outsideLimits h =
     not (between 1 (h .count) 8)
     || any (λ i. not (between 1 (pagesOf h i) 256)) (h .count)
     || not (between 1 (h .q) 10000)
     || not (wholeFrames (h .words))
-    || any (λ i. any (λ k. leb (h .words / 1024) (getD (framesOf h i) k 0)) (pagesOf h i)) (h .count)
+    || any (λ i. any (λ k. frameBarred (h .words / 1024) (getD (framesOf h i) k 0)) (pagesOf h i)) (h .count)
 
 -- the k-th frame of partition i stands before it in its list, or in an earlier partition's
 abbrev pub stands : List ℕ → ℕ → ℕ → Bool

@@ -31,30 +31,34 @@ ones n = replicate n 1
 abbrev upTo : ℕ → List ℕ
 upTo n = listFrom (λ i. i) 0 n
 
+-- the frames 1, 2 and on, n of them: frame 0 is the house's
+abbrev firstFrames : ℕ → List ℕ
+firstFrames n = listFrom (λ i. i + 1) 0 n
+
 -- ---- houses to start from
 
--- the request's own: one partition of frame 0, turns of 2 steps
+-- the request's own: one partition of frame 1, turns of 2 steps
 unfoldable pub alone : House
-alone = bootedHouse (1 ∷ []) 2 (0 ∷ []) 1024
+alone = bootedHouse (1 ∷ []) 2 (1 ∷ []) 2048
 
 -- two partitions of one frame each, turns of 5 steps; and the same with nothing running
 unfoldable pub two : House
-two = bootedHouse (1 ∷ 1 ∷ []) 5 (0 ∷ 1 ∷ []) 2048
+two = bootedHouse (1 ∷ 1 ∷ []) 5 (1 ∷ 2 ∷ []) 3072
 
 unfoldable pub idle : House
 idle = stopped (stopped two 0) 1
 
 -- three partitions of one frame each, turns of 2 steps
 unfoldable pub three : House
-three = bootedHouse (1 ∷ 1 ∷ 1 ∷ []) 2 (0 ∷ 1 ∷ 2 ∷ []) 3072
+three = bootedHouse (1 ∷ 1 ∷ 1 ∷ []) 2 (1 ∷ 2 ∷ 3 ∷ []) 4096
 
--- partition 0 of frame 1 and partition 1 of frames 2 and 0, turns of 5 steps
+-- partition 0 of frame 2 and partition 1 of frames 3 and 1, turns of 5 steps
 unfoldable pub uneven : House
-uneven = bootedHouse (1 ∷ 2 ∷ []) 5 (1 ∷ 2 ∷ 0 ∷ []) 3072
+uneven = bootedHouse (1 ∷ 2 ∷ []) 5 (2 ∷ 3 ∷ 1 ∷ []) 4096
 
 -- seven partitions of one frame each, turns of 5 steps
 unfoldable pub seven : House
-seven = bootedHouse (ones 7) 5 (upTo 7) 7168
+seven = bootedHouse (ones 7) 5 (firstFrames 7) 8192
 
 -- a memory of n words, each of which tells its place
 abbrev word : ℕ → ℕ
@@ -88,8 +92,8 @@ abbrev part : ℕ → Processor → ℕ → ℕ → ℕ → Partition
 part pages p pto ptl counter =
     withCounter (withTable (withProcessor (freshOf pages) p) (record { pto = pto; ptl = ptl })) counter
 
--- Four partitions of two pages, turns of 9 steps, of which c is current with l left. Every place holds another number; partition 1 has the frames 1 and
--- 0, and no shadow entry is valid. What the examples do not reach of its lists is left out.
+-- Four partitions of two pages, turns of 9 steps, of which c is current with l left. Every place holds another number; partition 1 has the frames 2 and
+-- 1, and no shadow entry is valid. What the examples do not reach of its lists is left out.
 abbrev numbered : ℕ → Partition
 numbered i =
     part 2
@@ -113,7 +117,7 @@ alternate = true ∷ true ∷ false ∷ true ∷ replicate 4 false
 unfoldable pub busy : List Bool → ℕ → ℕ → House
 busy running c l =
     withQueues
-    (withGuests (turning (withSizes noHouse 4 9 2048 (set (set (listFrom (λ j. 10000 + j) 0 300) 256 1) 257 0)) running c l)
+    (withGuests (turning (withSizes noHouse 4 9 3072 (set (set (listFrom (λ j. 10000 + j) 0 300) 256 2) 257 1)) running c l)
     (guests (listFrom numbered 0 8) (set (listFrom (λ j. 1000 + j) 0 128) 32 0) (listFrom (λ j. 0x8000 + j) 0 800)))
     (queues (listFrom (λ j. 40000 + j) 0 64) (listFrom (λ j. 4 + j) 0 8))
 
@@ -170,13 +174,13 @@ sameWorld w h m = sameHouse (w .house) h && same (w .memory) m
 
 -- so many steps of the words 0x20010005 and 0xAC010008
 unfoldable pub ran : ℕ → World
-ran n = hostSteps n (world alone (0x20010005 ∷ 0xAC010008 ∷ zeros 1022))
+ran n = hostSteps n (world alone (zeros 1024 ++ (0x20010005 ∷ 0xAC010008 ∷ zeros 1022)))
 
 -- One step of the word w at DPC 8, PC 12, with SR, MODE and the first registers, by partition 0 of `two`. Its page is its table too, and entry 0 leads to it.
 unfoldable pub once : ℕ → ℕ → List ℕ → ℕ → World
 once sr mode r w =
     hostStep
-    (world (withRegisters (withPart two 0 (part 1 (at 8 12 sr mode 1) 0 1 0)) (r ++ zeros (256 - length r))) (0x00000800 ∷ 0 ∷ w ∷ zeros 2045))
+    (world (withRegisters (withPart two 0 (part 1 (at 8 12 sr mode 1) 0 1 0)) (r ++ zeros (256 - length r))) (zeros 1024 ++ (0x00000800 ∷ 0 ∷ w ∷ zeros 2045)))
 
 abbrev system : List ℕ → ℕ → World
 system r w = once 0 0 r w
@@ -184,14 +188,14 @@ system r w = once 0 0 r w
 abbrev user : List ℕ → ℕ → World
 user r w = once 0 1 r w
 
--- One step of the word w at address 0, by a user with so many of the frames 2, 0, 3 and 1. Its table is its page 1, with 257 entries: 0 leads to page
+-- One step of the word w at address 0, by a user with so many of the frames 3, 1, 4 and 2. Its table is its page 1, with 257 entries: 0 leads to page
 -- 0, px is the entry e. Register 1 is 9, register 2 is 4,096·px, and page 3 begins with 77.
 unfoldable pub mapped : ℕ → ℕ → ℕ → ℕ → World
 mapped pages px e w =
-    let h = bootedHouse (pages ∷ []) 2 (take pages (2 ∷ 0 ∷ 3 ∷ 1 ∷ [])) 4096 in
+    let h = bootedHouse (pages ∷ []) 2 (take pages (3 ∷ 1 ∷ 4 ∷ 2 ∷ [])) 5120 in
     hostStep
     (world (withRegisters (withPart h 0 (part pages (at 0 4 0 1 1) 1 257 0)) (0 ∷ 9 ∷ 4096 * px ∷ zeros 253))
-    (set (set (set (set (zeros 4096) 0 0x00000800) px e) 1024 77) 2048 w))
+    (set (set (set (set (zeros 5120) 1024 0x00000800) (1024 + px) e) 2048 77) 3072 w))
 
 -- of register 1 at the address in register 2
 abbrev lw : ℕ
@@ -232,13 +236,13 @@ papers =
     ∷ eqb (compositionOf 0x00003800 4 0) 3
     ∷ eqb (compositionOf 0x00003800 4 1) 3
     ∷ eqb (register (mapped 4 1 0x00003800 lw) 1) 77
-    ∷ eqb (getD (mapped 4 1 0x00003800 sw .memory) 1024 0) 9
+    ∷ eqb (getD (mapped 4 1 0x00003800 sw .memory) 2048 0) 9
     -- 0x00003C00: load works, store faults
     ∷ eqb (compositionOf 0x00003C00 4 0) 3
     ∷ eqb (compositionOf 0x00003C00 4 1) faultWord
     ∷ eqb (register (mapped 4 1 0x00003C00 lw) 1) 77
     ∷ interrupt (mapped 4 1 0x00003C00 sw) 16 0 4 0x1000
-    ∷ eqb (getD (mapped 4 1 0x00003C00 sw .memory) 1024 0) 77
+    ∷ eqb (getD (mapped 4 1 0x00003C00 sw .memory) 2048 0) 77
     -- 3 pages: both fault
     ∷ eqb (compositionOf 0x00003C00 3 0) faultWord
     ∷ eqb (compositionOf 0x00003C00 3 1) faultWord
@@ -251,9 +255,9 @@ papers =
 
 -- ---- boot
 
--- of one partition of frame 0, with turns of q steps and a memory of so many words
+-- of one partition of frame 1, with turns of q steps and a memory of so many words
 unfoldable pub plain : ℕ → ℕ → Verdict
-plain q words = bootVerdict (1 ∷ []) q (0 ∷ []) words
+plain q words = bootVerdict (1 ∷ []) q (1 ∷ []) words
 
 -- a refused boot returns the house of no partitions, every number in it 0, and the memory as it was
 unfoldable pub unbooted : Answered → ℕ → ℕ → List ℕ → Bool
@@ -263,82 +267,90 @@ unbooted a n d m =
 unfoldable pub boots : List Bool
 boots =
     -- [refusal 1] 8 partitions pass, 9 give 1, and so does none
-    answers (bootVerdict (ones 8) 1 (upTo 8) 8192) 0 0
-    ∷ answers (bootVerdict (ones 9) 1 (upTo 9) 9216) 1 0
+    answers (bootVerdict (ones 8) 1 (firstFrames 8) 9216) 0 0
+    ∷ answers (bootVerdict (ones 9) 1 (firstFrames 9) 10240) 1 0
     ∷ answers (bootVerdict [] 1 [] 1024) 1 0
     -- [refusal 2] 257 pages give 2, with the first such partition; so do 0 pages, and 1 page passes
-    ∷ answers (bootVerdict (1 ∷ 257 ∷ 0 ∷ []) 1 (upTo 258) 264192) 2 1
-    ∷ answers (bootVerdict (1 ∷ 1 ∷ 0 ∷ []) 1 (upTo 2) 2048) 2 2
-    ∷ answers (bootVerdict (0 ∷ 1 ∷ 0 ∷ []) 1 (upTo 1) 2048) 2 0
+    ∷ answers (bootVerdict (1 ∷ 257 ∷ 0 ∷ []) 1 (firstFrames 258) 265216) 2 1
+    ∷ answers (bootVerdict (1 ∷ 1 ∷ 0 ∷ []) 1 (firstFrames 2) 3072) 2 2
+    ∷ answers (bootVerdict (0 ∷ 1 ∷ 0 ∷ []) 1 (firstFrames 1) 2048) 2 0
     -- [refusal 3] turn length q 1..10,000
-    ∷ answers (plain 0 1024) 3 0
-    ∷ answers (plain 1 1024) 0 0
-    ∷ answers (plain 10000 1024) 0 0
-    ∷ answers (plain 10001 1024) 3 0
-    -- [refusal 4] 1..1,024 whole frames of 1,024 words
+    ∷ answers (plain 0 2048) 3 0
+    ∷ answers (plain 1 2048) 0 0
+    ∷ answers (plain 10000 2048) 0 0
+    ∷ answers (plain 10001 2048) 3 0
+    -- [refusal 4] 1..1,024 whole frames of 1,024 words: one frame is a memory, in which no partition fits
     ∷ answers (plain 1 0) 4 0
     ∷ answers (plain 1 1023) 4 0
+    ∷ answers (plain 1 1024) 6 0
     ∷ answers (plain 1 1025) 4 0
     ∷ answers (plain 1 1536) 4 0
     ∷ answers (plain 1 1048576) 0 0
     ∷ answers (plain 1 1048577) 4 0
     ∷ answers (plain 1 1049600) 4 0
     -- [refusal 5] the frame list's length is the sum of the page counts
-    ∷ answers (bootVerdict (2 ∷ 1 ∷ []) 1 (upTo 2) 4096) 5 0
-    ∷ answers (bootVerdict (2 ∷ 1 ∷ []) 1 (upTo 3) 4096) 0 0
-    ∷ answers (bootVerdict (2 ∷ 1 ∷ []) 1 (upTo 4) 4096) 5 0
+    ∷ answers (bootVerdict (2 ∷ 1 ∷ []) 1 (firstFrames 2) 5120) 5 0
+    ∷ answers (bootVerdict (2 ∷ 1 ∷ []) 1 (firstFrames 3) 5120) 0 0
+    ∷ answers (bootVerdict (2 ∷ 1 ∷ []) 1 (firstFrames 4) 5120) 5 0
     -- [refusal 6] a frame number not below the memory's frames: first such position
-    ∷ answers (bootVerdict (3 ∷ []) 1 (1 ∷ 0 ∷ 2 ∷ []) 3072) 0 0
+    ∷ answers (bootVerdict (3 ∷ []) 1 (2 ∷ 1 ∷ 3 ∷ []) 4096) 0 0
     ∷ answers (bootVerdict (3 ∷ []) 1 (1 ∷ 2 ∷ 7 ∷ []) 2048) 6 1
-    ∷ answers (bootVerdict (2 ∷ 1 ∷ []) 1 (1 ∷ 0 ∷ 3 ∷ []) 3072) 6 2
+    ∷ answers (bootVerdict (2 ∷ 1 ∷ []) 1 (2 ∷ 1 ∷ 4 ∷ []) 4096) 6 2
+    -- [refusal 16] a list names frame 0: first position that does, of either partition; in a memory of one frame too
+    ∷ answers (bootVerdict (4 ∷ []) 1 (2 ∷ 0 ∷ 1 ∷ 0 ∷ []) 3072) 16 1
+    ∷ answers (bootVerdict (1 ∷ 2 ∷ []) 1 (2 ∷ 1 ∷ 0 ∷ []) 3072) 16 2
+    ∷ answers (bootVerdict (1 ∷ []) 1 (0 ∷ []) 1024) 16 0
     -- [refusal 7] a frame stands twice: smallest position whose frame stood earlier
     ∷ answers (bootVerdict (4 ∷ []) 1 (3 ∷ 5 ∷ 5 ∷ 3 ∷ []) 6144) 7 2
     ∷ answers (bootVerdict (2 ∷ 2 ∷ []) 1 (3 ∷ 5 ∷ 4 ∷ 3 ∷ []) 6144) 7 3
-    -- [order: boot] 1 to 7, each before the next
+    -- [order: boot] 1 to 6, 16, 7, each before the next and over the whole list
     ∷ answers (bootVerdict (zeros 9) 1 [] 1024) 1 0
-    ∷ answers (bootVerdict (1 ∷ 0 ∷ []) 0 (0 ∷ []) 1024) 2 1
-    ∷ answers (plain 0 1025) 3 0
-    ∷ answers (bootVerdict (1 ∷ []) 1 [] 1025) 4 0
-    ∷ answers (bootVerdict (1 ∷ []) 1 (9 ∷ 9 ∷ []) 1024) 5 0
-    ∷ answers (bootVerdict (3 ∷ []) 1 (0 ∷ 0 ∷ 9 ∷ []) 2048) 6 2
+    ∷ answers (bootVerdict (1 ∷ 0 ∷ []) 0 (1 ∷ []) 2048) 2 1
+    ∷ answers (plain 0 2049) 3 0
+    ∷ answers (bootVerdict (1 ∷ []) 1 [] 2049) 4 0
+    ∷ answers (bootVerdict (1 ∷ []) 1 (9 ∷ 9 ∷ []) 2048) 5 0
+    ∷ answers (bootVerdict (3 ∷ []) 1 (1 ∷ 1 ∷ 9 ∷ []) 2048) 6 2
+    ∷ answers (bootVerdict (3 ∷ []) 1 (0 ∷ 1 ∷ 2 ∷ []) 2048) 6 2
+    ∷ answers (bootVerdict (4 ∷ []) 1 (1 ∷ 1 ∷ 0 ∷ 0 ∷ []) 2048) 16 2
     -- [refusal: a refused boot] what each leaves
-    ∷ unbooted (bootCall [] 1 [] (told 1024)) 1 0 (told 1024)
-    ∷ unbooted (bootCall (1 ∷ 0 ∷ []) 1 (0 ∷ []) (told 1024)) 2 1 (told 1024)
-    ∷ unbooted (bootCall (1 ∷ []) 0 (0 ∷ []) (told 1024)) 3 0 (told 1024)
-    ∷ unbooted (bootCall (1 ∷ []) 1 (0 ∷ []) (told 1023)) 4 0 (told 1023)
-    ∷ unbooted (bootCall (1 ∷ []) 1 [] (told 1024)) 5 0 (told 1024)
-    ∷ unbooted (bootCall (2 ∷ []) 1 (0 ∷ 1 ∷ []) (told 1024)) 6 1 (told 1024)
-    ∷ unbooted (bootCall (2 ∷ []) 1 (0 ∷ 0 ∷ []) (told 1024)) 7 1 (told 1024)
+    ∷ unbooted (bootCall [] 1 [] (told 2048)) 1 0 (told 2048)
+    ∷ unbooted (bootCall (1 ∷ 0 ∷ []) 1 (1 ∷ []) (told 2048)) 2 1 (told 2048)
+    ∷ unbooted (bootCall (1 ∷ []) 0 (1 ∷ []) (told 2048)) 3 0 (told 2048)
+    ∷ unbooted (bootCall (1 ∷ []) 1 (1 ∷ []) (told 2047)) 4 0 (told 2047)
+    ∷ unbooted (bootCall (1 ∷ []) 1 [] (told 2048)) 5 0 (told 2048)
+    ∷ unbooted (bootCall (2 ∷ []) 1 (1 ∷ 2 ∷ []) (told 2048)) 6 1 (told 2048)
+    ∷ unbooted (bootCall (2 ∷ []) 1 (1 ∷ 0 ∷ []) (told 2048)) 16 1 (told 2048)
+    ∷ unbooted (bootCall (2 ∷ []) 1 (1 ∷ 1 ∷ []) (told 2048)) 7 1 (told 2048)
     -- [turn: boot] all registers zero but PC = 4, all running, partition 0 current with q steps left, and unused places 0
-    ∷ (let a = bootCall (2 ∷ 1 ∷ 2 ∷ []) 7 (3 ∷ 1 ∷ 2 ∷ 4 ∷ 0 ∷ []) (told 5120) in
+    ∷ (let a = bootCall (2 ∷ 1 ∷ 2 ∷ []) 7 (4 ∷ 2 ∷ 3 ∷ 5 ∷ 1 ∷ []) (told 6144) in
     answers (a .verdict) 0 0
     && same (numbers (a .world .house))
-    (3 ∷ 7 ∷ 5120 ∷ 0 ∷ 7 ∷ 1 ∷ 1 ∷ 1 ∷ zeros 5
-    ++ (2 ∷ 0 ∷ 4 ∷ zeros 11 ++ (1 ∷ 0 ∷ 4 ∷ zeros 11 ++ (2 ∷ 0 ∷ 4 ∷ zeros 11 ++ (zeros 70 ++ (zeros 256 ++ (3 ∷ 1 ∷ zeros 254 ++ (2 ∷ zeros 255 ++ (4 ∷ 0 ∷ zeros 1534 ++ (zeros 2048 ++ zeros 264))))))))))
-    && same (a .world .memory) (told 5120))
+    (3 ∷ 7 ∷ 6144 ∷ 0 ∷ 7 ∷ 1 ∷ 1 ∷ 1 ∷ zeros 5
+    ++ (2 ∷ 0 ∷ 4 ∷ zeros 11 ++ (1 ∷ 0 ∷ 4 ∷ zeros 11 ++ (2 ∷ 0 ∷ 4 ∷ zeros 11 ++ (zeros 70 ++ (zeros 256 ++ (4 ∷ 2 ∷ zeros 254 ++ (3 ∷ zeros 255 ++ (5 ∷ 1 ∷ zeros 1534 ++ (zeros 2048 ++ zeros 264))))))))))
+    && same (a .world .memory) (told 6144))
     ∷ []
 
 -- [refusal 2] 256 pages pass
 unfoldable pub widest : List Bool
-widest = answers (bootVerdict (256 ∷ []) 1 (upTo 256) 262144) 0 0 ∷ []
+widest = answers (bootVerdict (256 ∷ []) 1 (firstFrames 256) 263168) 0 0 ∷ []
 
 -- ---- turns
 
 -- so many steps of `three`, or of it with another state; every word is 0, so every step is an interrupt
 unfoldable pub after : ℕ → House → House
-after n h = hostSteps n (world h (zeros 3072)) .house
+after n h = hostSteps n (world h (zeros 4096)) .house
 
 -- three partitions with turns of q steps, after a trap of the first
 unfoldable pub trapped : ℕ → House
-trapped q = hostStep (world (bootedHouse (ones 3) q (upTo 3) 3072) (0xF8000007 ∷ zeros 3071)) .house
+trapped q = hostStep (world (bootedHouse (ones 3) q (firstFrames 3) 4096) (zeros 1024 ++ (0xF8000007 ∷ zeros 3071))) .house
 
 -- six steps of `two`: five of partition 0, and one of partition 1, whose first word is 0x20010005
 unfoldable pub six : House
-six = hostSteps 6 (world two (zeros 1024 ++ (0x20010005 ∷ zeros 1023))) .house
+six = hostSteps 6 (world two (zeros 2048 ++ (0x20010005 ∷ zeros 1023))) .house
 
 -- one step more by a partition that has made n
 unfoldable pub counts : ℕ → ℕ
-counts n = counter (hostStep (world (withPart alone 0 (part 1 (at 0 4 0 0 0) 0 0 n)) (zeros 1024)) .house) 0
+counts n = counter (hostStep (world (withPart alone 0 (part 1 (at 0 4 0 0 0) 0 0 n)) (zeros 2048)) .house) 0
 
 -- One step by partition 1 of `busy`, with l steps left: at DPC 8 and PC 12 in a mode, of the word w. Its entries 0 and 1 lead to its page 0, and to page 1
 -- protected.
@@ -347,7 +359,7 @@ own dpc pc mode emode =
     record { dpc = dpc; pc = pc; sr = 64; esr = 91; eca = 92; epc = 96; edpc = 100; edata = 95; mode = mode; emode = emode }
 
 abbrev lent : ℕ → List ℕ
-lent w = set (set (set (told 2048) 1024 0x00000800) 1025 0x00001C00) 1026 w
+lent w = set (set (set (told 3072) 2048 0x00000800) 2049 0x00001C00) 2050 w
 
 unfoldable pub stepping : ℕ → ℕ → ℕ → World
 stepping l mode w = hostStep (world (withPart (busy alternate 1 l) 1 (part 2 (own 8 12 mode 1) 0 2 500)) (lent w))
@@ -378,25 +390,25 @@ turns =
     ∷ eqb (counts (2 ^ 64 - 1)) 0
     -- [turn: one step] changes nothing of another partition's
     ∷ same (numbers six)
-    (2 ∷ 5 ∷ 2048 ∷ 1 ∷ 4 ∷ 1 ∷ 1 ∷ zeros 6
-    ++ (1 ∷ 0 ∷ 4 ∷ 0 ∷ 0 ∷ 2 ∷ 4 ∷ 0 ∷ zeros 5 ++ (5 ∷ 1 ∷ 4 ∷ 8 ∷ zeros 10 ++ (1 ∷ zeros 84 ++ (zeros 33 ++ (5 ∷ zeros 222 ++ (zeros 256 ++ (1 ∷ zeros 4103))))))))
-    -- in a full house: 0xAC4116B2 stores 1033 at 0x1ABC of partition 1, so in frame 0
+    (2 ∷ 5 ∷ 3072 ∷ 1 ∷ 4 ∷ 1 ∷ 1 ∷ zeros 6
+    ++ (1 ∷ 0 ∷ 4 ∷ 0 ∷ 0 ∷ 2 ∷ 4 ∷ 0 ∷ zeros 5 ++ (5 ∷ 1 ∷ 4 ∷ 8 ∷ zeros 10 ++ (1 ∷ zeros 84 ++ (zeros 33 ++ (5 ∷ zeros 222 ++ (1 ∷ zeros 255 ++ (2 ∷ zeros 4103))))))))
+    -- in a full house: 0xAC4116B2 stores 1033 at 0x1ABC of partition 1, so in frame 1
     ∷ comes (stepping 5 0 0xAC4116B2) 1 4 (own 12 16 0 1) (busy alternate 1 0 .regs) (busy alternate 1 0 .shadows)
-    (set (lent 0xAC4116B2) 687 1033)
+    (set (lent 0xAC4116B2) 1711 1033)
     -- [turn: 0 left] 0x8C4516B2 loads it in user mode at the last step: registers and shadow go to the partition that made it
-    ∷ comes (stepping 1 1 0x8C4516B2) 3 9 (own 12 16 1 1) (set (busy alternate 1 0 .regs) 37 (word 687))
-    (set (set (busy alternate 1 0 .shadows) 256 0x00001800) 257 0x00000C00) (lent 0x8C4516B2)
+    ∷ comes (stepping 1 1 0x8C4516B2) 3 9 (own 12 16 1 1) (set (busy alternate 1 0 .regs) 37 (word 1711))
+    (set (set (busy alternate 1 0 .shadows) 256 0x00002800) 257 0x00001C00) (lent 0x8C4516B2)
     -- [turn: trap in system mode] passes, once also where it is the last step, and to itself if alone
     ∷ current (trapped 2) 1 2
     ∷ current (trapped 1) 1 1
-    ∷ current (hostStep (world alone (0xF8000007 ∷ zeros 1023)) .house) 0 2
+    ∷ current (hostStep (world alone (zeros 1024 ++ (0xF8000007 ∷ zeros 1023))) .house) 0 2
     ∷ comes (stepping 5 0 0xF8000007) 3 9
     (record { dpc = 0; pc = 4; sr = 0; esr = 64; eca = 32; epc = 16; edpc = 12; edata = 7; mode = 0; emode = 0 }) (busy alternate 1 0 .regs)
     (busy alternate 1 0 .shadows) (lent 0xF8000007)
     -- [turn: trap in user mode] and any other interrupt: the turn goes on
     ∷ comes (stepping 5 1 0xF8000007) 1 4
     (record { dpc = 0; pc = 4; sr = 0; esr = 64; eca = 32; epc = 16; edpc = 12; edata = 7; mode = 0; emode = 1 }) (busy alternate 1 0 .regs)
-    (set (busy alternate 1 0 .shadows) 256 0x00001800) (lent 0xF8000007)
+    (set (busy alternate 1 0 .shadows) 256 0x00002800) (lent 0xF8000007)
     ∷ comes (stepping 5 0 0) 1 4
     (record { dpc = 0; pc = 4; sr = 0; esr = 64; eca = 2; epc = 12; edpc = 8; edata = 95; mode = 0; emode = 0 }) (busy alternate 1 0 .regs)
     (busy alternate 1 0 .shadows) (lent 0)
@@ -427,8 +439,8 @@ turns =
     ∷ sameHouse (stopped (busy alternate 1 5) 2) (busy alternate 1 5)
     ∷ sameHouse (stopped idle 0) idle
     -- [empty: one shadow] one partition's whole shadow, and no other's
-    ∷ sameHouse (emptiedHouse (withShadows three (set (set (set (set (zeros 2048) 255 0x800) 256 0x1800) 511 0x1C00) 512 0x2800)) 1)
-    (withShadows three (set (set (zeros 2048) 255 0x800) 512 0x2800))
+    ∷ sameHouse (emptiedHouse (withShadows three (set (set (set (set (zeros 2048) 255 0x1800) 256 0x2800) 511 0x2C00) 512 0x3800)) 1)
+    (withShadows three (set (set (zeros 2048) 255 0x1800) 512 0x3800))
     ∷ sameHouse (emptiedHouse (busy alternate 1 5) 2)
     (withShadows (busy alternate 1 5) (take 512 (busy alternate 1 0 .shadows) ++ (zeros 256 ++ drop 768 (busy alternate 1 0 .shadows))))
     ∷ []
@@ -436,24 +448,24 @@ turns =
 -- ---- the calls
 
 abbrev ofTwo : World
-ofTwo = world two (zeros 2048)
+ofTwo = world two (zeros 3072)
 
 abbrev ofIdle : World
-ofIdle = world idle (zeros 2048)
+ofIdle = world idle (zeros 3072)
 
 -- memories that are not the one at boot
 abbrev short : World
-short = world two (zeros 2047)
+short = world two (zeros 3071)
 
 abbrev long : World
-long = world two (told 3072)
+long = world two (told 4096)
 
 -- the house of no partitions, with such a memory; and a full house with a wrong q
 abbrev nowhere : World
 nowhere = world noHouse (0 ∷ 0 ∷ 0 ∷ [])
 
 unfoldable pub missized : House
-missized = withSizes (busy alternate 1 5) 4 10001 2048 (busy alternate 1 5 .frames)
+missized = withSizes (busy alternate 1 5) 4 10001 3072 (busy alternate 1 5 .frames)
 
 abbrev broken : World
 broken = world missized (7 ∷ 8 ∷ 9 ∷ [])
@@ -468,7 +480,7 @@ does a h m = answers (a .verdict) 0 0 && sameWorld (a .world) h m
 
 -- of partition i of `uneven`
 unfoldable pub reading : ℕ → ℕ → ℕ → List ℕ → Read
-reading i a count out = readCall (world uneven (told 3072)) i a count out
+reading i a count out = readCall (world uneven (told 4096)) i a count out
 
 unfoldable pub gives : Read → ℕ → ℕ → List ℕ → Bool
 gives r n d out = answers (r .verdict) n d && same (r .output) out
@@ -527,14 +539,14 @@ calls =
     -- [refusal 13]
     ∷ gives (reading 1 0 3 (5 ∷ 6 ∷ [])) 13 0 (5 ∷ 6 ∷ [])
     -- [read-out: words read] the first count words of the output only, page by page
-    ∷ gives (reading 1 0 3 (5 ∷ 6 ∷ 7 ∷ [])) 0 3 (word 2048 ∷ word 2049 ∷ word 2050 ∷ [])
-    ∷ gives (reading 1 4 2 (5 ∷ 6 ∷ 7 ∷ 8 ∷ [])) 0 2 (word 2049 ∷ word 2050 ∷ 7 ∷ 8 ∷ [])
-    ∷ gives (reading 1 4092 2 (5 ∷ 6 ∷ 7 ∷ [])) 0 2 (word 3071 ∷ word 0 ∷ 7 ∷ [])
-    ∷ gives (reading 0 4092 1 (5 ∷ 6 ∷ [])) 0 1 (word 2047 ∷ 6 ∷ [])
+    ∷ gives (reading 1 0 3 (5 ∷ 6 ∷ 7 ∷ [])) 0 3 (word 3072 ∷ word 3073 ∷ word 3074 ∷ [])
+    ∷ gives (reading 1 4 2 (5 ∷ 6 ∷ 7 ∷ 8 ∷ [])) 0 2 (word 3073 ∷ word 3074 ∷ 7 ∷ 8 ∷ [])
+    ∷ gives (reading 1 4092 2 (5 ∷ 6 ∷ 7 ∷ [])) 0 2 (word 4095 ∷ word 1024 ∷ 7 ∷ [])
+    ∷ gives (reading 0 4092 1 (5 ∷ 6 ∷ [])) 0 1 (word 3071 ∷ 6 ∷ [])
     ∷ sameHouse (reading 1 4 2 (5 ∷ 6 ∷ []) .house) uneven
     ∷ sameHouse (readCall broken 1 0 1 [] .house) (broken .house)
     -- [refusal 12] address not a multiple of 4, or address + 4 × count above 4,096 × the page count; count 0 is allowed
-    ∷ gives (reading 1 8188 1 (5 ∷ [])) 0 1 (word 1023 ∷ [])
+    ∷ gives (reading 1 8188 1 (5 ∷ [])) 0 1 (word 2047 ∷ [])
     ∷ gives (reading 1 8188 2 (5 ∷ 6 ∷ [])) 12 0 (5 ∷ 6 ∷ [])
     ∷ gives (reading 1 8192 0 (5 ∷ [])) 0 0 (5 ∷ [])
     ∷ gives (reading 1 8192 1 (5 ∷ [])) 12 0 (5 ∷ [])
@@ -562,44 +574,48 @@ withEntry j e = withShadows two (set (zeros 2048) j e)
 unfoldable pub beyond : List House
 beyond =
     -- [damage: count]
-    withSizes two 0 5 2048 (two .frames)
-    ∷ withSizes two 9 5 2048 (two .frames)
-    ∷ withSizes (houseAt two 0 5 (replicate 9 (freshOf 1)) (two .regs) (two .shadows)) 9 5 2048 (two .frames)
+    withSizes two 0 5 3072 (two .frames)
+    ∷ withSizes two 9 5 3072 (two .frames)
+    ∷ withSizes (houseAt two 0 5 (replicate 9 (freshOf 1)) (two .regs) (two .shadows)) 9 5 3072 (two .frames)
     -- [damage: pages]
     ∷ withPart two 0 (freshOf 0)
     ∷ withPart two 1 (freshOf 0)
     ∷ withPart two 1 (freshOf 257)
     -- [damage: q]
-    ∷ withSizes idle 2 0 2048 (idle .frames)
-    ∷ withSizes two 2 10001 2048 (two .frames)
+    ∷ withSizes idle 2 0 3072 (idle .frames)
+    ∷ withSizes two 2 10001 3072 (two .frames)
     -- [damage: words]
     ∷ withSizes two 2 5 0 (two .frames)
-    ∷ withSizes two 2 5 2049 (two .frames)
+    ∷ withSizes two 2 5 3073 (two .frames)
     ∷ withSizes two 2 5 1049600 (two .frames)
     -- [damage: frame outside] of either partition, and of a later page
-    ∷ withFrame two 0 2
-    ∷ withFrame two 256 2
-    ∷ withFrame uneven 257 3
+    ∷ withFrame two 0 3
+    ∷ withFrame two 256 3
+    ∷ withFrame uneven 257 4
+    -- [damage: frame 0] in either partition's list, and at a later page
+    ∷ withFrame two 0 0
+    ∷ withFrame two 256 0
+    ∷ withFrame uneven 257 0
     ∷ []
 
 unfoldable pub within : List House
 within =
-    bootedHouse (ones 8) 10000 (upTo 8) 1048576
-    ∷ bootedHouse (1 ∷ []) 1 (0 ∷ []) 1024
-    ∷ withSizes (withPart alone 0 (freshOf 256)) 1 5 262144 (upTo 256 ++ zeros 1792)
-    ∷ withFrame uneven 257 2
+    bootedHouse (ones 8) 10000 (firstFrames 8) 1048576
+    ∷ bootedHouse (1 ∷ []) 1 (1 ∷ []) 2048
+    ∷ withSizes (withPart alone 0 (freshOf 256)) 1 5 263168 (firstFrames 256 ++ zeros 1792)
+    ∷ withFrame uneven 257 3
     ∷ []
 
 -- a frame twice; and none twice, though unused places are alike
 unfoldable pub twice : List House
 twice =
     -- [damage: frame twice across partitions] neighbours, and not
-    withFrame two 256 0
-    ∷ withFrame uneven 257 1
-    ∷ withFrame three 512 0
+    withFrame two 256 1
+    ∷ withFrame uneven 257 2
+    ∷ withFrame three 512 1
     -- [damage: frame twice within one]
     ∷ bootedHouse (2 ∷ []) 5 (1 ∷ 1 ∷ []) 2048
-    ∷ bootedHouse (1 ∷ 3 ∷ []) 5 (3 ∷ 1 ∷ 0 ∷ 1 ∷ []) 4096
+    ∷ bootedHouse (1 ∷ 3 ∷ []) 5 (3 ∷ 1 ∷ 2 ∷ 1 ∷ []) 4096
     ∷ []
 
 unfoldable pub once-each : List House
@@ -658,11 +674,12 @@ set-right =
 unfoldable pub astray : List House
 astray =
     -- [damage: shadow entry's frame] of another partition, of none, and what stands in an unused place
-    withEntry 511 (entryOf 0 0)
-    ∷ withEntry 511 (entryOf 2 1)
+    withEntry 511 (entryOf 1 0)
+    ∷ withEntry 511 (entryOf 3 1)
+    ∷ withEntry 511 (entryOf 0 0)
     -- [damage: stray bits 9..0]
-    ∷ withEntry 511 (entryOf 1 0 + 1)
-    ∷ withEntry 511 (entryOf 1 1 + 512)
+    ∷ withEntry 511 (entryOf 2 0 + 1)
+    ∷ withEntry 511 (entryOf 2 1 + 512)
     -- [damage: entry not empty and not valid]
     ∷ withEntry 511 1
     ∷ withEntry 511 1024
@@ -723,12 +740,12 @@ places =
     ∷ unusedWrong (withFrame seven 1792 1)
     ∷ unusedWrong (withFrame two 2047 1)
     -- [damage: unused shadow place]
-    ∷ damaged (withEntry 767 (entryOf 0 0))
+    ∷ damaged (withEntry 767 (entryOf 1 0))
     ∷ unusedWrong (withShadows seven (set (zeros 2048) 1792 1))
     -- [damage: queue count], beside all that is right
     ∷ damaged (withQueues two (queues (zeros 256) (set (zeros 8) 7 1)))
     -- [damage: shadow entry's frame] an own frame, protected or not, is right
-    ∷ not (damaged (withEntry 263 (entryOf 1 1)))
+    ∷ not (damaged (withEntry 263 (entryOf 2 1)))
     ∷ []
 
 -- ---- tickets
@@ -743,7 +760,7 @@ atDesk h n r1 r2 r3 t =
 unfoldable pub leaves : House → List ℕ → ℕ → Queues → ℕ → ℕ → Queues → Bool
 leaves h ws to t r1 r3 t′ =
     let n = length ws in
-    let m = ws ++ zeros (2048 - n) in
+    let m = zeros 1024 ++ (ws ++ zeros (2048 - n)) in
     let w = hostSteps n (world (atDesk h 0 7 to 55 t) m) in
     sameHouse (w .house) (atDesk h n r1 to r3 t′) && same (w .memory) m
 
@@ -764,7 +781,7 @@ receive = 0xF8000101
 unfoldable pub across : ℕ → House
 across n =
     hostSteps n
-    (world (withRegisters (bootedHouse (1 ∷ 1 ∷ []) 1 (0 ∷ 1 ∷ []) 2048) (0 ∷ 7 ∷ 1 ∷ zeros 253)) (send ∷ zeros 1023 ++ (receive ∷ zeros 1023))) .house
+    (world (withRegisters (bootedHouse (1 ∷ 1 ∷ []) 1 (1 ∷ 2 ∷ []) 3072) (0 ∷ 7 ∷ 1 ∷ zeros 253)) (zeros 1024 ++ (send ∷ zeros 1023 ++ (receive ∷ zeros 1023)))) .house
 
 unfoldable pub exchanges : List Bool
 exchanges =

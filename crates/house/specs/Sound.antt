@@ -64,6 +64,7 @@ pub record Undamaged (h : House) : Type 0 where
   pub whole : h .words % 1024 ≡ 0
   pub size : (1 ≤ h .words / 1024) × (h .words / 1024 ≤ 1024)
   pub inside : (i k : ℕ) → i < h .count → k < pagesOf h i → getD (framesOf h i) k 0 < h .words / 1024
+  pub kept : (i k : ℕ) → i < h .count → k < pagesOf h i → getD (framesOf h i) k 0 ≡ 0 → ⊥
   -- no frame stands twice
   pub once : (i j k l : ℕ) → i < h .count → j < h .count → k < pagesOf h i → l < pagesOf h j
       → getD (framesOf h i) k 0 ≡ getD (framesOf h j) l 0 → (i ≡ j) × (k ≡ l)

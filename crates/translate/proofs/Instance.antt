@@ -1,4 +1,4 @@
--- Every premise holds somewhere: a guest of two pages, in frames 2 and 0 of a memory of four.
+-- Every premise holds somewhere: a guest of two pages, in frames 2 and 3 of a memory of four.
 use mathlib.Core.Path.{_≡_, refl, sym, ap, _∙_}
 use mathlib.Core.Bool.{true}
 use mathlib.Core.List.{List, _∷_}
@@ -25,7 +25,7 @@ two P a b (suc zero) h = b
 two P a b (suc (suc k)) h = absurd (omega arith)
 
 abbrev pub frames : List ℕ
-frames = 2 ∷ 0 ∷ replicate 254 0
+frames = 2 ∷ 3 ∷ replicate 254 0
 
 abbrev pub memory : List ℕ
 memory = replicate 4096 0
@@ -44,7 +44,7 @@ placed = record {
   inside = λ k h. rw memory-length (two (λ k. getD frames k 0 * 1024 + 1024 ≤ 4096) (omega arith) (omega arith) k h);
   distinct = λ j k hj hk. two (λ j. getD frames j 0 ≡ getD frames k 0 → j ≡ k)
       (two (λ k. 2 ≡ getD frames k 0 → 0 ≡ k) (λ _. refl) (λ e. absurd (omega arith)) k hk)
-      (two (λ k. 0 ≡ getD frames k 0 → 1 ≡ k) (λ e. absurd (omega arith)) (λ _. refl) k hk)
+      (two (λ k. 3 ≡ getD frames k 0 → 1 ≡ k) (λ e. absurd (omega arith)) (λ _. refl) k hk)
       j hj;
 }
 
@@ -94,7 +94,7 @@ alike = record {
   size′ = refl;
   own = λ k j hk hj. two (λ k. getD memory (getD frames k 0 * 1024 + j) 0 ≡ getD (set memory 1024 7) (getD frames k 0 * 1024 + j) 0)
       (sym (getD-set-other memory 1024 (2 * 1024 + j) 7 0 (omega arith)))
-      (sym (getD-set-other memory 1024 (0 * 1024 + j) 7 0 (omega arith)))
+      (sym (getD-set-other memory 1024 (3 * 1024 + j) 7 0 (omega arith)))
       k hk;
   others = λ _ _. refl;
   others′ = λ _ _. refl;

@@ -41,10 +41,10 @@ compositions =
     ∷ eqb (compositionOf 0x00003000 4 1) 4294967295
     ∷ []
 
--- ---- a guest of three pages, in frames 2, 0 and 1 of a memory of three frames; its table is its page 1, so host words 0 and on
+-- ---- a guest of three pages, in frames 2, 3 and 1 of a memory of four frames; its table is its page 1, so host words 3,072 and on
 
 abbrev frames : List ℕ
-frames = 2 ∷ 0 ∷ 1 ∷ replicate 253 0
+frames = 2 ∷ 3 ∷ 1 ∷ replicate 253 0
 
 -- a word that tells its place, and n of them from place i on
 abbrev word : ℕ → ℕ
@@ -58,8 +58,9 @@ wordsFrom i (suc n) = word i ∷ wordsFrom (suc i) n
 -- bits 9..0 all 1, and 6, 255 and 256 page 2. Word 6 of page 2 is an entry of page 0, and the first of page 0 one of page 2.
 abbrev memory : List ℕ
 memory =
-    0x00000800 ∷ 0x00001800 ∷ 0x00002C00 ∷ 0x00003BFF ∷ 0x000027FF ∷ 0x00002BFF ∷ 0x00002800
-    ∷ set (set (set (set (wordsFrom 7 3065) 248 0x00002800) 249 0x00002800) 1023 0x00000800) 2041 0x00002814
+    set (set (wordsFrom 0 3072) 1030 0x00000800) 2048 0x00002814
+    ++ (0x00000800 ∷ 0x00001800 ∷ 0x00002C00 ∷ 0x00003BFF ∷ 0x000027FF ∷ 0x00002BFF ∷ 0x00002800
+    ∷ set (set (wordsFrom 3079 1017) 248 0x00002800) 249 0x00002800)
 
 abbrev table : ℕ → ℕ → Table
 table pto ptl = record { pto = pto; ptl = ptl }
@@ -142,17 +143,17 @@ walks =
     ∷ gives (guest 0 1) true 0x0ABC (word 1711) (only 0 0x00001800)
     ∷ faults (guest 1 6) true 0x3ABC freshShadow
     ∷ refuses (guest 1 6) true 0x3ABC freshShadow
-    ∷ faults (host (table 1 6) (set memory 0 0x80000800) freshShadow) true 0x0ABC freshShadow
+    ∷ faults (host (table 1 6) (set memory 3072 0x80000800) freshShadow) true 0x0ABC freshShadow
     -- [walk: protected store] bit 10 alone forbids a store; a load goes through
     ∷ gives (guest 1 6) true 0x2ABC (word 1711) (only 2 0x00001C00)
     ∷ refuses (guest 1 6) true 0x2ABC (only 2 0x00001C00)
     ∷ writes (guest 1 6) true 0x5ABC 77 1711 (only 5 0x00001800)
     -- [walk: guest page k is the k-th frame of its list]
     ∷ gives (guest 1 6) true 0x0FFC (word 3071) (only 0 0x00002800)
-    ∷ gives (guest 1 6) true 0x1ABC (word 687) (only 1 0x00000800)
+    ∷ gives (guest 1 6) true 0x1ABC (word 3759) (only 1 0x00003800)
     ∷ writes (guest 1 6) true 0x0FFC 77 3071 (only 0 0x00002800)
     ∷ eqb (hostWord frames memory 1023) (word 3071)
-    ∷ eqb (hostWord frames memory 2047) (word 1023)
+    ∷ eqb (hostWord frames memory 2047) (word 4095)
     ∷ eqb (hostWord frames memory 2048) (word 1024)
     -- [system: below 4,096 times the page count] both sides of the limit; neither table nor shadow counts, and nothing is filled
     ∷ gives (guest 1 6) false 0x2FFC (word 2047) freshShadow
@@ -201,7 +202,7 @@ hits =
     ∷ gives (shadowed (only 1 0x00001800)) true 0x0ABC (word 2735) (set (only 1 0x00001800) 0 0x00002800)
     ∷ gives (shadowed (set full 1 0x00002800)) true 0x1ABC (word 2735) (set full 1 0x00002800)
     -- [hit: the page written is the frame's place in the list] px 0 leads to the table's frame
-    ∷ writes (shadowed (set full 0 0x00000800)) true 0x000C 77 3 (set (set full 0 0x00000800) 3 0)
+    ∷ writes (shadowed (set full 0 0x00003800)) true 0x000C 77 3075 (set (set full 0 0x00003800) 3 0)
     ∷ writes (shadowed (set full 1 0x00002800)) true 0x100C 77 2051 (set full 1 0x00002800)
     ∷ []
 
@@ -209,37 +210,37 @@ hits =
 
 -- the table's page mapped
 abbrev mapped : List ℕ
-mapped = set full 1 0x00000800
+mapped = set full 1 0x00003800
 
 unfoldable pub emptyings : List Bool
 emptyings =
     -- [emptying: store in system mode] into entry 2 of the table: shadow 2 and no other
-    writes (shadowed full) false 0x1008 77 2 (set full 2 0)
+    writes (shadowed full) false 0x1008 77 3074 (set full 2 0)
     -- [emptying: store in user mode] through the mapped page 1, by a hit and by a fill
-    ∷ writes (shadowed mapped) true 0x1008 77 2 (set mapped 2 0)
-    ∷ writes (shadowed (set full 1 0)) true 0x1008 77 2 (set mapped 2 0)
+    ∷ writes (shadowed mapped) true 0x1008 77 3074 (set mapped 2 0)
+    ∷ writes (shadowed (set full 1 0)) true 0x1008 77 3074 (set mapped 2 0)
     -- [emptying: equal value]
-    ∷ writes (shadowed full) false 0x1008 0x00002C00 2 (set full 2 0)
-    ∷ writes (shadowed mapped) true 0x1008 0x00002C00 2 (set mapped 2 0)
+    ∷ writes (shadowed full) false 0x1008 0x00002C00 3074 (set full 2 0)
+    ∷ writes (shadowed mapped) true 0x1008 0x00002C00 3074 (set mapped 2 0)
     -- [emptying: px below PTL] 5 is, 6 isn't
-    ∷ writes (shadowed full) false 0x1014 77 5 (set full 5 0)
-    ∷ writes (shadowed full) false 0x1018 77 6 full
-    ∷ writes (shadowed mapped) true 0x1018 77 6 mapped
+    ∷ writes (shadowed full) false 0x1014 77 3077 (set full 5 0)
+    ∷ writes (shadowed full) false 0x1018 77 3078 full
+    ∷ writes (shadowed mapped) true 0x1018 77 3078 mapped
     -- [emptying: px below 256] 255 is; 256 isn't, in a shadow made one too long
-    ∷ writes (host (table 1 4294967295) memory full) false 0x13FC 77 255 (set full 255 0)
-    ∷ writes (host (table 1 4294967295) memory (replicate 257 0x00001800)) false 0x1400 77 256 (replicate 257 0x00001800)
+    ∷ writes (host (table 1 4294967295) memory full) false 0x13FC 77 3327 (set full 255 0)
+    ∷ writes (host (table 1 4294967295) memory (replicate 257 0x00001800)) false 0x1400 77 3328 (replicate 257 0x00001800)
     -- [emptying: the table's page] no other page, whatever PTO; none where PTO is outside
     ∷ writes (shadowed full) false 0x0008 77 2050 full
     ∷ writes (shadowed full) false 0x2008 77 1026 full
     ∷ writes (host (table 0 6) memory full) false 0x0008 77 2050 (set full 2 0)
     ∷ writes (host (table 2 6) memory full) true 0x0008 77 1026 (set full 2 0)
-    ∷ writes (host (table 3 6) memory full) false 0x1008 77 2 full
+    ∷ writes (host (table 3 6) memory full) false 0x1008 77 3074 full
     -- [emptying: none by a faulted store]
-    ∷ refuses (shadowed (set full 1 0x00000C00)) true 0x1008 (set full 1 0x00000C00)
+    ∷ refuses (shadowed (set full 1 0x00003C00)) true 0x1008 (set full 1 0x00003C00)
     ∷ refuses (shadowed (set full 3 0)) true 0x3008 (set full 3 0)
     -- [emptying: after the access] a store fills the entry that it overwrites, and leaves it empty
-    ∷ writes (guest 1 6) true 0x1004 77 1 freshShadow
-    ∷ writes (shadowed mapped) true 0x1004 77 1 (set full 1 0)
+    ∷ writes (guest 1 6) true 0x1004 77 3073 freshShadow
+    ∷ writes (shadowed mapped) true 0x1004 77 3073 (set full 1 0)
     -- [emptying: none by a load]
     ∷ gives (shadowed full) false 0x1008 0x00002C00 full
     ∷ gives (shadowed mapped) true 0x1008 0x00002C00 mapped
@@ -254,7 +255,7 @@ emptyings =
 -- ---- the same guest as a lone machine: its pages in order, and no shadow
 
 abbrev own : List ℕ
-own = drop 2048 memory ++ take 2048 memory
+own = drop 2048 memory ++ take 1024 (drop 1024 memory)
 
 abbrev lonely : ℕ → ℕ → Lone
 lonely pto ptl = lone (table pto ptl) own
@@ -287,7 +288,7 @@ alone =
     ∷ loneStores 1 6 true 0x2ABC false own
     ∷ loneStores 1 6 true 0x4ABC false own
     ∷ loneStores 1 6 true 0x5ABC true (set own 2735 (word 1718))
-    ∷ loneStores 1 6 true 0x1ABC true (set own 1711 (word 694))
+    ∷ loneStores 1 6 true 0x1ABC true (set own 1711 (word 3766))
     -- [system: a lone machine]
     ∷ loneLoads 9 0 false 0x2FFC (word 2047 ∷ [])
     ∷ loneLoads 1 6 false 0x3000 []
@@ -297,14 +298,14 @@ alone =
     ∷ sameLone (loneMemory 3 .retable (lonely 1 6) (table 8 9)) 8 9 own
     ∷ []
 
--- ---- steps of one partition: frame 0 of a memory of one frame
+-- ---- steps of one partition: frame 1 of a memory of two frames
 
 abbrev zeros : List ℕ
 zeros = replicate 32 0
 
 unfoldable pub booted : ℕ → List ℕ → Core × Host
 booted n ws =
-    steps (hostMemory (0 ∷ replicate 255 0) 1) (λ _. reply 0 0) n (core freshProcessor zeros, host (table 0 0) (ws ++ replicate 1020 0) freshShadow)
+    steps (hostMemory (1 ∷ replicate 255 0) 1) (λ _. reply 0 0) n (core freshProcessor zeros, host (table 0 0) (replicate 1024 0 ++ (ws ++ replicate 1020 0)) freshShadow)
 
 abbrev program : List ℕ
 program = 0x20010005 ∷ 0xAC010008 ∷ 0 ∷ 0 ∷ []
@@ -313,7 +314,7 @@ unfoldable pub stepped : List Bool
 stepped =
     -- 0x20010005: register 1 = 5; 0xAC010008 after it: byte address 8 holds 5
     same (booted 1 program .0 .registers) (set zeros 1 5)
-    ∷ sameHost (booted 2 program .1) (host (table 0 0) (0x20010005 ∷ 0xAC010008 ∷ 5 ∷ replicate 1021 0) freshShadow)
+    ∷ sameHost (booted 2 program .1) (host (table 0 0) (replicate 1024 0 ++ (0x20010005 ∷ 0xAC010008 ∷ 5 ∷ replicate 1021 0)) freshShadow)
     -- the third step: ill, ECA 2, EDPC 8, EPC 12
     ∷ (let p = booted 3 program .0 .processor in eqb (p .eca) 2 && eqb (p .edpc) 8 && eqb (p .epc) 12)
     ∷ []
@@ -371,11 +372,11 @@ single =
     -- [fill: by a load] 0x8C022ABC into register 2, through the protected entry 2
     ∷ goesOn (user 0x8C022ABC freshShadow) 1 (set nine 2 (word 1711)) 0x8C022ABC 2048 0x8C022ABC (set (only 0 0x00002800) 2 0x00001C00)
     -- [emptying: store in user mode] 0xAC011008 through the mapped page 1 into entry 2 of the table
-    ∷ goesOn (user 0xAC011008 (set freshShadow 2 0x00001C00)) 1 nine 0xAC011008 2 9 (set (only 0 0x00002800) 1 0x00000800)
+    ∷ goesOn (user 0xAC011008 (set freshShadow 2 0x00001C00)) 1 nine 0xAC011008 3074 9 (set (only 0 0x00002800) 1 0x00003800)
     -- [emptying: store in system mode]
-    ∷ goesOn (system 0xAC011008 full) 0 nine 0xAC011008 2 9 (set full 2 0)
+    ∷ goesOn (system 0xAC011008 full) 0 nine 0xAC011008 3074 9 (set full 2 0)
     -- [emptying: the fetch's own page] a store into entry 0 empties the entry that its own fetch filled
-    ∷ goesOn (user 0xAC011000 freshShadow) 1 nine 0xAC011000 0 9 (only 1 0x00000800)
+    ∷ goesOn (user 0xAC011000 freshShadow) 1 nine 0xAC011000 3072 9 (only 1 0x00003800)
     -- [fill: protected store] pfls with the address and the old pair, the entry is filled, nothing is written
     ∷ interrupt (user 0xAC012ABC freshShadow) 1 (saving 16 4 0 0x2ABC) false 2048 0xAC012ABC (set (only 0 0x00002800) 2 0x00001C00)
     -- [fill: none on a failed test] a load in a delay slot whose entry is not valid: the pair of the slot and the branch's target is saved

@@ -11,7 +11,7 @@ use Rattle.dlx.proofs.Tests.{and-left}
 use Rattle.house.specs.Lists.{any, between}
 use Rattle.house.specs.House.{pagesOf}
 use Rattle.house.specs.Damage.{wholeFrames, damaged}
-use Rattle.house.specs.Boot.{Verdict, Case, case, firstOf, sum, pagesWrong, frameOutside, stoodEarlier, bootVerdict}
+use Rattle.house.specs.Boot.{Verdict, Case, case, firstOf, sum, pagesWrong, frameOutside, frameKept, stoodEarlier, bootVerdict}
 use Rattle.house.specs.Calls.{beyondOf, runVerdict, oneVerdict, readVerdict}
 use Rattle.house.specs.Turns.{World}
 use Rattle.house.specs.declared.House.{House}
@@ -33,6 +33,7 @@ pub record BootDone (ps : List ℕ) (q : ℕ) (fr : List ℕ) (words : ℕ) : Ty
   pub size : (1 ≤ words / 1024) × (words / 1024 ≤ 1024)
   pub long : length fr ≡ sum ps
   pub inside : (k : ℕ) → k < length fr → getD fr k 0 < words / 1024
+  pub kept : (k : ℕ) → k < length fr → getD fr k 0 ≡ 0 → ⊥
   pub once : (j k : ℕ) → j < length fr → k < length fr → getD fr j 0 ≡ getD fr k 0 → j ≡ k
 
 never-earlier : (fr : List ℕ) → any (stoodEarlier fr) (length fr) ≡ false → (j k : ℕ) → j < k → k < length fr → getD fr j 0 ≡ getD fr k 0 → ⊥
@@ -48,7 +49,8 @@ boot-done ps q fr words e =
     let d = passed _ 4 _ _ _ (omega arith) (c .1) in
     let f = passed _ 5 _ _ _ (omega arith) (d .1) in
     let g = passed _ 6 _ _ _ (omega arith) (f .1) in
-    let i = passed _ 7 _ _ _ (omega arith) (g .1) in
+    let z = passed _ 16 _ _ _ (omega arith) (g .1) in
+    let i = passed _ 7 _ _ _ (omega arith) (z .1) in
     let w = not-false (wholeFrames words) (d .0) in
     record {
       count = within 1 (length ps) 8 (a .0);
@@ -58,6 +60,7 @@ boot-done ps q fr words e =
       size = within 1 (words / 1024) 1024 (ap not (and-right (eqb (words % 1024) 0) (between 1 (words / 1024) 1024) w));
       long = eqb-true (length fr) (sum ps) (not-false _ (f .0));
       inside = λ k l. leb-false (words / 1024) (getD fr k 0) (any-none (frameOutside fr words) (length fr) (g .0) k l);
+      kept = λ k l. eqb-false (getD fr k 0) 0 (any-none (frameKept fr) (length fr) (z .0) k l);
       once = λ j k l m r. by-order j k (λ t. absurd (never-earlier fr (i .0) j k t m r)) (λ z. z) (λ t. absurd (never-earlier fr (i .0) k j t l (sym r)));
     }
 

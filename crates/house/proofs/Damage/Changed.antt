@@ -51,6 +51,7 @@ module _ (h : House) (m : List ℕ) (u : Undamaged h) (y : Typed (world h m)) wh
       whole = u .whole;
       size = u .size;
       inside = u .inside;
+      kept = u .kept;
       once = u .once;
       idle = x .idle;
       busy = x .busy;

@@ -17,7 +17,7 @@ use Rattle.dlx.proofs.Tests.{and-left}
 use Rattle.dlx.specs.Parts.{inner}
 use Rattle.house.specs.Lists.{any, between}
 use Rattle.house.specs.House.{noPartition, partition, pagesOf, runs, registersOf, framesOf, shadowOf}
-use Rattle.house.specs.Damage.{stands, entryWrong, notZero, partitionUsed}
+use Rattle.house.specs.Damage.{frameBarred, stands, entryWrong, notZero, partitionUsed}
 use Rattle.house.specs.Sound.{Proper}
 use Rattle.house.specs.declared.House.{House}
 use Rattle.house.proofs.Lists.Bounded.{or-left, or-right, or-none, and-right, one-way, any-at, any-none, any-from, any-yes}
@@ -136,7 +136,7 @@ module _ (h : House) where
   badPages i = not (between 1 (pagesOf h i) 256)
 
   abbrev pub badFrames : ℕ → Bool
-  badFrames i = any (λ k. leb (h .words / 1024) (getD (framesOf h i) k 0)) (pagesOf h i)
+  badFrames i = any (λ k. frameBarred (h .words / 1024) (getD (framesOf h i) k 0)) (pagesOf h i)
 
   abbrev pub frameStands : ℕ → ℕ → Bool
   frameStands i k =

@@ -3,7 +3,7 @@ use mathlib.Core.Path.{_≡_, refl, ap}
 use mathlib.Core.Bool.{Bool, true, false, not, _&&_}
 use Prim.Native.Nat.{ℕ, _*_, _/_, _%_, _<_, _≤_}
 use native.Mathlib.Omega.{arith}
-use borrow.Author.Tests.{eqb-true, eqb-false, leb-true, ltb-true, ltb-false, eq-eqb, lt-leb, le-ltb}
+use borrow.Author.Tests.{eqb-true, eqb-false, leb-true, ltb-true, ltb-false, eq-eqb, ne-eqb, lt-leb, le-ltb}
 use lib.Dec.{ltb, leb, eqb}
 use lib.ListN.{getD}
 use Rattle.dlx.proofs.Kept.{either}
@@ -11,7 +11,7 @@ use Rattle.translate.specs.Walk.{entries}
 use Rattle.dlx.proofs.Tests.{by-test}
 use Rattle.house.specs.Lists.{any}
 use Rattle.house.specs.House.{noHouse, pagesOf, runs, framesOf, shadowOf, queuesOf}
-use Rattle.house.specs.Damage.{wholeFrames, outsideLimits, stands, frameTwice, turnWrong, registersWrong, shadowWrong, unusedWrong, queueWrong, queuesWrong, damaged}
+use Rattle.house.specs.Damage.{wholeFrames, frameBarred, outsideLimits, stands, frameTwice, turnWrong, registersWrong, shadowWrong, unusedWrong, queueWrong, queuesWrong, damaged}
 use Rattle.house.specs.Sound.{Undamaged}
 use Rattle.tickets.specs.Queues.{placesOf, waitingOf}
 use Rattle.house.specs.declared.House.{House}
@@ -35,7 +35,7 @@ module _ (h : House) (u : Undamaged h) where
       (any-from (badPages h) (h .count) (λ i l. ap not (within-from 1 (pagesOf h i) 256 (u .pages i l .0) (u .pages i l .1)))))
       (ap not (within-from 1 (h .q) 10000 (u .turns .0) (u .turns .1))))
       (ap not size-right))
-      (any-from (badFrames h) (h .count) (λ i l. any-from (λ k. leb (h .words / 1024) (getD (framesOf h i) k 0)) (pagesOf h i) (λ k m. lt-leb _ _ (u .inside i k l m))))
+      (any-from (badFrames h) (h .count) (λ i l. any-from (λ k. frameBarred (h .words / 1024) (getD (framesOf h i) k 0)) (pagesOf h i) (λ k m. or-none (lt-leb _ _ (u .inside i k l m)) (ne-eqb _ 0 (u .kept i k l m)))))
 
   each-once : frameTwice h ≡ false
   unfolding frameTwice

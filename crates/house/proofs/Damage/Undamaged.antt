@@ -4,7 +4,7 @@ use mathlib.Core.Bool.{Bool, true, false, not, _&&_, _||_}
 use mathlib.Core.List.{List}
 use Prim.Native.Nat.{ℕ, _*_, _/_, _%_, _^_, _<_, _≤_}
 use native.Mathlib.Omega.{arith}
-use borrow.Author.Tests.{eqb-true, leb-false, ltb-true, ltb-false, not-false, eq-eqb, ne-eqb, le-leb, lt-ltb, le-ltb}
+use borrow.Author.Tests.{eqb-true, eqb-false, leb-false, ltb-true, ltb-false, not-false, eq-eqb, ne-eqb, le-leb, lt-ltb, le-ltb}
 use lib.Dec.{ltb, leb, eqb}
 use lib.ListN.{length, getD, List·getD-eq-default}
 use Rattle.translate.specs.Entries.{valid}
@@ -13,7 +13,7 @@ use Rattle.translate.proofs.Entries.{empty-invalid}
 use Rattle.dlx.proofs.Tests.{by-test, and-left}
 use Rattle.house.specs.Lists.{any, between}
 use Rattle.house.specs.House.{partition, pagesOf, runs, registersOf, framesOf, shadowOf, queuesOf}
-use Rattle.house.specs.Damage.{wholeFrames, outsideLimits, stands, frameTwice, turnWrong, registersWrong, shadowWrong, notZero, partitionUsed, unusedWrong, queueWrong, queuesWrong, damaged}
+use Rattle.house.specs.Damage.{wholeFrames, frameBarred, outsideLimits, stands, frameTwice, turnWrong, registersWrong, shadowWrong, notZero, partitionUsed, unusedWrong, queueWrong, queuesWrong, damaged}
 use Rattle.house.specs.Turns.{world}
 use Rattle.house.specs.Sound.{Shaped, SoundPartition, Sound, Proper, Unused, Undamaged}
 use Rattle.tickets.specs.Queues.{ProperQueue}
@@ -70,11 +70,17 @@ module _ (h : House) where
     limit-size : (1 ≤ h .words / 1024) × (h .words / 1024 ≤ 1024)
     limit-size = within 1 (h .words / 1024) 1024 (ap not (and-right (eqb (h .words % 1024) 0) (between 1 (h .words / 1024) 1024) whole-frames))
 
-    limit-frames : (i k : ℕ) → i < h .count → k < pagesOf h i → getD (framesOf h i) k 0 < h .words / 1024
+    not-barred : (i k : ℕ) → i < h .count → k < pagesOf h i → frameBarred (h .words / 1024) (getD (framesOf h i) k 0) ≡ false
     unfolding outsideLimits
-    limit-frames i k l m =
-        leb-false (h .words / 1024) (getD (framesOf h i) k 0)
-        (any-none (λ k. leb (h .words / 1024) (getD (framesOf h i) k 0)) (pagesOf h i) (any-none (badFrames h) (h .count) (or-right (countOut || pagesOut || turnsOut || wordsOut) framesOut e) i l) k m)
+    not-barred i k l m =
+        any-none (λ k. frameBarred (h .words / 1024) (getD (framesOf h i) k 0)) (pagesOf h i)
+        (any-none (badFrames h) (h .count) (or-right (countOut || pagesOut || turnsOut || wordsOut) framesOut e) i l) k m
+
+    limit-frames : (i k : ℕ) → i < h .count → k < pagesOf h i → getD (framesOf h i) k 0 < h .words / 1024
+    limit-frames i k l m = leb-false (h .words / 1024) (getD (framesOf h i) k 0) (or-left _ (eqb (getD (framesOf h i) k 0) 0) (not-barred i k l m))
+
+    frames-kept : (i k : ℕ) → i < h .count → k < pagesOf h i → getD (framesOf h i) k 0 ≡ 0 → ⊥
+    frames-kept i k l m = eqb-false (getD (framesOf h i) k 0) 0 (or-right (leb (h .words / 1024) (getD (framesOf h i) k 0)) _ (not-barred i k l m))
 
   module _ (e : frameTwice h ≡ false) where
     stands-not : (i k : ℕ) → i < h .count → k < pagesOf h i → frameStands h i k ≡ false
@@ -220,6 +226,7 @@ module _ (h : House) where
         whole = limit-whole limits;
         size = limit-size limits;
         inside = limit-frames limits;
+        kept = frames-kept limits;
         once = frames-once (or-right A B e₄);
         idle = turn-idle turns;
         busy = turn-busy turns;

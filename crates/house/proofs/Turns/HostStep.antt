@@ -64,6 +64,7 @@ module _ (w : World) (r : Ready w) (o : Outcome × Host) (t : Turn) where
           whole = u .whole;
           size = u .size;
           inside = λ j k l m. u .inside j k l (rw (p j) at m);
+          kept = λ j k l m. u .kept j k l (rw (p j) at m);
           once = λ j j′ k k′ l l′ m m′. u .once j j′ k k′ l l′ (rw (p j) at m) (rw (p j′) at m′);
           idle = λ z. absurd (omega (arith, x .some));
           busy = λ _. (x .here, x .runs, x .most);
@@ -146,6 +147,7 @@ queued-ready w r =
         whole = u .whole;
         size = u .size;
         inside = u .inside;
+        kept = u .kept;
         once = u .once;
         idle = u .idle;
         busy = u .busy;
