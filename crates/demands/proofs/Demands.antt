@@ -1,6 +1,7 @@
 -- The three demands: a theorem for each statement of specs/Demands.antt, in its order.
 use mathlib.Core.Path.{_≡_, refl, sym, ap, subst, _∙_}
 use mathlib.Core.Bool.{false}
+use mathlib.Core.List.{List}
 use Prim.Native.Nat.{ℕ, _+_}
 use native.Mathlib.Omega.{arith}
 use borrow.Author.Tests.{eq-eqb, ne-eqb}
@@ -10,18 +11,20 @@ use Rattle.dlx.specs.Choice.{if_then_else_}
 use Rattle.dlx.specs.Machine.{steps}
 use Rattle.dlx.proofs.Feeds.{steps-same}
 use Rattle.translate.specs.Memory.{loneMemory}
-use Rattle.dlx.proofs.Tests.{by-eq}
+use Rattle.dlx.proofs.Tests.{by-test, by-eq}
 use Rattle.house.specs.House.{noHouse, queuesOf}
 use Rattle.house.specs.Damage.{damaged}
 use Rattle.house.specs.Boot.{bootVerdict}
 use Rattle.house.specs.Turns.{World, world}
 use Rattle.house.specs.Calls.{bootCall, runVerdict, runCall, oneVerdict, startCall, stopCall, emptyCall, readVerdict, readCall}
 use Rattle.demands.specs.Histories.{booted, history, turnsMade, loneAtBoot, queueIn, logOf, ticketsOff, feedOf}
-use Rattle.demands.specs.Demands.{RefusedMeansUntouched, Isolation, RunIsolation, EveryBoot, NeverDamaged, Step, WithinRuns, Reach, Histories, EqualGuests, EqualCounters, Tickets, TicketCounts, ReadsThosePages, Fairness}
+use Rattle.demands.specs.Demands.{RefusedMeansUntouched, Isolation, RunIsolation, Frame0, EveryBoot, NeverDamaged, Step, WithinRuns, Reach, Histories, EqualGuests, EqualCounters, Tickets, TicketCounts, ReadsThosePages, Fairness}
+use Rattle.house.proofs.Lists.Bounded.{one-way}
 use Rattle.house.proofs.Calls.Verdicts.{run-done}
-use Rattle.house.proofs.Damage.Undamaged.{sound}
+use Rattle.house.proofs.Damage.Undamaged.{undamaged-gives, sound}
 use Rattle.demands.proofs.Isolation.Isolated.{step-isolated}
 use Rattle.demands.proofs.Isolation.IsolatedRun.{same-verdict, answers-alike}
+use Rattle.demands.proofs.Isolation.FrameZero.{apart-undamaged, apart-given}
 use Rattle.demands.proofs.Booted.FreshHouse.{booted-few, booted-whole, booted-ready}
 use Rattle.demands.proofs.Histories.Stays.{history-stays}
 use Rattle.demands.proofs.Histories.Standing.{step-of}
@@ -56,7 +59,16 @@ pub run-isolation : RunIsolation
 unfolding runCall
 run-isolation h m m′ k s long same =
     let a = answers-alike h m m′ s long same k in
-    (same-verdict h m m′ s long same k, a .house, a .own, a .others)
+    (same-verdict h m m′ long k, a .house, a .own, a .others)
+
+pub frame-0-demand : Frame0
+unfolding runCall
+frame-0-demand h m m′ k s long same =
+    by-test (damaged h)
+    (λ e.
+    let untouched : (x : List ℕ) → runCall (world h x) k .world ≡ world h x = λ x. refused-means-untouched .run (world h x) k (λ z. one-way (damaged h) e (run-done (world h x) k z .whole)) in
+    apart-given h m m′ k long same (untouched m) (untouched m′))
+    (λ e. apart-undamaged h m m′ k (undamaged-gives h e) s long same)
 
 -- ---- demand 2
 

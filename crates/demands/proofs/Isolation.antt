@@ -1,2 +1,3 @@
 pub mod Isolated
 pub mod IsolatedRun
+pub mod FrameZero

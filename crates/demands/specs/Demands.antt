@@ -81,6 +81,28 @@ RunIsolation = (h : House) (m m′ : List ℕ) (k : ℕ) → Shaped h → length
     × ((f j : ℕ) → ((i : ℕ) → i < h .count → Own (framesOf h i) (pagesOf h i) f → ⊥) → j < 1024 →
     getD (a .world .memory) (f * 1024 + j) 0 ≡ getD m (f * 1024 + j) 0)
 
+-- Two memories are alike outside frame 0; a memory keeps every word of it.
+abbrev pub AgreeBeyondFrame0 : List ℕ → List ℕ → Type 0
+AgreeBeyondFrame0 m m′ = (x : ℕ) → 1024 ≤ x → getD m x 0 ≡ getD m′ x 0
+
+abbrev pub KeepsFrame0 : List ℕ → List ℕ → Type 0
+KeepsFrame0 m m′ = (x : ℕ) → x < 1024 → getD m′ x 0 ≡ getD m x 0
+
+-- A run of k steps in two memories answers the same, and the memories stay apart by frame 0 alone, as it was in each.
+abbrev pub ApartInFrame0 : House → List ℕ → List ℕ → ℕ → Type 0
+ApartInFrame0 h m m′ k =
+    let a = runCall (world h m) k in
+    let a′ = runCall (world h m′) k in
+    (a .verdict ≡ a′ .verdict)
+    × (a .world .house ≡ a′ .world .house)
+    × AgreeBeyondFrame0 (a .world .memory) (a′ .world .memory)
+    × KeepsFrame0 m (a .world .memory)
+    × KeepsFrame0 m′ (a′ .world .memory)
+
+-- Frame 0 is the house's: no run reads or changes a word of it, from any house. A damaged one, which might hold it, is refused.
+abbrev pub Frame0 : Type 0
+Frame0 = (h : House) (m m′ : List ℕ) (k : ℕ) → Shaped h → length m ≡ length m′ → AgreeBeyondFrame0 m m′ → ApartInFrame0 h m m′ k
+
 -- ---- demand 2: w is any house and memory grown from a boot by calls, done or refused
 
 -- Every boot that is done is a `Boot` of those very arguments, and what it left is what all histories begin with.

@@ -139,6 +139,9 @@ module _ (b : Boot) where
     inside = λ i k l m.
         let n = rw (booted-pages i l) at m in
         rw (booted-frames i l k n) (d .inside (offset ps i + k) (booted-within i l k n));
+    kept = λ i k l m.
+        let n = rw (booted-pages i l) at m in
+        rw (booted-frames i l k n) (d .kept (offset ps i + k) (booted-within i l k n));
     once = λ i j k x l m n o r.
         let n′ = rw (booted-pages i l) at n in
         let o′ = rw (booted-pages j m) at o in

@@ -31,12 +31,12 @@ zeros n = replicate n 0
 
 -- partition 0: register 1 = 5; partition 1: a trap; partition 2: word 0, which is ill
 abbrev memory : List ℕ
-memory = 0x20010005 ∷ zeros 1023 ++ (0xF8000007 ∷ zeros 2047)
+memory = zeros 1024 ++ (0x20010005 ∷ zeros 1023 ++ (0xF8000007 ∷ zeros 2047))
 
 -- the boot, by its call
-called : BootOf (1 ∷ 1 ∷ 1 ∷ []) 2 (0 ∷ 1 ∷ 2 ∷ []) memory
+called : BootOf (1 ∷ 1 ∷ 1 ∷ []) 2 (1 ∷ 2 ∷ 3 ∷ []) memory
 unfolding bootCall bootVerdict firstOf any firstFrom sum every-boot
-called = every-boot (1 ∷ 1 ∷ 1 ∷ []) 2 (0 ∷ 1 ∷ 2 ∷ []) memory refl
+called = every-boot (1 ∷ 1 ∷ 1 ∷ []) 2 (1 ∷ 2 ∷ 3 ∷ []) memory refl
 
 pub three-guests : Boot
 three-guests = called .boot
@@ -44,7 +44,7 @@ three-guests = called .boot
 abbrev begun : World
 begun = booted three-guests
 
-pub begun-is : bootCall (1 ∷ 1 ∷ 1 ∷ []) 2 (0 ∷ 1 ∷ 2 ∷ []) memory .world ≡ begun
+pub begun-is : bootCall (1 ∷ 1 ∷ 1 ∷ []) 2 (1 ∷ 2 ∷ 3 ∷ []) memory .world ≡ begun
 unfolding three-guests
 begun-is = called .left
 

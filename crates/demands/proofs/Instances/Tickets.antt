@@ -35,11 +35,11 @@ abbrev taker : List ℕ
 taker = 0xF8000101 ∷ 0xF8000101 ∷ 0xF8000101 ∷ []
 
 abbrev memory : List ℕ
-memory = sender ++ (replicate 1017 0 ++ (taker ++ replicate 1021 0))
+memory = replicate 1024 0 ++ (sender ++ (replicate 1017 0 ++ (taker ++ replicate 1021 0)))
 
 pub ticket-guests : Boot
 unfolding bootVerdict firstOf any firstFrom sum
-ticket-guests = record { pages = 1 ∷ 1 ∷ []; q = 2; frames = 0 ∷ 1 ∷ []; memory = memory; done = refl }
+ticket-guests = record { pages = 1 ∷ 1 ∷ []; q = 2; frames = 1 ∷ 2 ∷ []; memory = memory; done = refl }
 
 abbrev begun : World
 begun = booted ticket-guests

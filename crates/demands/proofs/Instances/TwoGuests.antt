@@ -32,7 +32,7 @@ use Rattle.house.specs.Turns.{World, world, nextFrom, turnOf, requestNow, reply
 use Rattle.house.specs.Calls.{bootCall, runVerdict, runCall, started, stopped, emptiedHouse, startCall, stopCall, emptyCall, readVerdict, readCall}
 use Rattle.house.specs.Sound.{Proper, Stays, Ready}
 use Rattle.demands.specs.Histories.{Boot, booted, Call, run, start, stop, empty, readOut, after, history, Grown, turnsIn, stepsOf, stepsMade, turnsMade, StaysRunning, loneOf, loneAtBoot, loneAsks, loneAnswer, eventOf, logIn, logOf, each, answersTo, feedOf}
-use Rattle.demands.specs.Demands.{AgreeOn, OwnFramesAlone, StepOf, SameAnswers, nowhere, word, byShadow, listed, byTable}
+use Rattle.demands.specs.Demands.{AgreeOn, OwnFramesAlone, ApartInFrame0, StepOf, SameAnswers, nowhere, word, byShadow, listed, byTable}
 use Rattle.house.specs.declared.House.{House}
 use Rattle.house.proofs.Lists.Bounded.{one-way}
 use Rattle.demands.proofs.Instances.ClosedCalls.{below, below-at, Fit, fit-after, run-verdict, no-verdict, after-run, after-start, after-stop, after-empty, after-refused, runs-at-end, runs-onward}
@@ -40,7 +40,7 @@ use Rattle.demands.proofs.Booted.FreshHouse.{booted-whole, booted-ready
 use Rattle.house.proofs.Turns.SameLayout.{changed}
 use Rattle.house.proofs.Damage.Changed.{ShadowsRight, same-flags, changed-stays}
 use Rattle.house.proofs.Damage.Undamaged.{undamaged-gives}
-use Rattle.demands.proofs.Demands.{refused-means-untouched, isolation-demand, run-isolation, never-damaged, step-demand, within-runs, reach-demand, histories-demand, equal-guests, equal-counters, reads-those-pages, fairness-demand}
+use Rattle.demands.proofs.Demands.{refused-means-untouched, isolation-demand, run-isolation, frame-0-demand, never-damaged, step-demand, within-runs, reach-demand, histories-demand, equal-guests, equal-counters, reads-those-pages, fairness-demand}
 
 -- ---- the boot
 
@@ -59,13 +59,13 @@ its-table = 0x00000800 ∷ 0x00001800 ∷ []
 abbrev second-guest : List ℕ
 second-guest = 0x20010005 ∷ 0xF8000007 ∷ []
 
--- frame 1 is no partition's
+-- frame 0 is the house's, and frame 2 is no partition's
 abbrev memory : List ℕ
-memory = its-table ++ (zeros 2046 ++ (second-guest ++ (zeros 1022 ++ (first-guest ++ zeros 1016))))
+memory = zeros 1024 ++ (its-table ++ (zeros 2046 ++ (second-guest ++ (zeros 1022 ++ (first-guest ++ zeros 1016)))))
 
 pub two-guests : Boot
 unfolding bootVerdict firstOf any firstFrom sum
-two-guests = record { pages = 2 ∷ 1 ∷ []; q = 3; frames = 3 ∷ 0 ∷ 2 ∷ []; memory = memory; done = refl }
+two-guests = record { pages = 2 ∷ 1 ∷ []; q = 3; frames = 4 ∷ 1 ∷ 3 ∷ []; memory = memory; done = refl }
 
 pub memory-words : (i : ℕ) → getD (two-guests .memory) i 0 < 2 ^ 32
 unfolding two-guests below
@@ -120,13 +120,13 @@ computing = 0
 abbrev entry : World → ℕ → ℕ
 entry w px = getD (shadowOf (w .house) 0) px 0
 
-pub by-store : (entry full 1 ≡ entryOf 0 0) × (entry bare 1 ≡ 0)
+pub by-store : (entry full 1 ≡ entryOf 1 0) × (entry bare 1 ≡ 0)
 by-store = unfold computing in (refl, refl)
 
-pub by-call : (entry joined 0 ≡ entryOf 3 0) × (entry cleared 0 ≡ 0)
+pub by-call : (entry joined 0 ≡ entryOf 4 0) × (entry cleared 0 ≡ 0)
 by-call = unfold computing in (refl, refl)
 
-pub by-table : (entry (hostSteps 1 cleared) 0 ≡ entryOf 3 0) × (entry ended 0 ≡ 0)
+pub by-table : (entry (hostSteps 1 cleared) 0 ≡ entryOf 4 0) × (entry ended 0 ≡ 0)
 by-table = unfold computing in (refl, refl)
 
 -- ---- the history is done
@@ -284,26 +284,29 @@ untouched-read =
     refused-means-untouched .read full 0 8192 1 (0 ∷ [])
     (some 11 (simp (fit-full .whole, eq-eqb (length (full .memory)) (full .house .words) (fit-full .size), fit-full .count) (unfold computing in refl))) .1
 
--- a memory that differs in one word: 2048 is partition 1's, 1024 is no partition's
+-- a memory that differs in one word: 3072 is partition 1's, 2048 is no partition's
 abbrev elsewhere : ℕ → List ℕ
 elsewhere x = set (full .memory) x 7
 
-pub differ : (full .memory ≡ elsewhere 2048 → ⊥) × (full .memory ≡ elsewhere 1024 → ⊥)
-differ = (λ e. theirs (ap (λ (m : List ℕ). getD m 2048 0) e), λ e. none's (ap (λ (m : List ℕ). getD m 1024 0) e))
+pub differ : (full .memory ≡ elsewhere 3072 → ⊥) × (full .memory ≡ elsewhere 2048 → ⊥)
+differ = (λ e. theirs (ap (λ (m : List ℕ). getD m 3072 0) e), λ e. none's (ap (λ (m : List ℕ). getD m 2048 0) e))
   where
-    theirs : getD (full .memory) 2048 0 ≡ getD (elsewhere 2048) 2048 0 → ⊥
+    theirs : getD (full .memory) 3072 0 ≡ getD (elsewhere 3072) 3072 0 → ⊥
     theirs = unfold computing in λ e. omega (arith, e)
 
-    none's : getD (full .memory) 1024 0 ≡ getD (elsewhere 1024) 1024 0 → ⊥
+    none's : getD (full .memory) 2048 0 ≡ getD (elsewhere 2048) 2048 0 → ⊥
     none's = unfold computing in λ e. omega (arith, e)
 
+apart-in-frame-0 : ApartInFrame0 (full .house) (full .memory) (elsewhere 5) 4
+apart-in-frame-0 = frame-0-demand (full .house) (full .memory) (elsewhere 5) 4 (fit-full .typed .shaped) (sym (length-set (full .memory) 5 7)) (λ x l. sym (getD-set-other (full .memory) 5 x 7 0 (λ e. omega arith)))
+
 -- a property of both frames of partition 0, and of partition 1's
-both : (P : ℕ → Type 0) → P 3 → P 0 → (k : ℕ) → k < pagesOf (full .house) 0 → P (getD (framesOf (full .house) 0) k 0)
+both : (P : ℕ → Type 0) → P 4 → P 1 → (k : ℕ) → k < pagesOf (full .house) 0 → P (getD (framesOf (full .house) 0) k 0)
 both P a b zero l = unfold computing in a
 both P a b (suc zero) l = unfold computing in b
 both P a b (suc (suc k)) l = absurd (unfold computing in omega (arith, l))
 
-only : (P : ℕ → Type 0) → P 2 → (k : ℕ) → k < pagesOf (full .house) 1 → P (getD (framesOf (full .house) 1) k 0)
+only : (P : ℕ → Type 0) → P 3 → (k : ℕ) → k < pagesOf (full .house) 1 → P (getD (framesOf (full .house) 1) k 0)
 only P a zero l = unfold computing in a
 only P a (suc k) l = absurd (unfold computing in omega (arith, l))
 
@@ -316,41 +319,41 @@ same x j f d = sym (getD-set-other (full .memory) x (f * 1024 + j) 7 0 d)
 full-current : full .house .current ≡ 0
 full-current = unfold computing in refl
 
-agree : AgreeOn (full .house) 0 (full .memory) (elsewhere 2048)
-agree k j l m = both (Same 2048 j) (same 2048 j 3 (λ e. omega arith)) (same 2048 j 0 (λ e. omega arith)) k l
+agree : AgreeOn (full .house) 0 (full .memory) (elsewhere 3072)
+agree k j l m = both (Same 3072 j) (same 3072 j 4 (λ e. omega arith)) (same 3072 j 1 (λ e. omega arith)) k l
 
-pub isolated : OwnFramesAlone (full .house) (full .memory) (elsewhere 2048)
+pub isolated : OwnFramesAlone (full .house) (full .memory) (elsewhere 3072)
 isolated =
-    isolation-demand (full .house) (full .memory) (elsewhere 2048) (fit-full .typed .shaped) (fit-full .whole) (some 2 full-left) (fit-full .size)
-    (length-set (full .memory) 2048 7 ∙ fit-full .size)
+    isolation-demand (full .house) (full .memory) (elsewhere 3072) (fit-full .typed .shaped) (fit-full .whole) (some 2 full-left) (fit-full .size)
+    (length-set (full .memory) 3072 7 ∙ fit-full .size)
     (rw full-current agree)
 
--- the one part and the other: own frames agree after it, frame 2 is kept in each, and partition 1's record, registers, shadow and queue stay
-pub isolated-words : (getD (hostStep (world (full .house) (elsewhere 2048)) .memory) 2048 0 ≡ 7)
-    × (getD (hostStep full .memory) 1 0 ≡ getD (hostStep (world (full .house) (elsewhere 2048)) .memory) 1 0)
+-- the one part and the other: own frames agree after it, frame 3 is kept in each, and partition 1's record, registers, shadow and queue stay
+pub isolated-words : (getD (hostStep (world (full .house) (elsewhere 3072)) .memory) 3072 0 ≡ 7)
+    × (getD (hostStep full .memory) 1025 0 ≡ getD (hostStep (world (full .house) (elsewhere 3072)) .memory) 1025 0)
 isolated-words = (
-  isolated .3 2 0 (foreign 2 (λ e. omega arith) (λ e. omega arith)) (omega arith) ∙ (unfold computing in refl),
-  subst (λ (x : ℕ). getD (hostStep full .memory) x 0 ≡ getD (hostStep (world (full .house) (elsewhere 2048)) .memory) x 0) place
-      (subst (λ (x : ℕ). AgreeOn (full .house) x (hostStep full .memory) (hostStep (world (full .house) (elsewhere 2048)) .memory)) full-current (isolated .1) 1 1 (unfold computing in omega arith) (omega arith)),
+  isolated .3 3 0 (foreign 3 (λ e. omega arith) (λ e. omega arith)) (omega arith) ∙ (unfold computing in refl),
+  subst (λ (x : ℕ). getD (hostStep full .memory) x 0 ≡ getD (hostStep (world (full .house) (elsewhere 3072)) .memory) x 0) place
+      (subst (λ (x : ℕ). AgreeOn (full .house) x (hostStep full .memory) (hostStep (world (full .house) (elsewhere 3072)) .memory)) full-current (isolated .1) 1 1 (unfold computing in omega arith) (omega arith)),
 )
   where
-    place : getD (framesOf (full .house) 0) 1 0 * 1024 + 1 ≡ 1
+    place : getD (framesOf (full .house) 0) 1 0 * 1024 + 1 ≡ 1025
     place = unfold computing in refl
 
-    foreign : (f : ℕ) → (f ≡ 3 → ⊥) → (f ≡ 0 → ⊥) → Own (framesOf (full .house) (full .house .current)) (pagesOf (full .house) (full .house .current)) f → ⊥
+    foreign : (f : ℕ) → (f ≡ 4 → ⊥) → (f ≡ 1 → ⊥) → Own (framesOf (full .house) (full .house .current)) (pagesOf (full .house) (full .house .current)) f → ⊥
     foreign f a b o = both (λ (x : ℕ). x ≡ f → ⊥) (λ e. a (sym e)) (λ e. b (sym e)) (o .0)
         (subst (λ (x : ℕ). o .0 < pagesOf (full .house) x) full-current (o .1))
         (subst (λ (x : ℕ). getD (framesOf (full .house) x) (o .0) 0 ≡ f) full-current (o .2))
 
--- ---- a shadow that is wrong: entry 0 of partition 0 names its frame 0, and the table gives frame 3
+-- ---- a shadow that is wrong: entry 0 of partition 0 names its frame 1, and the table gives frame 4
 
 abbrev astray : List ℕ
-astray = set (full .house .shadows) 0 (entryOf 0 0)
+astray = set (full .house .shadows) 0 (entryOf 1 0)
 
 abbrev misled : House
 misled = changed (full .house) (full .house .running) (turn (full .house .current) (full .house .left)) astray
 
-pub misled-wrong : (byShadow (world misled (full .memory)) 0 false true 4 ≡ word 1) × (byTable (world misled (full .memory)) 0 false true 4 ≡ word 3073)
+pub misled-wrong : (byShadow (world misled (full .memory)) 0 false true 4 ≡ word 1025) × (byTable (world misled (full .memory)) 0 false true 4 ≡ word 4097)
 unfolding listed loneFound loneOf
 misled-wrong = unfold computing in (refl, refl)
 
@@ -359,21 +362,21 @@ misled-right =
     let h = full .house in
     let u = undamaged-gives h (fit-full .whole) in
     record {
-      long = length-set (h .shadows) 0 (entryOf 0 0) ∙ fit-full .typed .shaped .shadows;
+      long = length-set (h .shadows) 0 (entryOf 1 0) ∙ fit-full .typed .shaped .shadows;
       proper = λ i px l m.
           subst (Proper (framesOf h i) (pagesOf h i)) (sym (part-at astray (i * 256) 256 px m))
-          (getD-set-elim (Proper (framesOf h i) (pagesOf h i)) (h .shadows) 0 (i * 256 + px) (entryOf 0 0) 0
-          (λ z. let e : i ≡ 0 = omega arith in subst (λ (x : ℕ). Proper (framesOf h x) (pagesOf h x) (entryOf 0 0)) (sym e) other-frame)
+          (getD-set-elim (Proper (framesOf h i) (pagesOf h i)) (h .shadows) 0 (i * 256 + px) (entryOf 1 0) 0
+          (λ z. let e : i ≡ 0 = omega arith in subst (λ (x : ℕ). Proper (framesOf h x) (pagesOf h x) (entryOf 1 0)) (sym e) other-frame)
           (subst (Proper (framesOf h i) (pagesOf h i)) (part-at (h .shadows) (i * 256) 256 px m) (u .proper i px l m)));
       none = λ i k l b m.
           part-at astray (i * 256) 256 k m
-          ∙ getD-set-other (h .shadows) 0 (i * 256 + k) (entryOf 0 0) 0 (λ z. omega (arith, fit-full .count))
+          ∙ getD-set-other (h .shadows) 0 (i * 256 + k) (entryOf 1 0) 0 (λ z. omega (arith, fit-full .count))
           ∙ sym (part-at (h .shadows) (i * 256) 256 k m)
           ∙ u .unused i l b .shadows k m;
-      words = λ k. getD-set-elim (λ (x : ℕ). x < 2 ^ 32) (h .shadows) 0 k (entryOf 0 0) 0 (λ _. omega arith) (fit-full .typed .shadows k);
+      words = λ k. getD-set-elim (λ (x : ℕ). x < 2 ^ 32) (h .shadows) 0 k (entryOf 1 0) 0 (λ _. omega arith) (fit-full .typed .shadows k);
     }
   where
-    other-frame : Proper (framesOf (full .house) 0) (pagesOf (full .house) 0) (entryOf 0 0)
+    other-frame : Proper (framesOf (full .house) 0) (pagesOf (full .house) 0) (entryOf 1 0)
     other-frame = unfold computing in record { own = λ _. (1, omega arith, refl); bits = λ _. refl; empty = λ e. one-way true refl e }
 
 misled-stays : Stays full (world misled (full .memory))
@@ -382,19 +385,29 @@ misled-stays =
     changed-stays (full .house) (full .memory) u (fit-full .typed) (full .house .running) (turn (full .house .current) (full .house .left)) astray
     (same-flags (full .house) (full .memory) u (fit-full .typed)) (record { idle = u .idle; busy = u .busy }) misled-right
 
-pub isolated-misled : hostStep (world misled (full .memory)) .house ≡ hostStep (world misled (elsewhere 2048)) .house
+pub isolated-misled : hostStep (world misled (full .memory)) .house ≡ hostStep (world misled (elsewhere 3072)) .house
 isolated-misled =
-    isolation-demand misled (full .memory) (elsewhere 2048) (misled-stays .typed .shaped) (misled-stays .whole) (some 2 full-left) (fit-full .size)
-    (length-set (full .memory) 2048 7 ∙ fit-full .size)
+    isolation-demand misled (full .memory) (elsewhere 3072) (misled-stays .typed .shaped) (misled-stays .whole) (some 2 full-left) (fit-full .size)
+    (length-set (full .memory) 3072 7 ∙ fit-full .size)
     (rw full-current agree) .0
 
-agree-all : (i : ℕ) → i < full .house .count → AgreeOn (full .house) i (full .memory) (elsewhere 1024)
-agree-all zero n k j l m = both (Same 1024 j) (same 1024 j 3 (λ e. omega arith)) (same 1024 j 0 (λ e. omega arith)) k l
-agree-all (suc zero) n k j l m = only (Same 1024 j) (same 1024 j 2 (λ e. omega arith)) k l
+agree-all : (i : ℕ) → i < full .house .count → AgreeOn (full .house) i (full .memory) (elsewhere 2048)
+agree-all zero n k j l m = both (Same 2048 j) (same 2048 j 4 (λ e. omega arith)) (same 2048 j 1 (λ e. omega arith)) k l
+agree-all (suc zero) n k j l m = only (Same 2048 j) (same 2048 j 3 (λ e. omega arith)) k l
 agree-all (suc (suc i)) n k j l m = absurd (omega (arith, fit-full .count))
 
-pub run-isolated : runCall full 4 .world .house ≡ runCall (world (full .house) (elsewhere 1024)) 4 .world .house
-run-isolated = run-isolation (full .house) (full .memory) (elsewhere 1024) 4 (fit-full .typed .shaped) (sym (length-set (full .memory) 1024 7)) agree-all .1
+pub run-isolated : runCall full 4 .world .house ≡ runCall (world (full .house) (elsewhere 2048)) 4 .world .house
+run-isolated = run-isolation (full .house) (full .memory) (elsewhere 2048) 4 (fit-full .typed .shaped) (sym (length-set (full .memory) 2048 7)) agree-all .1
+
+-- word 5 is the house's own: a run of the same calls neither reads it nor changes it
+pub frame-0-unread : runCall full 4 .world .house ≡ runCall (world (full .house) (elsewhere 5)) 4 .world .house
+frame-0-unread = apart-in-frame-0 .1
+
+pub frame-0-kept : getD (runCall (world (full .house) (elsewhere 5)) 4 .world .memory) 5 0 ≡ 7
+frame-0-kept = apart-in-frame-0 .4 5 (omega arith) ∙ (unfold computing in refl)
+
+pub frames-agree : getD (runCall full 4 .world .memory) 1025 0 ≡ getD (runCall (world (full .house) (elsewhere 5)) 4 .world .memory) 1025 0
+frames-agree = apart-in-frame-0 .2 1025 (omega arith)
 
 -- ---- demand 2
 
@@ -430,8 +443,8 @@ pub within : Grown two-guests (hostSteps 3 begun) × (hostSteps 3 begun .house .
 unfolding runCall
 within = within-runs two-guests begun grown-begun 4 3 (numbered 0 4 (run-verdict begun fit-begun 4 (omega arith) (some 2 begun-left))) (omega arith)
 
--- a store to page 1 lands in frame 0, one from PTL on nowhere
-pub lands : (byTable full 0 true true 4100 ≡ word 1) × (byTable full 0 true true 8192 ≡ nowhere)
+-- a store to page 1 lands in frame 1, one from PTL on nowhere
+pub lands : (byTable full 0 true true 4100 ≡ word 1025) × (byTable full 0 true true 8192 ≡ nowhere)
 unfolding listed loneFound loneOf
 lands = unfold computing in (refl, refl)
 

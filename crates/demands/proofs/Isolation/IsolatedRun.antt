@@ -105,6 +105,10 @@ module _ (h : House) (m : List ℕ) (u : Undamaged h) where
 
 -- ---- a run
 
+pub same-verdict : (h : House) (m m′ : List ℕ) → length m ≡ length m′ → (k : ℕ) → runVerdict (world h m) k ≡ runVerdict (world h m′) k
+unfolding runVerdict
+same-verdict h m m′ long k = rw long
+
 module _ (h : House) (m m′ : List ℕ) (s : Shaped h) (long : length m ≡ length m′) (same : (i : ℕ) → i < h .count → AgreeOn h i m m′) where
   given-alike : InStep h m (world h m) (world h m′)
   given-alike = record { house = refl; own = same; others = λ _ _ _ _. refl }
@@ -122,16 +126,12 @@ module _ (h : House) (m m′ : List ℕ) (s : Shaped h) (long : length m ≡ len
       } in
       steps-ran h m u (suc k) (world h m) (world h m′) r .alike
 
-  pub same-verdict : (k : ℕ) → runVerdict (world h m) k ≡ runVerdict (world h m′) k
-  unfolding runVerdict
-  same-verdict k = rw long
-
   pub answers-alike : (k : ℕ) → InStep h m (runCall (world h m) k .world) (runCall (world h m′) k .world)
   unfolding runCall
   answers-alike k =
       let w = world h m in
       let w′ = world h m′ in
-      subst (λ (v : Verdict). InStep h m (runCall w k .world) (if eqb (v .number) 0 then hostSteps k w′ else w′)) (same-verdict k)
+      subst (λ (v : Verdict). InStep h m (runCall w k .world) (if eqb (v .number) 0 then hostSteps k w′ else w′)) (same-verdict h m m′ long k)
       (either-both (InStep h m) (eqb (runVerdict w k .number) 0)
       (λ t. done-alike k (run-done w k (eqb-true (runVerdict w k .number) 0 t)))
       (λ _. given-alike))
