@@ -9,7 +9,7 @@ ghost use Rattle.house.specs.Lists.{between, listFrom, firstFrom};
 ghost use Rattle.house.specs.House.{noPartition};
 ghost use Rattle.house.specs.Damage.{wholeFrames};
 ghost use Rattle.house.specs.Turns.{world};
-ghost use Rattle.house.specs.Boot.{verdict, sum, offset, laid, pagesWrong, frameOutside, stoodEarlier, bootVerdict, bootedHouse};
+ghost use Rattle.house.specs.Boot.{verdict, sum, offset, laid, pagesWrong, frameOutside, frameKept, stoodEarlier, bootVerdict, bootedHouse};
 ghost use Rattle.house.specs.Calls.{answered, bootCall};
 ghost use Rattle.boot.specs.Places.{filled, Few, Fitting};
 use dlx::partition::Partition;
@@ -99,6 +99,20 @@ fn first_outside(frames: &[u32], words: usize) -> usize
     i
 }
 
+// The first position that names frame 0, or the list's length.
+fn first_kept(frames: &[u32]) -> usize
+    ensures { λ r. ⌜ r ≡ firstFrom (frameKept (now (frames .entry))) 0 (length (now (frames .entry))) ⌝ }
+{
+    let mut i = 0;
+    while i < frames.len() {
+        if frames[i] == 0 {
+            return i;
+        }
+        i += 1;
+    }
+    i
+}
+
 // The smallest position whose frame stood earlier, or the list's length.
 fn first_repeat(frames: &[u32]) -> usize
     requires { ⌜ ((k : ℕ) → k < length (now frames) → getD (now frames) k 0 < 1024) ⌝ }
@@ -149,6 +163,13 @@ fn first_refusal(pages: &[u32], q: u32, frames: &[u32], words: usize) -> Refusal
         return Refusal {
             number: 6,
             detail: outside as u64,
+        };
+    }
+    let kept = first_kept(frames);
+    if kept < frames.len() {
+        return Refusal {
+            number: 16,
+            detail: kept as u64,
         };
     }
     let repeat = first_repeat(frames);

@@ -2,7 +2,7 @@ use mathlib.Core.Path.{sym, _∙_}
 use borrow.Author.Tests.{not-true, not-false, eq-eqb, ne-eqb, leb-true}
 use lib.Dec.{leb}
 use lib.ListN.{length}
-use Rattle.house.specs.Boot.{pagesWrong, frameOutside, stoodEarlier, firstOf, bootVerdict}
+use Rattle.house.specs.Boot.{pagesWrong, frameOutside, frameKept, stoodEarlier, firstOf, bootVerdict}
 use Rattle.house.proofs.Lists.Bounded.{and-right}
 use Rattle.house.proofs.Lists.ByRule.{any-found, any-missed}
 use Rattle.boot.proofs.Places.{few, below}
@@ -55,16 +55,23 @@ returns-6 : tie.Need-returns-6
 unfolding bootVerdict firstOf
 returns-6 c = simp (sym (c .before .before .before .before .before .before .before .before .before .before .before .before .within .ensures) ∙ not-false _ (c .before .before .before .before .before .before .before .before .before .before .before .if1 .left), any-missed (pagesWrong (c .before .before .before .before .before .before .before .before .before .before .before .before .before .before .before .args .pages .now)) _ _ (c .before .before .before .before .before .before .before .before .before .before .first-wrong .ensures) (c .before .before .before .before .before .before .before .before .before .if2 .left), (simp (c .before .before .before .before .before .before .before .before .wide .ensures) at (sym (c .before .before .before .before .before .before .before .within2 .ensures) ∙ not-false _ (c .before .before .before .before .before .before .if3 .left))), sym (c .before .before .before .before .before .whole .ensures) ∙ not-false _ (c .before .before .before .before .if4 .left), eq-eqb _ _ (simp (c .before .before .before .total .ensures) at (c .before .before .if5 .left)), any-found (frameOutside (c .before .before .before .before .before .before .before .before .before .before .before .before .before .before .before .args .frames .now) (c .before .before .before .before .before .before .before .before .before .before .before .before .before .before .before .args .words)) _ _ (c .before .first-outside .ensures) (c .if6 .taken), c .before .first-outside .ensures)
 
-first-repeat-requires : tie.Need-first-repeat-requires
-first-repeat-requires c κs = below (c .before .before .before .before .before .before .before .before .before .before .before .before .before .before .before .args .frames .now) _ _ (sym (c .before .before .before .before .before .whole .ensures) ∙ not-false _ (c .before .before .before .before .if4 .left)) (c .before .first-outside .ensures) (c .if6 .left)
+first-kept-requires : tie.Need-first-kept-requires
+first-kept-requires c κs = search needs
 
 returns-7 : tie.Need-returns-7
 unfolding bootVerdict firstOf
-returns-7 c = simp (sym (c .before .before .before .before .before .before .before .before .before .before .before .before .before .before .within .ensures) ∙ not-false _ (c .before .before .before .before .before .before .before .before .before .before .before .before .before .if1 .left), any-missed (pagesWrong (c .before .before .before .before .before .before .before .before .before .before .before .before .before .before .before .before .before .args .pages .now)) _ _ (c .before .before .before .before .before .before .before .before .before .before .before .before .first-wrong .ensures) (c .before .before .before .before .before .before .before .before .before .before .before .if2 .left), (simp (c .before .before .before .before .before .before .before .before .before .before .wide .ensures) at (sym (c .before .before .before .before .before .before .before .before .before .within2 .ensures) ∙ not-false _ (c .before .before .before .before .before .before .before .before .if3 .left))), sym (c .before .before .before .before .before .before .before .whole .ensures) ∙ not-false _ (c .before .before .before .before .before .before .if4 .left), eq-eqb _ _ (simp (c .before .before .before .before .before .total .ensures) at (c .before .before .before .before .if5 .left)), any-missed (frameOutside (c .before .before .before .before .before .before .before .before .before .before .before .before .before .before .before .before .before .args .frames .now) (c .before .before .before .before .before .before .before .before .before .before .before .before .before .before .before .before .before .args .words)) _ _ (c .before .before .before .first-outside .ensures) (c .before .before .if6 .left), any-found (stoodEarlier (c .before .before .before .before .before .before .before .before .before .before .before .before .before .before .before .before .before .args .frames .now)) _ _ (c .before .first-repeat .ensures) (c .if7 .taken), c .before .first-repeat .ensures)
+returns-7 c = simp (sym (c .before .before .before .before .before .before .before .before .before .before .before .before .before .before .within .ensures) ∙ not-false _ (c .before .before .before .before .before .before .before .before .before .before .before .before .before .if1 .left), any-missed (pagesWrong (c .before .before .before .before .before .before .before .before .before .before .before .before .before .before .before .before .before .args .pages .now)) _ _ (c .before .before .before .before .before .before .before .before .before .before .before .before .first-wrong .ensures) (c .before .before .before .before .before .before .before .before .before .before .before .if2 .left), (simp (c .before .before .before .before .before .before .before .before .before .before .wide .ensures) at (sym (c .before .before .before .before .before .before .before .before .before .within2 .ensures) ∙ not-false _ (c .before .before .before .before .before .before .before .before .if3 .left))), sym (c .before .before .before .before .before .before .before .whole .ensures) ∙ not-false _ (c .before .before .before .before .before .before .if4 .left), eq-eqb _ _ (simp (c .before .before .before .before .before .total .ensures) at (c .before .before .before .before .if5 .left)), any-missed (frameOutside (c .before .before .before .before .before .before .before .before .before .before .before .before .before .before .before .before .before .args .frames .now) (c .before .before .before .before .before .before .before .before .before .before .before .before .before .before .before .before .before .args .words)) _ _ (c .before .before .before .first-outside .ensures) (c .before .before .if6 .left), any-found (frameKept (c .before .before .before .before .before .before .before .before .before .before .before .before .before .before .before .before .before .args .frames .now)) _ _ (c .before .first-kept .ensures) (c .if7 .taken), c .before .first-kept .ensures)
+
+first-repeat-requires : tie.Need-first-repeat-requires
+first-repeat-requires c κs = below (c .before .before .before .before .before .before .before .before .before .before .before .before .before .before .before .before .before .args .frames .now) _ _ (sym (c .before .before .before .before .before .before .before .whole .ensures) ∙ not-false _ (c .before .before .before .before .before .before .if4 .left)) (c .before .before .before .first-outside .ensures) (c .before .before .if6 .left)
 
 returns-8 : tie.Need-returns-8
 unfolding bootVerdict firstOf
-returns-8 c = simp (sym (c .before .before .before .before .before .before .before .before .before .before .before .before .before .before .within .ensures) ∙ not-false _ (c .before .before .before .before .before .before .before .before .before .before .before .before .before .if1 .left), any-missed (pagesWrong (c .before .before .before .before .before .before .before .before .before .before .before .before .before .before .before .before .before .args .pages .now)) _ _ (c .before .before .before .before .before .before .before .before .before .before .before .before .first-wrong .ensures) (c .before .before .before .before .before .before .before .before .before .before .before .if2 .left), (simp (c .before .before .before .before .before .before .before .before .before .before .wide .ensures) at (sym (c .before .before .before .before .before .before .before .before .before .within2 .ensures) ∙ not-false _ (c .before .before .before .before .before .before .before .before .if3 .left))), sym (c .before .before .before .before .before .before .before .whole .ensures) ∙ not-false _ (c .before .before .before .before .before .before .if4 .left), eq-eqb _ _ (simp (c .before .before .before .before .before .total .ensures) at (c .before .before .before .before .if5 .left)), any-missed (frameOutside (c .before .before .before .before .before .before .before .before .before .before .before .before .before .before .before .before .before .args .frames .now) (c .before .before .before .before .before .before .before .before .before .before .before .before .before .before .before .before .before .args .words)) _ _ (c .before .before .before .first-outside .ensures) (c .before .before .if6 .left), any-missed (stoodEarlier (c .before .before .before .before .before .before .before .before .before .before .before .before .before .before .before .before .before .args .frames .now)) _ _ (c .before .first-repeat .ensures) (c .if7 .left))
+returns-8 c = simp (sym (c .before .before .before .before .before .before .before .before .before .before .before .before .before .before .before .before .within .ensures) ∙ not-false _ (c .before .before .before .before .before .before .before .before .before .before .before .before .before .before .before .if1 .left), any-missed (pagesWrong (c .before .before .before .before .before .before .before .before .before .before .before .before .before .before .before .before .before .before .before .args .pages .now)) _ _ (c .before .before .before .before .before .before .before .before .before .before .before .before .before .before .first-wrong .ensures) (c .before .before .before .before .before .before .before .before .before .before .before .before .before .if2 .left), (simp (c .before .before .before .before .before .before .before .before .before .before .before .before .wide .ensures) at (sym (c .before .before .before .before .before .before .before .before .before .before .before .within2 .ensures) ∙ not-false _ (c .before .before .before .before .before .before .before .before .before .before .if3 .left))), sym (c .before .before .before .before .before .before .before .before .before .whole .ensures) ∙ not-false _ (c .before .before .before .before .before .before .before .before .if4 .left), eq-eqb _ _ (simp (c .before .before .before .before .before .before .before .total .ensures) at (c .before .before .before .before .before .before .if5 .left)), any-missed (frameOutside (c .before .before .before .before .before .before .before .before .before .before .before .before .before .before .before .before .before .before .before .args .frames .now) (c .before .before .before .before .before .before .before .before .before .before .before .before .before .before .before .before .before .before .before .args .words)) _ _ (c .before .before .before .before .before .first-outside .ensures) (c .before .before .before .before .if6 .left), any-missed (frameKept (c .before .before .before .before .before .before .before .before .before .before .before .before .before .before .before .before .before .before .before .args .frames .now)) _ _ (c .before .before .before .first-kept .ensures) (c .before .before .if7 .left), any-found (stoodEarlier (c .before .before .before .before .before .before .before .before .before .before .before .before .before .before .before .before .before .before .before .args .frames .now)) _ _ (c .before .first-repeat .ensures) (c .if8 .taken), c .before .first-repeat .ensures)
+
+returns-9 : tie.Need-returns-9
+unfolding bootVerdict firstOf
+returns-9 c = simp (sym (c .before .before .before .before .before .before .before .before .before .before .before .before .before .before .before .before .within .ensures) ∙ not-false _ (c .before .before .before .before .before .before .before .before .before .before .before .before .before .before .before .if1 .left), any-missed (pagesWrong (c .before .before .before .before .before .before .before .before .before .before .before .before .before .before .before .before .before .before .before .args .pages .now)) _ _ (c .before .before .before .before .before .before .before .before .before .before .before .before .before .before .first-wrong .ensures) (c .before .before .before .before .before .before .before .before .before .before .before .before .before .if2 .left), (simp (c .before .before .before .before .before .before .before .before .before .before .before .before .wide .ensures) at (sym (c .before .before .before .before .before .before .before .before .before .before .before .within2 .ensures) ∙ not-false _ (c .before .before .before .before .before .before .before .before .before .before .if3 .left))), sym (c .before .before .before .before .before .before .before .before .before .whole .ensures) ∙ not-false _ (c .before .before .before .before .before .before .before .before .if4 .left), eq-eqb _ _ (simp (c .before .before .before .before .before .before .before .total .ensures) at (c .before .before .before .before .before .before .if5 .left)), any-missed (frameOutside (c .before .before .before .before .before .before .before .before .before .before .before .before .before .before .before .before .before .before .before .args .frames .now) (c .before .before .before .before .before .before .before .before .before .before .before .before .before .before .before .before .before .before .before .args .words)) _ _ (c .before .before .before .before .before .first-outside .ensures) (c .before .before .before .before .if6 .left), any-missed (frameKept (c .before .before .before .before .before .before .before .before .before .before .before .before .before .before .before .before .before .before .before .args .frames .now)) _ _ (c .before .before .before .first-kept .ensures) (c .before .before .if7 .left), any-missed (stoodEarlier (c .before .before .before .before .before .before .before .before .before .before .before .before .before .before .before .before .before .before .before .args .frames .now)) _ _ (c .before .first-repeat .ensures) (c .if8 .left))
 
 pub first-refusal-spec : {M : Type 1} → statement M
 first-refusal-spec =
@@ -83,6 +90,8 @@ first-refusal-spec =
     returns-5
     first-outside-requires
     returns-6
-    first-repeat-requires
+    first-kept-requires
     returns-7
-    returns-8)
+    first-repeat-requires
+    returns-8
+    returns-9)
