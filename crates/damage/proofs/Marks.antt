@@ -22,7 +22,7 @@ use Rattle.house.specs.declared.House.{House}
 use Rattle.house.proofs.Lists.Bounded.{one-way, same-test, or-left, or-right, any-yes, any-at, any-none, any-same, and-right}
 use Rattle.marks.specs.Marked.{marked, twiceMarked}
 use Rattle.marks.proofs.Marked.{marked-length, marked-at}
-use Rattle.damage.specs.Marks.{Within, shadowMarked, shadowOutside, pagesAt, partAt, pagesOutside, frameOutside, framesOutside, ownersOf, twiceAt, twiceIn, entryMarked, outside, turnOutside, registersAt, roomWrong, queueAt, inside}
+use Rattle.damage.specs.Marks.{Within, shadowMarked, shadowOutside, pagesAt, partAt, pagesOutside, barredAt, framesBarred, ownersOf, twiceAt, twiceIn, entryMarked, outside, turnOutside, registersAt, roomWrong, queueAt, inside}
 
 -- partition i's part of a list, as the code lends it
 pub part-is : (l : List ℕ) (i : ℕ) → take (i * 256 + 256 - i * 256) (drop (i * 256) l) ≡ partAt l i
@@ -127,13 +127,13 @@ none-of-five false false false false e h = (refl, refl, refl, refl, h)
 pub within : (count q words : ℕ) (ps : List Partition) (fr : List ℕ) → outside count q words ps fr ≡ false → Within count ps fr
 within count q words ps fr h =
     let size = words / 1024 in
-    let f = none-of-five (not (between 1 count 8)) (any (pagesOutside ps) count) (not (between 1 q 10000)) (not (wholeFrames words)) (any (framesOutside ps fr size) count) h in
+    let f = none-of-five (not (between 1 count 8)) (any (pagesOutside ps) count) (not (between 1 q 10000)) (not (wholeFrames words)) (any (framesBarred ps fr size) count) h in
     record {
       few = leb-true count 8 (and-right (leb 1 count) (leb count 8) (not-false (between 1 count 8) (f .0)));
       pages = pages-within ps count (f .1);
       below = λ i l k m.
           let small : size ≤ 1024 = leb-true size 1024 (and-right (leb 1 size) (leb size 1024) (and-right (eqb (words % 1024) 0) (between 1 size 1024) (not-false (wholeFrames words) (f .3)))) in
-          let less : getD (partAt fr i) k 0 < size = leb-false size (getD (partAt fr i) k 0) (any-none (frameOutside (partAt fr i) size) (pagesAt ps i) (any-none (framesOutside ps fr size) count (f .4) i l) k m) in
+          let less : getD (partAt fr i) k 0 < size = leb-false size (getD (partAt fr i) k 0) (or-left _ (eqb (getD (partAt fr i) k 0) 0) (any-none (barredAt (partAt fr i) size) (pagesAt ps i) (any-none (framesBarred ps fr size) count (f .4) i l) k m)) in
           omega (arith, small, less);
     }
 

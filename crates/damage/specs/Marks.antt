@@ -12,7 +12,7 @@ use Rattle.translate.specs.Walk.{entries}
 use Rattle.dlx.specs.Parts.{inner}
 use Rattle.house.specs.Lists.{any, between}
 use Rattle.house.specs.House.{noPartition}
-use Rattle.house.specs.Damage.{wholeFrames, stands, entryWrong, notZero, partitionUsed}
+use Rattle.house.specs.Damage.{wholeFrames, frameBarred, stands, entryWrong, notZero, partitionUsed}
 use Rattle.marks.specs.Marked.{marked}
 
 -- partition i's page count, and its part of the frames or of the shadows
@@ -27,11 +27,11 @@ partAt l i = inner (i * 256) 256 l
 abbrev pub pagesOutside : List Partition → ℕ → Bool
 pagesOutside ps i = not (between 1 (pagesAt ps i) 256)
 
-abbrev pub frameOutside : List ℕ → ℕ → ℕ → Bool
-frameOutside fr size k = leb size (getD fr k 0)
+abbrev pub barredAt : List ℕ → ℕ → ℕ → Bool
+barredAt fr size k = frameBarred size (getD fr k 0)
 
-abbrev pub framesOutside : List Partition → List ℕ → ℕ → ℕ → Bool
-framesOutside ps fr size i = any (frameOutside (partAt fr i) size) (pagesAt ps i)
+abbrev pub framesBarred : List Partition → List ℕ → ℕ → ℕ → Bool
+framesBarred ps fr size i = any (barredAt (partAt fr i) size) (pagesAt ps i)
 
 abbrev pub outside : ℕ → ℕ → ℕ → List Partition → List ℕ → Bool
 outside count q words ps fr =
@@ -39,7 +39,7 @@ outside count q words ps fr =
     || any (pagesOutside ps) count
     || not (between 1 q 10000)
     || not (wholeFrames words)
-    || any (framesOutside ps fr (words / 1024)) count
+    || any (framesBarred ps fr (words / 1024)) count
 
 -- what they give
 pub record Within (count : ℕ) (ps : List Partition) (fr : List ℕ) : Type 0 where

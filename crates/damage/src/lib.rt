@@ -7,7 +7,7 @@ ghost use Rattle.translate.specs.Walk.{entries};
 ghost use Rattle.house.specs.Lists.{any};
 ghost use Rattle.house.specs.House.{noPartition};
 ghost use Rattle.house.specs.Damage.{damaged, partitionUsed, notZero};
-ghost use Rattle.damage.specs.Marks.{Within, inside, pagesAt, partAt, pagesOutside, frameOutside, framesOutside, outside, ownersOf, twiceIn, entryMarked, shadowMarked, turnOutside, processorWrong, registersAt, behind, roomWrong, countWrong, queueOutside, queueAt};
+ghost use Rattle.damage.specs.Marks.{Within, inside, pagesAt, partAt, pagesOutside, barredAt, framesBarred, outside, ownersOf, twiceIn, entryMarked, shadowMarked, turnOutside, processorWrong, registersAt, behind, roomWrong, countWrong, queueOutside, queueAt};
 use dlx::partition::Partition;
 use dlx::partition::Processor;
 use dlx::words::wide;
@@ -57,14 +57,18 @@ fn pages_outside(parts: [Partition; 8], n: usize) -> bool
     false
 }
 
-// One of the first n frames of a list lies outside the memory.
-fn frame_outside(frames: &[u32], n: usize, size: u32) -> bool
+// One of the first n frames of a list lies outside a memory of so many frames, or is frame 0.
+fn frame_barred(frames: &[u32], n: usize, size: u32) -> bool
     requires { ⌜ n ≤ length (now frames) ⌝ }
-    ensures { λ r. ⌜ r ≡ any (frameOutside (now (frames .entry)) size) n ⌝ }
+    ensures { λ r. ⌜ r ≡ any (barredAt (now (frames .entry)) size) n ⌝ }
 {
     let mut k = 0;
     while k < n {
-        if frames[k] >= size {
+        let f = frames[k];
+        if f >= size {
+            return true;
+        }
+        if f == 0 {
             return true;
         }
         k += 1;
@@ -72,17 +76,17 @@ fn frame_outside(frames: &[u32], n: usize, size: u32) -> bool
     false
 }
 
-// A frame of the first n partitions lies outside the memory.
-fn frames_outside(parts: [Partition; 8], frames: &[u32], n: usize, size: u32) -> bool
+// A frame of the first n partitions lies outside the memory, or is frame 0.
+fn frames_barred(parts: [Partition; 8], frames: &[u32], n: usize, size: u32) -> bool
     requires { ⌜ (n ≤ 8) × (length (now frames) ≡ 2048) × ((i : ℕ) → i < n → pagesAt parts i ≤ 256) ⌝ }
-    ensures { λ r. ⌜ r ≡ any (framesOutside parts (now (frames .entry)) size) n ⌝ }
+    ensures { λ r. ⌜ r ≡ any (framesBarred parts (now (frames .entry)) size) n ⌝ }
 {
     let mut i: usize = 0;
     while i < n {
         let pages = wide(pages_at(parts, i));
         let a = i * 256;
         let e = a + 256;
-        if frame_outside(&frames[a..e], pages, size) {
+        if frame_barred(&frames[a..e], pages, size) {
             return true;
         }
         i += 1;
@@ -121,7 +125,7 @@ fn outside_limits(count: u32, q: u32, words: u32, parts: [Partition; 8], frames:
     if size > 1024 {
         return true;
     }
-    frames_outside(parts, frames, n, size)
+    frames_barred(parts, frames, n, size)
 }
 
 // Marks the frames of the first n partitions, up to one that stands twice.

@@ -6,12 +6,12 @@ use Prim.Native.Nat.{_≤_, _-_, zero-le}
 use Rattle.dlx.specs.Parts.{inner}
 use Rattle.house.specs.Lists.{any}
 use Rattle.house.proofs.Lists.Bounded.{any-more, any-yes}
-use Rattle.damage.specs.Marks.{framesOutside}
-use Rattle.damage.proofs.frames_outside.Statement.{statement}
-use Rattle.damage.proofs.frames_outside.Tie as tie
+use Rattle.damage.specs.Marks.{framesBarred}
+use Rattle.damage.proofs.frames_barred.Statement.{statement}
+use Rattle.damage.proofs.frames_barred.Tie as tie
 
 abbrev Inv-loop : tie.InvT-loop
-Inv-loop parts frames n size i₀ i = (any (framesOutside parts frames size) i ≡ false) × (i ≤ n)
+Inv-loop parts frames n size i₀ i = (any (framesBarred parts frames size) i ≡ false) × (i ≤ n)
 
 abbrev μ-loop : tie.MeasureT-loop
 μ-loop parts frames n size i₀ i = n - i
@@ -32,25 +32,25 @@ mul-a c = omega arith
 add-e : tie.Need-add-e Inv-loop μ-loop
 add-e c = omega arith
 
-mul-frame-outside : tie.Need-mul-frame-outside Inv-loop μ-loop
-mul-frame-outside c = omega arith
+mul-frame-barred : tie.Need-mul-frame-barred Inv-loop μ-loop
+mul-frame-barred c = omega arith
 
-sub-frame-outside : tie.Need-sub-frame-outside Inv-loop μ-loop
-sub-frame-outside c = omega arith
+sub-frame-barred : tie.Need-sub-frame-barred Inv-loop μ-loop
+sub-frame-barred c = omega arith
 
-part-frame-outside-start : tie.Need-part-frame-outside-start Inv-loop μ-loop
-part-frame-outside-start c = omega arith
+part-frame-barred-start : tie.Need-part-frame-barred-start Inv-loop μ-loop
+part-frame-barred-start c = omega arith
 
-part-frame-outside-end : tie.Need-part-frame-outside-end Inv-loop μ-loop
-part-frame-outside-end c = omega arith
+part-frame-barred-end : tie.Need-part-frame-barred-end Inv-loop μ-loop
+part-frame-barred-end c = omega arith
 
-frame-outside-requires : tie.Need-frame-outside-requires Inv-loop μ-loop
-frame-outside-requires c κs = omega (arith, c .before .wide .ensures, c .before .before .pages-at .ensures, c .before .before .before .before .before .before .pre .2 (c .before .before .before .before .loop .i) (c .before .before .before .loop-test .taken))
+frame-barred-requires : tie.Need-frame-barred-requires Inv-loop μ-loop
+frame-barred-requires c κs = omega (arith, c .before .wide .ensures, c .before .before .pages-at .ensures, c .before .before .before .before .before .before .pre .2 (c .before .before .before .before .loop .i) (c .before .before .before .loop-test .taken))
 
 returns : tie.Need-returns Inv-loop μ-loop
 unfolding inner
 returns c = let a = c .before .before .before .before .before .before .before .before .args in let l = c .before .before .before .before .before .before .loop in
-    sym (any-yes (framesOutside (a .parts) (a .frames .now) (a .size)) (a .n) (l .i) (c .before .before .before .before .before .loop-test .taken) (simp (add-sub-cancel-left, c .before .before .before .wide .ensures ∙ c .before .before .before .before .pages-at .ensures) at (sym (c .before .frame-outside .ensures) ∙ c .if1 .taken)))
+    sym (any-yes (framesBarred (a .parts) (a .frames .now) (a .size)) (a .n) (l .i) (c .before .before .before .before .before .loop-test .taken) (simp (add-sub-cancel-left, c .before .before .before .wide .ensures ∙ c .before .before .before .before .pages-at .ensures) at (sym (c .before .frame-barred .ensures) ∙ c .if1 .taken)))
 
 add-i : tie.Need-add-i Inv-loop μ-loop
 add-i c = omega arith
@@ -61,13 +61,13 @@ loop-less c = omega arith
 loop-again : tie.Need-loop-again Inv-loop μ-loop
 unfolding inner
 loop-again c = let a = c .before .before .before .before .before .before .before .before .args in let l = c .before .before .before .before .before .before .loop in
-    (any-more (framesOutside (a .parts) (a .frames .now) (a .size)) (l .i) (l .inv .0) (simp (add-sub-cancel-left, c .before .before .before .wide .ensures ∙ c .before .before .before .before .pages-at .ensures) at (sym (c .before .frame-outside .ensures) ∙ c .if1 .left)), omega arith)
+    (any-more (framesBarred (a .parts) (a .frames .now) (a .size)) (l .i) (l .inv .0) (simp (add-sub-cancel-left, c .before .before .before .wide .ensures ∙ c .before .before .before .before .pages-at .ensures) at (sym (c .before .frame-barred .ensures) ∙ c .if1 .left)), omega arith)
 
 returns-2 : tie.Need-returns-2 Inv-loop μ-loop
 returns-2 c = sym (rw (le-antisymm (c .loop-test .left) (c .before .loop .inv .1)) (c .before .loop .inv .0))
 
-pub frames-outside-spec : {M : Type 1} → statement M
-frames-outside-spec =
+pub frames-barred-spec : {M : Type 1} → statement M
+frames-barred-spec =
     tie.close
     (tie.spec
     Inv-loop
@@ -77,11 +77,11 @@ frames-outside-spec =
     wide-requires
     mul-a
     add-e
-    mul-frame-outside
-    sub-frame-outside
-    part-frame-outside-start
-    part-frame-outside-end
-    frame-outside-requires
+    mul-frame-barred
+    sub-frame-barred
+    part-frame-barred-start
+    part-frame-barred-end
+    frame-barred-requires
     returns
     add-i
     loop-less

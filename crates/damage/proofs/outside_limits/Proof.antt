@@ -37,11 +37,11 @@ returns-7 c = simp (lt-leb _ _ (c .if7 .taken), eq-eqb _ _ (c .before .if6 .left
 returns-8 : tie.Need-returns-8
 returns-8 c = simp (lt-leb _ _ (c .if8 .taken), le-leb _ _ (c .before .if7 .left), eq-eqb _ _ (c .before .before .if6 .left), le-leb _ _ (c .before .before .before .if5 .left), le-leb _ _ (c .before .before .before .before .if4 .left), (simp (c .before .before .before .before .before .before .pages-outside .ensures, c .before .before .before .before .before .before .before .wide .ensures) at (c .before .before .before .before .before .if3 .left)), le-leb _ _ (c .before .before .before .before .before .before .before .before .if2 .left), le-leb _ _ (c .before .before .before .before .before .before .before .before .before .if1 .left))
 
-frames-outside-requires : tie.Need-frames-outside-requires
-frames-outside-requires c κs = (omega (arith, c .before .before .before .before .before .before .before .wide .ensures), c .before .before .before .before .before .before .before .before .before .before .before .pre, pages-within (c .before .before .before .before .before .before .before .before .before .before .before .args .parts) (c .before .before .before .before .before .before .before .wide .result) (sym (c .before .before .before .before .before .before .pages-outside .ensures) ∙ c .before .before .before .before .before .if3 .left))
+frames-barred-requires : tie.Need-frames-barred-requires
+frames-barred-requires c κs = (omega (arith, c .before .before .before .before .before .before .before .wide .ensures), c .before .before .before .before .before .before .before .before .before .before .before .pre, pages-within (c .before .before .before .before .before .before .before .before .before .before .before .args .parts) (c .before .before .before .before .before .before .before .wide .result) (sym (c .before .before .before .before .before .before .pages-outside .ensures) ∙ c .before .before .before .before .before .if3 .left))
 
 returns-9 : tie.Need-returns-9
-returns-9 c = simp (c .frames-outside .ensures, c .before .before .before .before .before .before .before .before .wide .ensures, le-leb _ _ (c .before .if8 .left), le-leb _ _ (c .before .before .if7 .left), eq-eqb _ _ (c .before .before .before .if6 .left), le-leb _ _ (c .before .before .before .before .if5 .left), le-leb _ _ (c .before .before .before .before .before .if4 .left), (simp (c .before .before .before .before .before .before .before .pages-outside .ensures, c .before .before .before .before .before .before .before .before .wide .ensures) at (c .before .before .before .before .before .before .if3 .left)), le-leb _ _ (c .before .before .before .before .before .before .before .before .before .if2 .left), le-leb _ _ (c .before .before .before .before .before .before .before .before .before .before .if1 .left))
+returns-9 c = simp (c .frames-barred .ensures, c .before .before .before .before .before .before .before .before .wide .ensures, le-leb _ _ (c .before .if8 .left), le-leb _ _ (c .before .before .if7 .left), eq-eqb _ _ (c .before .before .before .if6 .left), le-leb _ _ (c .before .before .before .before .if5 .left), le-leb _ _ (c .before .before .before .before .before .if4 .left), (simp (c .before .before .before .before .before .before .before .pages-outside .ensures, c .before .before .before .before .before .before .before .before .wide .ensures) at (c .before .before .before .before .before .before .if3 .left)), le-leb _ _ (c .before .before .before .before .before .before .before .before .before .if2 .left), le-leb _ _ (c .before .before .before .before .before .before .before .before .before .before .if1 .left))
 
 pub outside-limits-spec : {M : Type 1} → statement M
 outside-limits-spec =
@@ -57,5 +57,5 @@ outside-limits-spec =
     returns-6
     returns-7
     returns-8
-    frames-outside-requires
+    frames-barred-requires
     returns-9)
