@@ -305,10 +305,10 @@ impl Guest {
 const PAGES: u32 = 67;
 
 /// Guest page 0 has the start, page 1 the page table, page 2 the loop, pages 3 to 66 the data. The user's page 0 is the
-/// loop, its pages 1 to 64 the data. The frames are a permutation.
+/// loop, its pages 1 to 64 the data. The frames are a permutation of the frames 1 to 67.
 fn guest() -> Guest {
-    let frames: Vec<u32> = (0..PAGES).map(|k| (k * 13 + 5) % PAGES).collect();
-    let mut words = vec![0; PAGES as usize * 1024];
+    let frames: Vec<u32> = (0..PAGES).map(|k| (k * 13 + 5) % PAGES + 1).collect();
+    let mut words = vec![0; (PAGES as usize + 1) * 1024];
     let mut fill = |page: u32, list: &[u32]| {
         let at = frames[page as usize] as usize * 1024;
         words[at..at + list.len()].copy_from_slice(list);

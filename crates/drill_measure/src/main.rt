@@ -12,16 +12,16 @@ use hypervisor::calls::run;
 use libc::STDIN_FILENO;
 use libc::STDOUT_FILENO;
 
-// The frame of a guest page: the list of the 67 is a permutation.
+// The frame of a guest page: the list of the 67 is a permutation of the frames 1 to 67.
 fn frame_of(page: u32) -> u32 {
-    (page % 67 * 13 + 5) % 67
+    (page % 67 * 13 + 5) % 67 + 1
 }
 
 // A word of a guest page.
-fn put(words: &mut [u32; 68608], page: u32, at: u32, w: u32) {
-    let base = frame_of(page) % 67 * 1024;
+fn put(words: &mut [u32; 69632], page: u32, at: u32, w: u32) {
+    let base = frame_of(page) % 68 * 1024;
     let i = wide(base + at % 1024);
-    if i < 68608 {
+    if i < 69632 {
         words[i] = w;
     }
 }
@@ -36,7 +36,7 @@ fn list_frames(frames: &mut [u32; 67]) {
 }
 
 // The page table, in page 1: the user's page 0 is the loop, in page 2, and its pages 1 to 64 are pages 3 to 66.
-fn put_table(words: &mut [u32; 68608]) {
+fn put_table(words: &mut [u32; 69632]) {
     let mut px: u32 = 0;
     while px < 65 {
         put(words, 1, px, (px + 2) * 4096 + 2048);
@@ -45,7 +45,7 @@ fn put_table(words: &mut [u32; 68608]) {
 }
 
 // The start, in page 0: it sets the table and goes to user mode.
-fn put_start(words: &mut [u32; 68608]) {
+fn put_start(words: &mut [u32; 69632]) {
     put(words, 0, 0, 0x2001_0001); // addi r1, r0, 1
     put(words, 0, 1, 0x0020_01D1); // movi2s PTO, r1
     put(words, 0, 2, 0x0020_0251); // movi2s EMODE, r1
@@ -57,7 +57,7 @@ fn put_start(words: &mut [u32; 68608]) {
 }
 
 // The loop, in page 2.
-fn put_loop(words: &mut [u32; 68608]) {
+fn put_loop(words: &mut [u32; 69632]) {
     put(words, 2, 0, 0x20A5_0001); // addi r5, r5, 1
     put(words, 2, 1, 0x30A1_03FF); // andi r1, r5, 1023
     put(words, 2, 2, 0x0021_0820); // add r1, r1, r1
@@ -119,7 +119,7 @@ fn mixed_registers(h: u64, regs: &[u32; 256]) -> u64 {
 }
 
 // Of the first partition and the memory.
-fn digest(house: House, words: &[u32; 68608]) -> u64 {
+fn digest(house: House, words: &[u32; 69632]) -> u64 {
     let regs = house.regs;
     let parts = house.parts;
     let part = parts[0];
@@ -165,17 +165,17 @@ fn refused(a: Answer) {
 }
 
 // One partition of 67 pages.
-fn booted(q: u32, frames: &[u32; 67], words: &[u32; 68608]) -> Answer {
+fn booted(q: u32, frames: &[u32; 67], words: &[u32; 69632]) -> Answer {
     let pages = [67u32; 1];
     boot(&pages, q, frames, words)
 }
 
-fn ran(house: House, words: &mut [u32; 68608], steps: u32) -> Answer {
+fn ran(house: House, words: &mut [u32; 69632], steps: u32) -> Answer {
     run(house, words, steps)
 }
 
 fn measure(steps: u32, q: u32) {
-    let mut words = [0u32; 68608];
+    let mut words = [0u32; 69632];
     let mut frames = [0u32; 67];
     list_frames(&mut frames);
     put_table(&mut words);

@@ -73,10 +73,11 @@ says pages frames = both (isRight pages frames (word 0 0))
 
 unfoldable pub files : List Bool
 files =
-    -- a list; two; an empty one, which is boot's to refuse; one of 256 frames; eight lists
-    says (1 ∷ []) (0 ∷ []) (turns ++ (list (0 ∷ []) ++ end))
+    -- a list; two; an empty one and one that names frame 0, which are boot's to refuse; one of 256 frames; eight lists
+    says (1 ∷ []) (1 ∷ []) (turns ++ (list (1 ∷ []) ++ end))
     ∷ says (1 ∷ 2 ∷ []) (5 ∷ 0xFFFFFFFF ∷ 0x04030201 ∷ []) (turns ++ (list (5 ∷ []) ++ (list (0xFFFFFFFF ∷ 0x04030201 ∷ []) ++ end)))
     ∷ says (0 ∷ []) [] (turns ++ (list [] ++ end))
+    ∷ says (2 ∷ []) (0 ∷ 3 ∷ []) (turns ++ (list (0 ∷ 3 ∷ []) ++ end))
     ∷ says (256 ∷ []) (replicate 256 9) (turns ++ (list (replicate 256 9) ++ end))
     ∷ says (replicate 8 1) (replicate 8 9) (turns ++ (times 8 (list (9 ∷ [])) ++ end))
     -- a ninth list
@@ -86,30 +87,30 @@ files =
     ∷ wrongAt 14 (turns ++ (made 2 (replicate 6 0) ++ end))
     -- an empty file; a header cut short; a body cut short; an end before kind 4
     ∷ wrongAt 0 []
-    ∷ wrongAt 24 (turns ++ (list (0 ∷ []) ++ take 5 end))
-    ∷ wrongAt 24 (turns ++ (list (0 ∷ []) ++ take 13 (list (1 ∷ 2 ∷ []))))
-    ∷ wrongAt 24 (turns ++ list (0 ∷ []))
+    ∷ wrongAt 24 (turns ++ (list (1 ∷ []) ++ take 5 end))
+    ∷ wrongAt 24 (turns ++ (list (1 ∷ []) ++ take 13 (list (1 ∷ 2 ∷ []))))
+    ∷ wrongAt 24 (turns ++ list (1 ∷ []))
     -- a byte after kind 4
-    ∷ wrongAt 30 (turns ++ (list (0 ∷ []) ++ (end ++ (0 ∷ []))))
+    ∷ wrongAt 30 (turns ++ (list (1 ∷ []) ++ (end ++ (0 ∷ []))))
     -- no kind 1; two; no kind 2; a kind 3 before it
-    ∷ wrongAt 0 (list (0 ∷ []) ++ end)
-    ∷ wrongAt 14 (turns ++ (turns ++ (list (0 ∷ []) ++ end)))
+    ∷ wrongAt 0 (list (1 ∷ []) ++ end)
+    ∷ wrongAt 14 (turns ++ (turns ++ (list (1 ∷ []) ++ end)))
     ∷ wrongAt 14 (turns ++ end)
-    ∷ wrongAt 14 (turns ++ (frame 0 1 1 ++ (list (0 ∷ []) ++ end)))
+    ∷ wrongAt 14 (turns ++ (frame 0 1 1 ++ (list (1 ∷ []) ++ end)))
     -- a kind 1 of 12 bytes; a kind 4 of one; kinds 0, 5 and 257
-    ∷ wrongAt 0 (made 1 (words (2 ∷ 3 ∷ 4 ∷ [])) ++ (list (0 ∷ []) ++ end))
-    ∷ wrongAt 24 (turns ++ (list (0 ∷ []) ++ made 4 (0 ∷ [])))
-    ∷ wrongAt 24 (turns ++ (list (0 ∷ []) ++ (made 0 [] ++ end)))
-    ∷ wrongAt 24 (turns ++ (list (0 ∷ []) ++ (made 5 [] ++ end)))
-    ∷ wrongAt 0 (made 257 (words (2 ∷ 3 ∷ [])) ++ (list (0 ∷ []) ++ end))
+    ∷ wrongAt 0 (made 1 (words (2 ∷ 3 ∷ 4 ∷ [])) ++ (list (1 ∷ []) ++ end))
+    ∷ wrongAt 24 (turns ++ (list (1 ∷ []) ++ made 4 (0 ∷ [])))
+    ∷ wrongAt 24 (turns ++ (list (1 ∷ []) ++ (made 0 [] ++ end)))
+    ∷ wrongAt 24 (turns ++ (list (1 ∷ []) ++ (made 5 [] ++ end)))
+    ∷ wrongAt 0 (made 257 (words (2 ∷ 3 ∷ [])) ++ (list (1 ∷ []) ++ end))
     -- frame 16; a frame of 4,096 bytes
-    ∷ wrongAt 24 (turns ++ (list (0 ∷ []) ++ (frame 16 1 1 ++ end)))
-    ∷ wrongAt 24 (turns ++ (list (0 ∷ []) ++ (made 3 (replicate 4096 0) ++ end)))
-    -- a later frame replaces (as a whole only: `reads` says that byte by byte gives the same)
-    ∷ isRight (1 ∷ []) (0 ∷ []) (λ m. word 0 8 m && word 1 9 m && word 1023 9 m && word 1024 0 m) (readingOf (turns ++ (list (0 ∷ []) ++ (frame 0 7 7 ++ (frame 0 8 9 ++ end)))))
+    ∷ wrongAt 24 (turns ++ (list (1 ∷ []) ++ (frame 16 1 1 ++ end)))
+    ∷ wrongAt 24 (turns ++ (list (1 ∷ []) ++ (made 3 (replicate 4096 0) ++ end)))
+    -- frame 0 may be filled, and a later frame replaces (as a whole only: `reads` says that byte by byte gives the same)
+    ∷ isRight (1 ∷ []) (1 ∷ []) (λ m. word 0 8 m && word 1 9 m && word 1023 9 m && word 1024 0 m) (readingOf (turns ++ (list (1 ∷ []) ++ (frame 0 7 7 ++ (frame 0 8 9 ++ end)))))
     -- frame 15 is the last; a list after a frame
-    ∷ isRight (1 ∷ []) (0 ∷ []) (λ m. word 15359 0 m && word 15360 3 m && word 16383 4 m) (readingOf (turns ++ (list (0 ∷ []) ++ (frame 15 3 4 ++ end))))
-    ∷ isWrong 4130 (readingOf (turns ++ (list (0 ∷ []) ++ (frame 15 3 4 ++ (list (1 ∷ []) ++ end)))))
+    ∷ isRight (1 ∷ []) (1 ∷ []) (λ m. word 15359 0 m && word 15360 3 m && word 16383 4 m) (readingOf (turns ++ (list (1 ∷ []) ++ (frame 15 3 4 ++ end))))
+    ∷ isWrong 4130 (readingOf (turns ++ (list (1 ∷ []) ++ (frame 15 3 4 ++ (list (1 ∷ []) ++ end)))))
     ∷ []
 
 unfoldable pub all : List Bool → Bool

@@ -20,13 +20,13 @@ refusals =
     ∷ (refusedText 15 (2 ^ 64 - 1), "refused 15 18446744073709551615\n")
     ∷ []
 
--- one partition of frame 0, q 2, in a memory of 16 frames that begins with 0x20010005, 0xAC010008
+-- one partition of frame 1, which begins with 0x20010005, 0xAC010008, q 2, in a memory of 16 frames
 unfoldable pub first : World
-first = world (bootedHouse (1 ∷ []) 2 (0 ∷ []) 16384) (0x20010005 ∷ 0xAC010008 ∷ replicate 16382 0)
+first = world (bootedHouse (1 ∷ []) 2 (1 ∷ []) 16384) (replicate 1024 0 ++ (0x20010005 ∷ 0xAC010008 ∷ replicate 15358 0))
 
 -- eight partitions of 1 to 8 pages at boot
 unfoldable pub eight : House
-eight = bootedHouse (1 ∷ 2 ∷ 3 ∷ 4 ∷ 5 ∷ 6 ∷ 7 ∷ 8 ∷ []) 1 (listFrom (λ k. k) 0 36) 36864
+eight = bootedHouse (1 ∷ 2 ∷ 3 ∷ 4 ∷ 5 ∷ 6 ∷ 7 ∷ 8 ∷ []) 1 (listFrom (λ k. k) 1 36) 37888
 
 -- every number as large as it can be
 abbrev largest : Partition
