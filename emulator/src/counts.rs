@@ -35,7 +35,7 @@ pub struct Counts {
     /// Traps 256 and 257 in user mode.
     pub user_tickets: u64,
     /// Answers, by house number.
-    pub answers: [u64; 16],
+    pub answers: [u64; 17],
 }
 
 impl Counts {

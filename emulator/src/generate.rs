@@ -9,14 +9,15 @@ mod tickets;
 mod words;
 
 use crate::counts::Counts;
-use crate::house::Answer;
+use crate::house::{Answer, HOUSE_FRAME};
 use crate::memory::FRAME_WORDS;
 use crate::rng::Rng;
 use crate::script::{Command, Player};
 use tickets::Seat;
 
-/// The most frames of a random house: each call's text has a digest of them all.
-const MOST_FRAMES: u32 = 64;
+/// The most frames of a random house, the house's own included: each call's text has a digest of
+/// them all.
+const MOST_FRAMES: u32 = 65;
 
 /// A script and its name.
 #[derive(Clone, Debug)]
@@ -38,11 +39,11 @@ pub struct File {
 
 /// How often each house number must be answered in a million steps.
 pub const ANSWERS_EACH: u64 = 50;
-/// The numbers that scripts give: 0 to 14.
-const SCRIPT_NUMBERS: usize = 15;
+/// The numbers that scripts give: all but 15, which is the house file's.
+pub const SCRIPT_NUMBERS: [usize; 16] = [0, 1, 2, 3, 4, 5, 6, 7, 8, 9, 10, 11, 12, 13, 14, 16];
 
-/// Random scripts, until their guests have done `steps` steps and every house number from 0 to 14
-/// was answered often enough.
+/// Random scripts, until their guests have done `steps` steps and every house number of theirs was
+/// answered often enough.
 pub fn scripts(seed: u64, steps: u64) -> Vec<Script> {
     let mut scripts = Vec::new();
     let mut total = Counts::default();
@@ -59,7 +60,7 @@ pub fn scripts(seed: u64, steps: u64) -> Vec<Script> {
 }
 
 fn few_answers(counts: &Counts, answers: u64) -> bool {
-    counts.answers[..SCRIPT_NUMBERS].iter().any(|&given| given < answers)
+    SCRIPT_NUMBERS.iter().any(|&number| counts.answers[number] < answers)
 }
 
 /// Writes one script of the kind whose turn it is; tells the kind.
@@ -90,6 +91,13 @@ pub fn files(seed: u64, count: usize) -> Vec<File> {
             File { name: format!("{kind} file {number} of seed {seed}"), bytes }
         })
         .collect()
+}
+
+/// The frames below `count` that a partition may have, in random order.
+fn guest_frames(rng: &mut Rng, count: u32) -> Vec<u32> {
+    let mut frames = rng.permutation(count);
+    frames.retain(|&frame| frame != HOUSE_FRAME);
+    frames
 }
 
 /// A script that grows: each command is played at once, so that the next can build on what it did.
@@ -134,8 +142,8 @@ impl Draft {
     /// Boots partitions with the given page counts on shuffled frames, with some frames to spare.
     fn boot(&mut self, pages: &[u32]) {
         let used: u32 = pages.iter().sum();
-        let frames = (used + self.rng.below(4)).min(MOST_FRAMES);
-        let mut list = self.rng.permutation(frames);
+        let frames = (1 + used + self.rng.below(4)).min(MOST_FRAMES);
+        let mut list = guest_frames(&mut self.rng, frames);
         list.truncate(used as usize);
         let q = self.turn_length();
         self.emit(Command::Length { words: frames * FRAME_WORDS as u32 });

@@ -14,10 +14,12 @@ pub const MOST_PAGES: u32 = 256;
 pub const MOST_TURN: u32 = 10_000;
 /// The most frames of the lent memory.
 pub const MOST_FRAMES: usize = 1_024;
+/// The frame that is kept for the house.
+pub const HOUSE_FRAME: u32 = 0;
 /// The longest run.
 pub const MOST_STEPS: u32 = 1_000_000;
 
-/// Why a call is refused, in the order of the house numbers.
+/// Why a call is refused; boot's reasons first, in the order of their tests.
 #[derive(Clone, Copy, Debug, PartialEq, Eq)]
 pub enum Refusal {
     /// Partitions not 1..8.
@@ -32,6 +34,8 @@ pub enum Refusal {
     ListLength,
     /// A frame number is not below the memory's frames: the first such position.
     Frame(usize),
+    /// A list names the frame that is kept for the house: the first such position.
+    HouseFrame(usize),
     /// A frame stands twice: the smallest position whose frame stood earlier.
     Twice(usize),
     /// The house is damaged.
@@ -68,13 +72,17 @@ impl Refusal {
             Refusal::Address => 12,
             Refusal::Output => 13,
             Refusal::TooLong => 14,
+            Refusal::HouseFrame(_) => 16,
         }
     }
 
     /// The detail number.
     pub fn detail(self) -> u64 {
         match self {
-            Refusal::PageCount(at) | Refusal::Frame(at) | Refusal::Twice(at) => at as u64,
+            Refusal::PageCount(at)
+            | Refusal::Frame(at)
+            | Refusal::HouseFrame(at)
+            | Refusal::Twice(at) => at as u64,
             _ => 0,
         }
     }
@@ -302,7 +310,7 @@ impl House {
             || self.running[count..].contains(&true)
     }
 
-    /// A frame outside boot's limits, or twice.
+    /// A frame outside boot's limits, the house's own, or twice.
     fn lists_damaged(&self) -> bool {
         let lists: Vec<u32> =
             self.used().iter().flat_map(|guest| guest.space.list()).copied().collect();
@@ -335,7 +343,7 @@ fn shadow_sound(space: &Space, entry: u32) -> bool {
     entry == 0 || entry & VALID != 0 && unused == 0 && space.list().contains(&(entry >> 12))
 }
 
-/// Boot's refusals, 1 to 7.
+/// Boot's refusals: 1 to 6, 16, 7.
 fn check_boot(pages: &[u32], q: u32, frames: &[u32], memory_words: usize) -> Result<(), Refusal> {
     check_partitions(pages.len())?;
     if let Some(first) = pages.iter().position(|&count| page_count_wrong(count)) {
@@ -375,11 +383,15 @@ fn check_memory(words: usize) -> Result<(), Refusal> {
     Ok(())
 }
 
-/// Every frame below the memory's frames, over the whole list; then no frame twice.
+/// Every frame below the memory's frames; then no frame the house's own; then no frame twice: each
+/// over the whole list.
 fn check_frames(frames: &[u32], memory_words: usize) -> Result<(), Refusal> {
     let most = memory_words / FRAME_WORDS;
     if let Some(first) = frames.iter().position(|&frame| frame as usize >= most) {
         return Err(Refusal::Frame(first));
+    }
+    if let Some(first) = frames.iter().position(|&frame| frame == HOUSE_FRAME) {
+        return Err(Refusal::HouseFrame(first));
     }
     let mut stood = vec![false; most];
     for (at, &frame) in frames.iter().enumerate() {

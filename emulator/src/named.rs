@@ -1,6 +1,7 @@
 //! Scripts and house files with a name: the examples of 01, and what follows from the rules and is
 //! easy to miss.
 
+mod house_frame;
 mod pairs;
 mod tickets;
 
@@ -12,12 +13,12 @@ use crate::dlx::special::{EDPC, EMODE, EPC, ESR, MODE, PTL, PTO, SR};
 use crate::fields::{self, CURRENT, LEFT, Q, RUNNING, WAITING, WORDS};
 use crate::generate::{File, Script};
 use crate::housefile::{record_bytes, word_bytes, PIECE};
-use crate::memory::{FRAME_WORDS, PROTECTED, VALID};
+use crate::memory::{shadow_entry, FRAME_WORDS, PROTECTED, VALID};
 use crate::script::Command;
 
 /// Words of the lent memory in these scripts: 16 frames.
 const MEMORY: u32 = 16 * FRAME_WORDS as u32;
-/// First word of guest page 1 of partition 0, where these scripts have the table.
+/// Place of guest page 1 of partition 0, where these scripts have the table.
 const TABLE: u32 = FRAME_WORDS as u32;
 /// A valid entry for guest page 0.
 const PAGE_0: u32 = VALID;
@@ -26,8 +27,8 @@ const PAGE_1: u32 = 1 << 12 | VALID;
 /// A valid entry for guest page 2.
 const PAGE_2: u32 = 2 << 12 | VALID;
 
-/// A script as it grows. Partition 0 has frames 0, 1, 2 and so on, so that its guest memory stands
-/// at the start of the lent memory.
+/// A script as it grows. Partition 0 has frames 1, 2, 3 and so on, so that its guest memory stands
+/// right behind frame 0, which is the house's; the other partitions' frames follow.
 struct Story(Vec<Command>);
 
 impl Story {
@@ -37,8 +38,8 @@ impl Story {
 
     /// A booted house with the given page counts.
     fn house(pages: &[u32], q: u32) -> Self {
-        let used = pages.iter().sum();
-        Story::new().boot(pages, q, &(0..used).collect::<Vec<u32>>())
+        let used: u32 = pages.iter().sum();
+        Story::new().boot(pages, q, &(1..=used).collect::<Vec<u32>>())
     }
 
     /// A house of one partition in user mode, with these entries in its table.
@@ -60,7 +61,14 @@ impl Story {
         self.then(Command::Length { words })
     }
 
-    fn words(self, first: u32, words: &[u32]) -> Self {
+    /// Words of partition 0's guest memory, and of the other partitions' behind it.
+    fn words(self, place: u32, words: &[u32]) -> Self {
+        self.frame_words(1, place, words)
+    }
+
+    /// Words from a place of a frame on.
+    fn frame_words(self, frame: u32, place: u32, words: &[u32]) -> Self {
+        let first = frame * FRAME_WORDS as u32 + place;
         let pokes = (first..).zip(words);
         pokes.fold(self, |story, (index, &value)| story.then(Command::Poke { index, value }))
     }
@@ -77,8 +85,10 @@ impl Story {
         self.field(fields::register(0, number), value)
     }
 
+    /// Shadow `px` as an entry of partition 0's table would fill it.
     fn shadow(self, px: u32, entry: u32) -> Self {
-        self.field(fields::shadow(0, px), entry)
+        let frame = 1 + (entry >> 12);
+        self.field(fields::shadow(0, px), shadow_entry(frame, entry))
     }
 
     /// Tickets wait for a partition.
@@ -139,6 +149,7 @@ pub fn scripts() -> Vec<Script> {
         turns(),
         tickets::group(),
         calls(),
+        house_frame::group(),
     ];
     let named = |(name, story): (&str, Story)| Script { name: name.into(), commands: story.0 };
     groups.into_iter().flatten().map(named).collect()
@@ -165,7 +176,7 @@ fn instructions() -> Group {
         ("bnez of 2", Story::house(&[1], 5).step(i_type(opcode::BNEZ, 0, 1, 16), 2, 0)),
         (
             "long immediates extend from bit 25",
-            Story::house(&[16], 5).step(j_type(opcode::J, 0x8000), 0, 0).step(
+            Story::house(&[15], 5).step(j_type(opcode::J, 0x8000), 0, 0).step(
                 j_type(opcode::JAL, -8i32 as u32),
                 0,
                 0,
@@ -454,21 +465,25 @@ fn turns() -> Group {
 
 fn calls() -> Group {
     let ones = |count: usize| vec![1; count];
-    let frames = |count: u32| (0..count).collect::<Vec<u32>>();
+    let frames = |count: u32| (1..=count).collect::<Vec<u32>>();
     vec![
         ("8 partitions", Story::new().boot(&ones(8), 1, &frames(8)).run(16)),
         ("9 partitions", Story::new().boot(&ones(9), 1, &frames(9))),
         ("no partitions", Story::new().boot(&[], 1, &[]).run(0).start(0)),
-        ("256 pages", Story::new().length(262_144).boot(&[256], 1, &frames(256)).run(3)),
+        ("255 pages", Story::new().length(262_144).boot(&[255], 1, &frames(255)).run(3)),
+        // The page count passes; the memory of a script has one frame too few for it.
+        ("256 pages", Story::new().length(262_144).boot(&[256], 1, &frames(256))),
         ("257 pages", Story::new().length(262_144).boot(&[1, 257, 0], 1, &frames(258))),
         ("0 pages", Story::new().boot(&[1, 1, 0], 1, &frames(2))),
         ("turn lengths", {
-            let boot = |story: Story, q| story.boot(&[1], q, &[0]);
+            let boot = |story: Story, q| story.boot(&[1], q, &[1]);
             [0, 1, 10_000, 10_001].into_iter().fold(Story::new(), boot)
         }),
         ("memory lengths", {
-            let boot = |story: Story, words| story.length(words).boot(&[1], 1, &[0]);
-            [0, 1_023, 1_024, 1_025, 65_535, 65_536].into_iter().fold(Story::new(), boot)
+            let boot = |story: Story, words| story.length(words).boot(&[1], 1, &[1]);
+            [0, 1_023, 1_025, 2_047, 2_048, 2_049, 65_535, 65_536]
+                .into_iter()
+                .fold(Story::new(), boot)
         }),
         ("list lengths", Story::new().boot(&[2, 1], 1, &frames(2)).boot(&[2, 1], 1, &frames(4))),
         ("frame twice", Story::new().boot(&[2, 2], 1, &[3, 5, 5, 3])),
@@ -484,6 +499,7 @@ fn calls() -> Group {
                 .length(MEMORY)
                 .boot(&[1], 1, &[99, 99])
                 .boot(&[2], 1, &[99, 99])
+                .boot(&[2], 1, &[0, 0])
                 .boot(&[2], 1, &[9, 9]),
         ),
         (
@@ -521,9 +537,9 @@ fn calls() -> Group {
 
 fn read_outs() -> Story {
     Story::new()
-        .boot(&[2, 3], 5, &[4, 2, 7, 0, 1])
-        .words(4 * TABLE + 1_022, &[10, 11])
-        .words(2 * TABLE, &[12, 13])
+        .boot(&[2, 3], 5, &[4, 2, 7, 3, 1])
+        .frame_words(4, 1_022, &[10, 11])
+        .frame_words(2, 0, &[12, 13])
         .read(0, 4_088, 4, 5)
         .read(0, 0, 2_048, 4_096)
         .read(0, 8_192, 0, 0)
@@ -540,7 +556,8 @@ fn read_outs() -> Story {
         .read(1, 12_284, 1, 1)
 }
 
-/// One damage after another, each put right again; the last ones are none.
+/// One damage after another, each put right again; the last ones are none. Partition 0 has frames 1
+/// and 2, partition 1 frame 3.
 fn damages() -> Story {
     let damaged = [
         (fields::COUNT, 0, 2),
@@ -562,17 +579,18 @@ fn damages() -> Story {
         (fields::register(1, 0), 1, 0),
         (fields::special(0, MODE), 2, 0),
         (fields::special(1, EMODE), 2, 0),
-        (fields::frame(0, 1), 16, 1),
-        (fields::frame(0, 1), 2, 1),
+        (fields::frame(0, 1), 16, 2),
+        (fields::frame(0, 1), 3, 2),
         (fields::frame(0, 2), 5, 0),
-        (fields::shadow(0, 9), PAGE_2, 0),
-        (fields::shadow(0, 9), PAGE_1 & !VALID, 0),
+        (fields::shadow(0, 9), shadow_entry(3, 0), 0),
+        (fields::shadow(0, 9), shadow_entry(0, 0), 0),
+        (fields::shadow(0, 9), shadow_entry(2, 0) & !VALID, 0),
         (fields::shadow(0, 9), PROTECTED, 0),
-        (fields::shadow(0, 9), PAGE_1 | 1, 0),
+        (fields::shadow(0, 9), shadow_entry(2, 0) | 1, 0),
         (fields::register(7, 5), 1, 0),
         (fields::scalar(2, fields::COUNTER_HIGH), 1, 0),
         (fields::frame(7, 255), 1, 0),
-        (fields::shadow(7, 255), PAGE_0, 0),
+        (fields::shadow(7, 255), shadow_entry(1, 0), 0),
         (WAITING, 33, 0),
         (WAITING + 1, u32::MAX, 0),
         (fields::ticket(0, 0), 1, 0),
@@ -587,7 +605,7 @@ fn damages() -> Story {
     });
     story
         .run(0)
-        .field(fields::shadow(0, 9), PAGE_1 | PROTECTED)
+        .field(fields::shadow(0, 9), shadow_entry(2, PROTECTED))
         .field(fields::special(0, PTO), u32::MAX)
         .field(fields::special(0, MODE), 1)
         .field(Q, 10_000)
@@ -612,42 +630,52 @@ pub fn files() -> Vec<File> {
     };
     let end = || record_bytes(4, &[]);
     let first = [0x2001_0005, 0xAC01_0008];
-    let one = |q, steps| [turn(q, steps), list(&[0]), load(0, &first), end()].concat();
+    let one = |q, steps| [turn(q, steps), list(&[1]), load(1, &first), end()].concat();
     let second_list = |records: usize| {
         let mut bytes = turn(2, 3);
-        (0..records).for_each(|frame| bytes.extend(list(&[frame as u32])));
+        (0..records).for_each(|before| bytes.extend(list(&[before as u32 + 1])));
         bytes.extend(end());
         bytes
     };
     // Each frame again and again, and the first example behind them all.
     let long = |loads: u32| {
         let again = (0..loads).flat_map(|at| load(at % 16, &[at + 1; 3]));
-        [turn(2, 3), list(&[0]), again.collect(), load(0, &first), end()].concat()
+        [turn(2, 3), list(&[1]), again.collect(), load(1, &first), end()].concat()
     };
     let files = vec![
         ("first example", one(2, 3)),
         ("empty file", Vec::new()),
         ("no kind 2", [turn(2, 3), end()].concat()),
         ("stops after kind 1", turn(2, 3)),
-        ("stops after kind 2", [turn(2, 3), list(&[0])].concat()),
-        ("cut in a head", [turn(2, 3), list(&[0])[..5].to_vec()].concat()),
+        ("stops after kind 2", [turn(2, 3), list(&[1])].concat()),
+        ("cut in a head", [turn(2, 3), list(&[1])[..5].to_vec()].concat()),
         ("cut in a body", one(2, 3)[..500].to_vec()),
-        ("kind 3 before kind 2", [turn(2, 3), load(0, &first), list(&[0]), end()].concat()),
-        ("kind 2 after kind 3", [one(2, 3)[..4_130].to_vec(), list(&[1]), end()].concat()),
+        ("kind 3 before kind 2", [turn(2, 3), load(1, &first), list(&[1]), end()].concat()),
+        ("kind 2 after kind 3", [one(2, 3)[..4_130].to_vec(), list(&[2]), end()].concat()),
         ("eight of kind 2", second_list(8)),
         ("nine of kind 2", second_list(9)),
         ("extra byte", [one(2, 3), vec![0]].concat()),
-        ("kind 4 with a body", [turn(2, 3), list(&[0]), record_bytes(4, &[0])].concat()),
-        ("empty kind 2", [turn(2, 3), list(&[0]), list(&[]), end()].concat()),
-        ("256 frames", [turn(2, 3), list(&(0..256).collect::<Vec<_>>()), end()].concat()),
-        ("257 frames", [turn(2, 3), list(&(0..257).collect::<Vec<_>>()), end()].concat()),
+        ("kind 4 with a body", [turn(2, 3), list(&[1]), record_bytes(4, &[0])].concat()),
+        ("empty kind 2", [turn(2, 3), list(&[1]), list(&[]), end()].concat()),
+        ("256 frames", [turn(2, 3), list(&(1..257).collect::<Vec<_>>()), end()].concat()),
+        ("257 frames", [turn(2, 3), list(&(1..258).collect::<Vec<_>>()), end()].concat()),
         ("kind 2 of 6 bytes", [turn(2, 3), record_bytes(2, &[0; 6]), end()].concat()),
         ("kind 2 frame 16", [turn(2, 3), list(&[3, 16]), end()].concat()),
-        ("kind 3 frame 16", [turn(2, 3), list(&[0]), load(16, &first), end()].concat()),
+        ("kind 3 frame 16", [turn(2, 3), list(&[1]), load(16, &first), end()].concat()),
         ("a later kind 3 replaces", {
             [turn(2, 3), list(&[5]), load(5, &first), load(5, &[nop(); 5]), end()].concat()
         }),
         ("frame twice", [turn(2, 3), list(&[3, 5]), list(&[5, 3]), end()].concat()),
+        ("frame 0", [turn(2, 3), list(&[3]), list(&[5, 0]), end()].concat()),
+        ("frame 0 twice", [turn(2, 3), list(&[3, 0]), list(&[0, 5]), end()].concat()),
+        ("frame 0 and a frame twice", [turn(2, 3), list(&[3, 3, 0]), end()].concat()),
+        ("frame 0 and a frame too large", [turn(2, 3), list(&[0, 16]), end()].concat()),
+        ("frame 0 and q 0", [turn(0, 3), list(&[0]), end()].concat()),
+        ("frame 0 and too long a run", [turn(2, 1_000_001), list(&[0]), end()].concat()),
+        ("frame 0 and an extra byte", [turn(2, 3), list(&[0]), end(), vec![0]].concat()),
+        ("a kind 3 fills frame 0", {
+            [turn(2, 3), list(&[1]), load(1, &first), load(0, &[nop(); 5]), end()].concat()
+        }),
         ("q 0", one(0, 3)),
         ("q 10,001 and an extra byte", [one(10_001, 3), vec![0]].concat()),
         ("run of 0 steps", one(2, 0)),
@@ -660,8 +688,8 @@ pub fn files() -> Vec<File> {
                 let back = i_type(opcode::BEQZ, 0, 3, -8i32 as u32);
                 [addi(2, 0, 1), word, back, nop(), j_type(opcode::J, -4i32 as u32), nop()]
             };
-            let (sender, taker) = (load(0, &until(send())), load(1, &until(take())));
-            [turn(101, 202), list(&[0]), list(&[1]), sender, taker, end()].concat()
+            let (sender, taker) = (load(1, &until(send())), load(2, &until(take())));
+            [turn(101, 202), list(&[1]), list(&[2]), sender, taker, end()].concat()
         }),
         ("above 64 KiB", long(16)),
         ("above 128 KiB", long(32)),

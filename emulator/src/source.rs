@@ -283,10 +283,10 @@ mod tests {
     #[test]
     fn a_whole_file() {
         let source =
-            "turns 2 run 3\npartition 0 3\nframe 0\n addi r1 r0 5 # five\n sw r1 r0 8\nend\n";
+            "turns 2 run 3\npartition 1 3\nframe 1\n addi r1 r0 5 # five\n sw r1 r0 8\nend\n";
         let file = read(&bytes(source).unwrap()).unwrap();
-        assert_eq!((file.q, file.steps, file.lists), (2, 3, vec![vec![0, 3]]));
-        assert_eq!(file.memory[..3], [0x2001_0005, 0xAC01_0008, 0]);
+        assert_eq!((file.q, file.steps, file.lists), (2, 3, vec![vec![1, 3]]));
+        assert_eq!(file.memory[1_024..1_027], [0x2001_0005, 0xAC01_0008, 0]);
     }
 
     #[test]
@@ -310,7 +310,7 @@ mod tests {
 
     #[test]
     fn labels() {
-        let source = "frame 0\n at 8\nback:\n j back\n beqz r0 on\n addi r0 r0 0\non:\n rfe\n";
+        let source = "frame 1\n at 8\nback:\n j back\n beqz r0 on\n addi r0 r0 0\non:\n rfe\n";
         let record = bytes(source).unwrap();
         let word = |at: usize| u32::from_le_bytes(record[10 + at..14 + at].try_into().unwrap());
         assert_eq!(word(8), 2 << 26 | 0x03FF_FFFC);
@@ -322,10 +322,10 @@ mod tests {
     fn wrong_lines_are_told() {
         for (source, told) in [
             ("addi r1 r0 5", "line 1: expected a record"),
-            ("frame 0\n\n j away", "line 3: there is no label away"),
+            ("frame 1\n\n j away", "line 3: there is no label away"),
             ("turns 2", "line 1: expected `turns Q run N`"),
-            ("frame 0\n at 4096", "line 2: expected a multiple of 4"),
-            ("frame 0\na:\na:", "line 3: the label a stands twice"),
+            ("frame 1\n at 4096", "line 2: expected a multiple of 4"),
+            ("frame 1\na:\na:", "line 3: the label a stands twice"),
         ] {
             let message = bytes(source).unwrap_err();
             assert!(message.starts_with(told), "{message}");

@@ -150,11 +150,12 @@ fn eight_partitions_pass_and_nine_do_not() {
 
 #[test]
 fn page_counts_256_pass_and_257_do_not() {
-    assert_eq!(answers("256 pages"), [(0, 0), (0, 3)]);
+    assert_eq!(answers("255 pages"), [(0, 0), (0, 3)]);
+    assert_eq!(answers("256 pages"), [(6, 255)]);
     assert_eq!(answers("257 pages"), [(2, 1)]);
     assert_eq!(answers("0 pages"), [(2, 2)]);
-    let frames: Vec<u32> = (0..256).collect();
-    let (house, answer) = House::boot(&[256], 1, &frames, 256 * 1_024);
+    let frames: Vec<u32> = (1..257).collect();
+    let (house, answer) = House::boot(&[256], 1, &frames, 257 * 1_024);
     assert_eq!(numbers(answer), (0, 0));
     assert!(!house.damaged());
 }
@@ -190,13 +191,21 @@ fn house_files() {
         ("extra byte", "refused 15 4136\n".into()),
         ("kind 4 with a body", format!("refused 15 {second}\n")),
         ("empty kind 2", "refused 2 1\n".into()),
-        ("256 frames", "refused 6 16\n".into()),
+        ("256 frames", "refused 6 15\n".into()),
         ("257 frames", format!("refused 15 {first_list}\n")),
         ("kind 2 of 6 bytes", format!("refused 15 {first_list}\n")),
         ("kind 2 frame 16", "refused 6 1\n".into()),
         ("kind 3 frame 16", format!("refused 15 {second}\n")),
         ("a later kind 3 replaces", "partition pages steps mode dpc pc\n0 1 3 0 12 16\n".into()),
         ("frame twice", "refused 7 2\n".into()),
+        ("frame 0", "refused 16 2\n".into()),
+        ("frame 0 twice", "refused 16 1\n".into()),
+        ("frame 0 and a frame twice", "refused 16 2\n".into()),
+        ("frame 0 and a frame too large", "refused 6 1\n".into()),
+        ("frame 0 and q 0", "refused 3 0\n".into()),
+        ("frame 0 and too long a run", "refused 16 0\n".into()),
+        ("frame 0 and an extra byte", "refused 15 30\n".into()),
+        ("a kind 3 fills frame 0", "partition pages steps mode dpc pc\n0 1 3 0 0 4\n".into()),
         ("q 0", "refused 3 0\n".into()),
         ("q 10,001 and an extra byte", "refused 15 4136\n".into()),
         ("run of 0 steps", "partition pages steps mode dpc pc\n0 1 0 0 0 4\n".into()),

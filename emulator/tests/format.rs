@@ -17,23 +17,23 @@ fn words(words: &[u32]) -> Vec<u8> {
 fn the_example_of_the_format() {
     let script = words(&[
         8,
+        2048,
+        0,
+        0, // length: two frames
+        7,
         1024,
-        0,
-        0, // length: one frame
-        7,
-        0,
         0x2001_0005,
-        0, // poke word 0
+        0, // poke word 1024
         7,
-        1,
+        1025,
         0xAC01_0008,
-        0, // poke word 1
+        0, // poke word 1025
         1,
         1,
         2,
         1,
         1,
-        0, // boot: one partition, q 2, one frame; page count 1; frame 0
+        1, // boot: one partition, q 2, one frame; page count 1; frame 1
         2,
         3,
         0,
@@ -47,20 +47,21 @@ fn the_example_of_the_format() {
     ]);
     let zeros = " 0".repeat(30);
     let memory = |words: &[u32]| {
-        let mut memory = words.to_vec();
-        memory.resize(1024, 0);
-        format!("memory 1024 {}", digest(&memory))
+        let mut memory = vec![0; 1024];
+        memory.extend(words);
+        memory.resize(2048, 0);
+        format!("memory 2048 {}", digest(&memory))
     };
     let before = memory(&[0x2001_0005, 0xAC01_0008]);
     let after = memory(&[0x2001_0005, 0xAC01_0008, 5]);
-    let house = "house 1 2 1024 0 1 1 0 0 0 0 0 0 0\n\
+    let house = "house 1 2 2048 0 1 1 0 0 0 0 0 0 0\n\
                  partition 0 1 3 0 4 0 0 2 12 8 0 0 0 0 0\n";
-    let rest = format!("registers 0 5{zeros}\nframes\nshadow\n{after}\n");
+    let rest = format!("registers 0 5{zeros}\nframes 1\nshadow\n{after}\n");
     let expected = format!(
         "call boot -> 0 0\n\
-         house 1 2 1024 0 2 1 0 0 0 0 0 0 0\n\
+         house 1 2 2048 0 2 1 0 0 0 0 0 0 0\n\
          partition 0 1 0 0 4 0 0 0 0 0 0 0 0 0 0\n\
-         registers 0 0{zeros}\nframes\nshadow\n{before}\n\
+         registers 0 0{zeros}\nframes 1\nshadow\n{before}\n\
          call run -> 0 3\n{house}{rest}\
          call read -> 0 1\n{house}{rest}output {} 5\n",
         digest(&[5, PATTERN + 1])

@@ -4,8 +4,10 @@ use std::collections::{BTreeMap, BTreeSet};
 
 use emulator::counts::Counts;
 use emulator::dlx::{decode, Guest, Instruction};
-use emulator::generate::{files, scripts, Script, ANSWERS_EACH};
-use emulator::house::House;
+use emulator::fields;
+use emulator::generate::{files, scripts, Script, ANSWERS_EACH, SCRIPT_NUMBERS};
+
+use emulator::house::{numbers, House, HOUSE_FRAME};
 use emulator::housefile::night;
 use emulator::memory::Access;
 use emulator::script::{self, Command, Player};
@@ -33,11 +35,9 @@ fn the_default_run_reaches_every_rule() {
     assert!(counts.all_interrupts() <= steps / 10, "{:?}", counts.interrupts);
     assert!(counts.loops <= steps / 50, "interrupt loops: {}", counts.loops);
     assert!(counts.interrupts[1..].iter().all(|&count| count >= 500), "{:?}", counts.interrupts);
-    assert!(
-        counts.answers[..15].iter().all(|&count| count >= ANSWERS_EACH),
-        "{:?}",
-        counts.answers
-    );
+    for number in SCRIPT_NUMBERS {
+        assert!(counts.answers[number] >= ANSWERS_EACH, "number {number}: {:?}", counts.answers);
+    }
     assert!(counts.fills >= 3_000);
     let emptied = [counts.emptied_by_store, counts.emptied_by_special, counts.emptied_by_call];
     assert!(emptied.iter().all(|&count| count >= 300), "{emptied:?}");
@@ -84,7 +84,7 @@ fn the_default_files_reach_every_number() {
     for file in &files {
         night(&file.bytes, &mut counts);
     }
-    for number in [0, 2, 3, 6, 7, 14, 15] {
+    for number in [0, 2, 3, 6, 7, 14, 15, 16] {
         assert!(counts.answers[number] >= ANSWERS_EACH, "number {number}: {:?}", counts.answers);
     }
 }
@@ -128,6 +128,58 @@ fn refusals_change_nothing_and_done_calls_leave_no_damage() {
     }
 }
 
+/// The smallest position whose frame stood earlier, frame 0 left out.
+fn first_twice(frames: &[u32]) -> Option<usize> {
+    (0..frames.len()).find(|&at| frames[at] != HOUSE_FRAME && frames[..at].contains(&frames[at]))
+}
+
+/// How a boot that names frame 0 is refused.
+fn naming(frames: &[u32], answer: (u32, u64)) -> Option<String> {
+    let zeros = frames.iter().filter(|&&frame| frame == HOUSE_FRAME).count();
+    let zeros = match (zeros, answer) {
+        (1, (16, _)) => "one zero",
+        (2.., (16, _)) => "several zeros",
+        (1.., (6, _)) => return Some("too large a frame, too".into()),
+        _ => return None,
+    };
+    let twice = match first_twice(frames) {
+        None => "no frame twice",
+        Some(at) if (at as u64) < answer.1 => "a frame twice before it",
+        _ => "a frame twice behind it",
+    };
+    Some(format!("{zeros}, {twice}"))
+}
+
+/// A place of a frame list that a poke of frame 0 meets in a house that is not damaged.
+fn poked(house: &House, index: u32) -> Option<String> {
+    let from = index.checked_sub(fields::frame(0, 0))?;
+    let (part, place) = (from / 256, from % 256);
+    if part >= house.count || house.damaged() {
+        return None;
+    }
+    let used = place < house.guests[part as usize].space.pages;
+    Some(if used { "a used place" } else { "an unused place" }.into())
+}
+
+#[test]
+fn frame_0_is_named_in_every_way() {
+    let mut met = BTreeMap::new();
+    before_each_command(|player, command| {
+        let way = match command {
+            Command::Boot { pages, q, frames } => {
+                naming(frames, numbers(House::boot(pages, *q, frames, player.lent().len()).1))
+            }
+            Command::Field { index, value: HOUSE_FRAME } => poked(&player.house, *index),
+            _ => None,
+        };
+        if let Some(way) = way {
+            *met.entry(way).or_insert(0) += 1;
+        }
+    });
+    assert_eq!(met.len(), 9, "{met:?}");
+    assert!(met.values().all(|&times| times >= 5), "{met:?}");
+}
+
 /// A name for each row of the instruction table.
 fn row(instruction: Instruction) -> String {
     match instruction {
@@ -146,17 +198,24 @@ fn row(instruction: Instruction) -> String {
     }
 }
 
-/// Plays the default run, and looks at the player before each run.
-fn before_each_run(mut look: impl FnMut(&Player)) {
+/// Plays the default run, and looks at the player before each command.
+fn before_each_command(mut look: impl FnMut(&Player, &Command)) {
     for one in scripts(SEED, STEPS) {
         let mut player = Player::new();
         for command in &one.commands {
-            if matches!(command, Command::Run { .. }) {
-                look(&player);
-            }
+            look(&player, command);
             player.play(command, &mut String::new(), &mut Counts::default());
         }
     }
+}
+
+/// The same before each run.
+fn before_each_run(mut look: impl FnMut(&Player)) {
+    before_each_command(|player, command| {
+        if matches!(command, Command::Run { .. }) {
+            look(player);
+        }
+    });
 }
 
 #[test]

@@ -7,9 +7,9 @@ use emulator::dlx::special::{ECA, EDATA, EDPC, EMODE, EPC, ESR, MODE, SR};
 use emulator::memory::{PROTECTED, VALID};
 use emulator::named;
 
-/// The shadow entry of a frame; partition 0 has frames 0, 1, 2 and so on.
-fn frame(number: u32) -> u32 {
-    number << 12 | VALID
+/// The shadow entry of a guest page; partition 0 has frames 1, 2, 3 and so on.
+fn page(number: u32) -> u32 {
+    (number + 1) << 12 | VALID
 }
 
 #[test]
@@ -117,7 +117,7 @@ fn rfe_restores_without_a_delay_slot() {
 fn the_fetch_after_movi2s_to_mode_is_translated() {
     let states = play("movi2s to MODE: the next fetch is translated");
     assert_eq!((states[1].special(MODE), states[1].pair()), (1, (12, 16)));
-    assert_eq!((states[2].register(1), states[2].shadow(0)), (9, frame(2)));
+    assert_eq!((states[2].register(1), states[2].shadow(0)), (9, page(2)));
 }
 
 #[test]
@@ -142,21 +142,21 @@ fn translation_faults() {
 #[test]
 fn fills_survive_interrupts_but_misaligned_data_never_fills() {
     let after = last("misaligned data does not fill");
-    assert_eq!((after.special(ECA), after.shadow(0), after.shadow(2)), (4, frame(0), 0));
+    assert_eq!((after.special(ECA), after.shadow(0), after.shadow(2)), (4, page(0), 0));
     let after = last("the fetch's fill survives ill");
-    assert_eq!((after.special(ECA), after.shadow(0)), (2, frame(0)));
+    assert_eq!((after.special(ECA), after.shadow(0)), (2, page(0)));
 }
 
 #[test]
 fn a_store_to_a_protected_page_faults_and_fills() {
     let after = last("a store to a protected page faults and fills");
-    assert_eq!((after.special(ECA), after.shadow(2)), (16, frame(2) | PROTECTED));
+    assert_eq!((after.special(ECA), after.shadow(2)), (16, page(2) | PROTECTED));
 }
 
 #[test]
 fn a_load_into_register_0_is_an_access() {
     let states = play("a load into register 0 faults and fills");
-    assert_eq!((states[1].special(ECA), states[1].shadow(2)), (0, frame(2)));
+    assert_eq!((states[1].special(ECA), states[1].shadow(2)), (0, page(2)));
     assert_eq!(states[2].special(ECA), 16);
 }
 
@@ -170,28 +170,28 @@ fn a_valid_shadow_entry_decides_alone() {
 }
 
 #[test]
-fn a_wrong_shadow_writes_the_page_of_its_frame() {
+fn a_wrong_shadow_writes_the_page_of_its_page() {
     let after = last("a store into the table through a wrong shadow");
-    assert_eq!((after.shadow(1), after.shadow(2)), (0, frame(1)));
+    assert_eq!((after.shadow(1), after.shadow(2)), (0, page(1)));
 }
 
 #[test]
 fn stores_into_the_table_empty_one_entry() {
     assert_eq!(last("a store of an equal value empties").shadow(2), 0);
     assert_eq!(last("a store in system mode empties").shadow(2), 0);
-    assert_eq!(last("a store beyond PTL empties nothing").shadow(2), frame(2));
+    assert_eq!(last("a store beyond PTL empties nothing").shadow(2), page(2));
     let beyond = last("a store beyond entry 255 empties nothing");
-    assert_eq!((beyond.shadow(0), beyond.shadow(255)), (frame(0), frame(2)));
+    assert_eq!((beyond.shadow(0), beyond.shadow(255)), (page(0), page(2)));
     let faulted = last("a store that faults empties nothing");
-    assert_eq!((faulted.special(ECA), faulted.shadow(2)), (16, frame(2)));
+    assert_eq!((faulted.special(ECA), faulted.shadow(2)), (16, page(2)));
 }
 
 #[test]
 fn emptying_comes_after_filling() {
     let after = last("fill and emptying in one step");
-    assert_eq!((after.shadow(0), after.shadow(1)), (frame(0), 0));
+    assert_eq!((after.shadow(0), after.shadow(1)), (page(0), 0));
     let after = last("a store empties the fetch's own page");
-    assert_eq!((after.shadow(0), after.shadow(1)), (0, frame(1)));
+    assert_eq!((after.shadow(0), after.shadow(1)), (0, page(1)));
 }
 
 #[test]
@@ -211,7 +211,7 @@ fn pto_ptl_and_the_call_empty_all() {
 fn turns_rfe_and_interrupts_empty_nothing() {
     let after = last("turns, rfe and interrupts empty nothing");
     // The trap, then rfe back to user mode, with partition 1 between them.
-    assert_eq!((after.special(MODE), after.shadow(0), after.pair()), (1, frame(0), (12, 16)));
+    assert_eq!((after.special(MODE), after.shadow(0), after.pair()), (1, page(0), (12, 16)));
 }
 
 #[test]
@@ -265,13 +265,14 @@ fn run_lengths() {
 #[test]
 fn boots_refusals() {
     assert_eq!(answers("turn lengths"), [(3, 0), (0, 0), (0, 0), (3, 0)]);
-    assert_eq!(answers("memory lengths"), [(4, 0), (4, 0), (0, 0), (4, 0), (4, 0), (0, 0)]);
+    let (wrong, right) = ((4, 0), (0, 0));
+    assert_eq!(answers("memory lengths"), [wrong, wrong, wrong, wrong, right, wrong, wrong, right]);
     assert_eq!(answers("list lengths"), [(5, 0), (5, 0)]);
     assert_eq!(answers("frame twice"), [(7, 2)]);
     assert_eq!(answers("frame too large after a frame twice"), [(6, 3)]);
     assert_eq!(
         answers("order of boot's refusals"),
-        [(1, 0), (2, 1), (3, 0), (4, 0), (5, 0), (6, 0), (7, 1)]
+        [(1, 0), (2, 1), (3, 0), (4, 0), (5, 0), (6, 0), (16, 0), (7, 1)]
     );
 }
 
@@ -313,7 +314,7 @@ fn read_outs() {
 fn every_damage_is_found_and_nothing_else() {
     let given = answers("damage");
     let (sound, damaged) = (given.len() - 2, &given[2..given.len() - 2]);
-    assert_eq!(damaged.len(), 38);
+    assert_eq!(damaged.len(), 39);
     assert!(damaged.iter().all(|&answer| answer == (8, 0)), "{damaged:?}");
     assert_eq!(given[sound..], [(0, 0), (0, 0)]);
 }

@@ -241,7 +241,7 @@ fn the_bridge_and_the_settlement() {
     let (mut house, _) = House::boot(&pages, file.q, &file.lists.concat(), file.memory.len());
     let mut counts = Counts::default();
     house.run(&mut file.memory, file.steps, &mut counts).unwrap();
-    let (bridge, settlement) = (&file.memory[1_024..], &file.memory[3 * 1_024..]);
+    let (bridge, settlement) = (&file.memory[2 * 1_024..], &file.memory[4 * 1_024..]);
     assert_eq!(settlement[0], 11_800);
     assert_eq!((bridge[0], settlement[1]), (35, 16));
     assert_eq!((counts.sends, counts.takes), ([41, 35, 0, 0], [41, 0, 0, 16]));

@@ -1,10 +1,10 @@
 //! Calls with right and wrong arguments, on sound and damaged houses.
 
-use super::{tickets, Draft};
+use super::{guest_frames, tickets, Draft};
 use crate::assemble::{nop, Code};
 use crate::dlx::special::{EMODE, MODE};
 use crate::fields::{self, COUNT, CURRENT, LEFT, Q, RUNNING, WAITING, WORDS};
-use crate::house::House;
+use crate::house::{House, HOUSE_FRAME};
 use crate::memory::{PROTECTED, VALID};
 use crate::rng::Rng;
 use crate::script::{Command, MOST_OUTPUT};
@@ -59,18 +59,19 @@ fn something(draft: &mut Draft) {
 fn wrong_boot(draft: &mut Draft) {
     let mut pages: Vec<u32> = draft.page_counts(6);
     let used: u32 = pages.iter().sum();
-    let mut frames = draft.rng.permutation(used);
-    let enough = 1_024 * used;
+    let mut frames = guest_frames(&mut draft.rng, 1 + used);
+    let enough = 1_024 * (1 + used);
     let (mut q, mut words) = (draft.turn_length(), enough);
     for _ in 0..draft.rng.pick(&[1, 1, 1, 2, 3]) {
         let rng = &mut draft.rng;
-        match rng.below(9) {
+        match rng.below(11) {
             0 => pages.resize(rng.pick(&[0, 9, 9, 10, 16]), 1),
             1 => wrong_page_count(rng, &mut pages, &mut frames),
             2 => q = rng.pick(&[0, 10_001, u32::MAX]),
             3 => words = rng.pick(&[0, 1, 1_023, enough + 1, enough - 1, 65_535]),
             4 => wrong_list_length(rng, &mut frames),
             5 => wrong_frames(rng, &mut frames, words / 1_024),
+            6 | 7 => name_house_frame(rng, &mut frames, words / 1_024),
             _ => repeat_frames(rng, &mut frames),
         }
     }
@@ -87,8 +88,7 @@ fn wrong_page_count(rng: &mut Rng, pages: &mut [u32], frames: &mut Vec<u32>) {
     }
     let sum: u64 = pages.iter().map(|&count| u64::from(count)).sum();
     if sum <= 2_048 && rng.chance(70) {
-        let most = sum as u32;
-        *frames = rng.permutation(most);
+        *frames = guest_frames(rng, 1 + sum as u32);
     }
 }
 
@@ -105,6 +105,23 @@ fn wrong_frames(rng: &mut Rng, frames: &mut [u32], limit: u32) {
         if !frames.is_empty() {
             let at = rng.index(frames.len());
             frames[at] = rng.pick(&[limit, limit + 1, u32::MAX, 1 << 20]);
+        }
+    }
+}
+
+/// The house's own frame at one or more positions, now and then with frames that stand twice, or
+/// with one that is not there.
+fn name_house_frame(rng: &mut Rng, frames: &mut [u32], limit: u32) {
+    match rng.below(4) {
+        0 | 1 => repeat_frames(rng, frames),
+        2 => wrong_frames(rng, frames, limit),
+        _ => {}
+    }
+    if !frames.is_empty() {
+        let from = rng.index(frames.len());
+        for _ in 0..rng.between(1, 3) {
+            let at = from + rng.index(frames.len() - from);
+            frames[at] = HOUSE_FRAME;
         }
     }
 }
@@ -255,7 +272,7 @@ pub fn damage_and_repair(draft: &mut Draft) {
 /// One of the ways in which a house can be damaged; some values lie just inside the limits.
 fn damage(rng: &mut Rng, house: &House) -> Vec<Change> {
     let partition = rng.below(house.count);
-    match rng.below(19) {
+    match rng.below(20) {
         0 => vec![(COUNT, rng.pick(&[0, 9, u32::MAX, house.count - 1, house.count + 1]))],
         1 => vec![(Q, rng.pick(&[0, 10_000, 10_001, u32::MAX, house.left]))],
         2 => vec![(WORDS, wrong_words(rng, house.words))],
@@ -266,10 +283,10 @@ fn damage(rng: &mut Rng, house: &House) -> Vec<Change> {
         7 => vec![wrong_pages(rng, partition, house)],
         8 => vec![(fields::register(partition, 0), rng.word() | 1)],
         9 | 10 => vec![wrong_mode(rng, partition)],
-        11 => vec![wrong_frame(rng, partition, house)],
-        12 => vec![unused_frame(rng, partition, house)],
-        13 | 14 => vec![wrong_shadow(rng, partition, house)],
-        15 | 16 => vec![wrong_queue(rng, partition, house)],
+        11 | 12 => vec![wrong_frame(rng, partition, house)],
+        13 => vec![unused_frame(rng, partition, house)],
+        14 | 15 => vec![wrong_shadow(rng, partition, house)],
+        16 | 17 => vec![wrong_queue(rng, partition, house)],
         _ => vec![unused_partition(rng, house)],
     }
 }
@@ -308,12 +325,13 @@ fn wrong_mode(rng: &mut Rng, partition: u32) -> Change {
     (fields::special(partition, special), rng.pick(&[1, 2, 3, u32::MAX]))
 }
 
-/// A frame number beyond the memory, or one that stands elsewhere too.
+/// A frame number beyond the memory, the house's own, or one that stands elsewhere too.
 fn wrong_frame(rng: &mut Rng, partition: u32, house: &House) -> Change {
     let pages = house.guests[partition as usize].space.pages;
-    let value = match rng.below(3) {
+    let value = match rng.below(5) {
         0 => rng.pick(&[house.words / 1_024, u32::MAX, 1 << 20]),
         1 => any_frame(rng, house),
+        2 | 3 => HOUSE_FRAME,
         _ => rng.below(house.words / 1_024),
     };
     (fields::frame(partition, rng.below(pages)), value)
@@ -325,11 +343,12 @@ fn any_frame(rng: &mut Rng, house: &House) -> u32 {
     space.frames[rng.index(space.pages as usize)]
 }
 
+/// Something in a place behind the list; the house's own frame is what stands there.
 fn unused_frame(rng: &mut Rng, partition: u32, house: &House) -> Change {
     let pages = house.guests[partition as usize].space.pages;
     let any = rng.between(pages, 255);
     let place = rng.pick(&[pages, 255, any]);
-    (fields::frame(partition, place), rng.between(1, 3))
+    (fields::frame(partition, place), rng.pick(&[HOUSE_FRAME, HOUSE_FRAME, 1, 2, 3]))
 }
 
 /// A valid entry with a frame of any partition or none, or something in an empty entry or in the

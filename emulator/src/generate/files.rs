@@ -1,6 +1,8 @@
 //! Random house files, whole, damaged and cut.
 
+use super::guest_frames;
 use super::programs::{program, Program};
+use crate::house::HOUSE_FRAME;
 use crate::housefile::{record_bytes, word_bytes, FRAMES, HEAD, PIECE};
 use crate::memory::FRAME_WORDS;
 use crate::rng::Rng;
@@ -50,10 +52,11 @@ fn bytes(records: &[Record]) -> Vec<u8> {
     records.iter().flat_map(|record| record_bytes(record.kind, &record.body)).collect()
 }
 
-/// A file without fault: one to eight partitions with programs.
+/// A file without fault: one to eight partitions with programs; now and then the house's own frame
+/// is written, too.
 fn whole(rng: &mut Rng) -> Vec<Record> {
     let partitions = rng.pick(&[1, 1, 2, 2, 3, 8]);
-    let frames = rng.permutation(FRAMES as u32);
+    let frames = guest_frames(rng, FRAMES as u32);
     let share = frames.len() / partitions;
     let lists: Vec<&[u32]> =
         frames.chunks(share).take(partitions).map(|own| &own[..rng.index(share) + 1]).collect();
@@ -64,6 +67,9 @@ fn whole(rng: &mut Rng) -> Vec<Record> {
     for (own, list) in lists.iter().enumerate().take(4) {
         let program = program(rng, &pages, own);
         records.extend(loads(rng, list, &program));
+    }
+    if rng.chance(10) {
+        records.push(load(HOUSE_FRAME, &vec![rng.word(); FRAME_WORDS]));
     }
     records.push(Record { kind: 4, body: Vec::new() });
     records
@@ -197,11 +203,12 @@ fn wrong_order(rng: &mut Rng, records: &mut Vec<Record>) {
 fn refused(rng: &mut Rng, records: &mut [Record]) {
     for _ in 0..rng.pick(&[1, 1, 1, 2, 3]) {
         let list = rng.index(lists(records)) + 1;
-        match rng.below(6) {
+        match rng.below(9) {
             0 => records[list].body.clear(),
             1 => change_word(records, 0, 0, rng.pick(&[0, 10_001, u32::MAX])),
             2 | 3 => change_word(records, 0, 1, rng.pick(&[1_000_001, 1_000_002, u32::MAX])),
             4 => add_word(records, list, rng.pick(&[16, 17, 1_000, u32::MAX])),
+            5 => add_word(records, list, HOUSE_FRAME),
             _ => {
                 let again = first_frame(records);
                 add_word(records, list, again);

@@ -52,10 +52,11 @@ pub fn program(rng: &mut Rng, page_counts: &[u32], own: usize) -> Program {
     Program { words, pages: plan.touched() }
 }
 
-/// Instructions without any plan.
+/// Instructions without any plan; only the handler's first word does not interrupt again.
 fn random_words(rng: &mut Rng, pages: u32) -> Program {
     let count = rng.between(20, 300).min(1_024 * pages);
-    let words = (0..count).map(|at| (at, words::instruction(rng))).collect();
+    let mut words = vec![(0, words::compute(rng))];
+    words.extend((1..count).map(|at| (at, words::instruction(rng))));
     Program { words, pages: vec![0, 1, 255] }
 }
 

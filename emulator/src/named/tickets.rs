@@ -194,8 +194,8 @@ fn calls() -> Group {
                 .read(1, 2, 1, 1)
                 .run(1_000_001),
         ),
-        ("boot empties the queues", waiting().boot(&[1, 1], 100, &[0, 1]).run(1)),
-        ("a refused boot empties the queues", waiting().boot(&[1, 1], 0, &[0, 1])),
+        ("boot empties the queues", waiting().boot(&[1, 1], 100, &[1, 2]).run(1)),
+        ("a refused boot empties the queues", waiting().boot(&[1, 1], 0, &[1, 2])),
         ("damage of a queue in use", {
             let third = fields::ticket(0, 2);
             two()

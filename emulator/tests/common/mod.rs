@@ -4,6 +4,7 @@
 use emulator::counts::Counts;
 use emulator::dlx::Guest;
 use emulator::house::{numbers, House};
+use emulator::memory::FRAME_WORDS;
 use emulator::named;
 use emulator::script::Player;
 
@@ -12,7 +13,10 @@ pub struct After {
     /// House number and detail.
     pub answer: (u32, u64),
     pub house: House,
+    /// The lent words behind frame 0: partition 0's pages, and then the others'.
     pub memory: Vec<u32>,
+    /// The words of frame 0, as many as are lent.
+    pub frame_0: Vec<u32>,
     /// The text of the call.
     pub text: String,
 }
@@ -63,8 +67,10 @@ pub fn play(name: &str) -> Vec<After> {
         let mut text = String::new();
         let answer = player.play(command, &mut text, &mut Counts::default());
         if let Some(answer) = answer {
-            let (house, memory) = (player.house.clone(), player.lent().to_vec());
-            states.push(After { answer: numbers(answer), house, memory, text });
+            let house = player.house.clone();
+            let (frame_0, memory) = player.lent().split_at(player.lent().len().min(FRAME_WORDS));
+            let (memory, frame_0) = (memory.to_vec(), frame_0.to_vec());
+            states.push(After { answer: numbers(answer), house, memory, frame_0, text });
         }
     }
     states
