@@ -14,7 +14,7 @@ use crate::fields::{self, CURRENT, LEFT, Q, RUNNING, WAITING, WORDS};
 use crate::generate::{File, Script};
 use crate::housefile::{record_bytes, word_bytes, PIECE};
 use crate::memory::{shadow_entry, FRAME_WORDS, PROTECTED, VALID};
-use crate::script::Command;
+use crate::script::{Command, MOST_WORDS};
 
 /// Words of the lent memory in these scripts: 16 frames.
 const MEMORY: u32 = 16 * FRAME_WORDS as u32;
@@ -470,10 +470,8 @@ fn calls() -> Group {
         ("8 partitions", Story::new().boot(&ones(8), 1, &frames(8)).run(16)),
         ("9 partitions", Story::new().boot(&ones(9), 1, &frames(9))),
         ("no partitions", Story::new().boot(&[], 1, &[]).run(0).start(0)),
-        ("255 pages", Story::new().length(262_144).boot(&[255], 1, &frames(255)).run(3)),
-        // The page count passes; the memory of a script has one frame too few for it.
-        ("256 pages", Story::new().length(262_144).boot(&[256], 1, &frames(256))),
-        ("257 pages", Story::new().length(262_144).boot(&[1, 257, 0], 1, &frames(258))),
+        ("256 pages", Story::new().length(MOST_WORDS as u32).boot(&[256], 1, &frames(256)).run(3)),
+        ("257 pages", Story::new().length(MOST_WORDS as u32).boot(&[1, 257, 0], 1, &frames(258))),
         ("0 pages", Story::new().boot(&[1, 1, 0], 1, &frames(2))),
         ("turn lengths", {
             let boot = |story: Story, q| story.boot(&[1], q, &[1]);

@@ -8,8 +8,8 @@ use crate::fields;
 use crate::house::{numbers, Answer, House};
 use crate::tickets::Queue;
 
-/// The most words of lent memory: 256 frames.
-pub const MOST_WORDS: usize = 262_144;
+/// The most words of lent memory: 257 frames, so that frame 0 and 256 pages have room.
+pub const MOST_WORDS: usize = 263_168;
 /// The most partitions that a boot command can name.
 pub const MOST_PARTITIONS: usize = 16;
 /// The longest frame list that a boot command can name.
