@@ -12,8 +12,8 @@ use drill_text::ROOM;
 use house::House;
 use reading::Reading;
 
-// The most words of memory.
-const MOST_WORDS: usize = 262144;
+// The most words of memory: 257 frames, so that a partition of 256 pages fits beside frame 0.
+const MOST_WORDS: usize = 263168;
 
 // What goes from turn to turn: a command of the house, or the end, is reached.
 struct State {
@@ -75,7 +75,7 @@ fn play(
 }
 
 fn memory_space() -> [u32; MOST_WORDS]
-    ensures { λ r. ⌜ 262144 ≡ length r ⌝ }
+    ensures { λ r. ⌜ 263168 ≡ length r ⌝ }
 {
     [0; MOST_WORDS]
 }
