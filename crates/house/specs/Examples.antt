@@ -180,7 +180,7 @@ ran n = hostSteps n (world alone (zeros 1024 ++ (0x20010005 ∷ 0xAC010008 ∷ z
 unfoldable pub once : ℕ → ℕ → List ℕ → ℕ → World
 once sr mode r w =
     hostStep
-    (world (withRegisters (withPart two 0 (part 1 (at 8 12 sr mode 1) 0 1 0)) (r ++ zeros (256 - length r))) (zeros 1024 ++ (0x00000800 ∷ 0 ∷ w ∷ zeros 2045)))
+    (world (withRegisters (withPart two 0 (part 1 (at 8 12 sr mode 1) 0 1 0)) (r ++ zeros (256 - length r))) (zeros 1024 ++ (0x00000800 ∷ 0 ∷ w ∷ [])))
 
 abbrev system : List ℕ → ℕ → World
 system r w = once 0 0 r w
@@ -313,12 +313,12 @@ boots =
     ∷ answers (bootVerdict (3 ∷ []) 1 (0 ∷ 1 ∷ 2 ∷ []) 2048) 6 2
     ∷ answers (bootVerdict (4 ∷ []) 1 (1 ∷ 1 ∷ 0 ∷ 0 ∷ []) 2048) 16 2
     -- [refusal: a refused boot] what each leaves
-    ∷ unbooted (bootCall [] 1 [] (told 2048)) 1 0 (told 2048)
-    ∷ unbooted (bootCall (1 ∷ 0 ∷ []) 1 (1 ∷ []) (told 2048)) 2 1 (told 2048)
-    ∷ unbooted (bootCall (1 ∷ []) 0 (1 ∷ []) (told 2048)) 3 0 (told 2048)
-    ∷ unbooted (bootCall (1 ∷ []) 1 (1 ∷ []) (told 2047)) 4 0 (told 2047)
-    ∷ unbooted (bootCall (1 ∷ []) 1 [] (told 2048)) 5 0 (told 2048)
-    ∷ unbooted (bootCall (2 ∷ []) 1 (1 ∷ 2 ∷ []) (told 2048)) 6 1 (told 2048)
+    ∷ unbooted (bootCall [] 1 [] (told 1024)) 1 0 (told 1024)
+    ∷ unbooted (bootCall (1 ∷ 0 ∷ []) 1 (1 ∷ []) (told 1024)) 2 1 (told 1024)
+    ∷ unbooted (bootCall (1 ∷ []) 0 (1 ∷ []) (told 1024)) 3 0 (told 1024)
+    ∷ unbooted (bootCall (1 ∷ []) 1 (1 ∷ []) (told 1023)) 4 0 (told 1023)
+    ∷ unbooted (bootCall (1 ∷ []) 1 [] (told 1024)) 5 0 (told 1024)
+    ∷ unbooted (bootCall (2 ∷ []) 1 (0 ∷ 1 ∷ []) (told 1024)) 6 1 (told 1024)
     ∷ unbooted (bootCall (2 ∷ []) 1 (1 ∷ 0 ∷ []) (told 2048)) 16 1 (told 2048)
     ∷ unbooted (bootCall (2 ∷ []) 1 (1 ∷ 1 ∷ []) (told 2048)) 7 1 (told 2048)
     -- [turn: boot] all registers zero but PC = 4, all running, partition 0 current with q steps left, and unused places 0
@@ -336,21 +336,21 @@ widest = answers (bootVerdict (256 ∷ []) 1 (firstFrames 256) 263168) 0 0 ∷ [
 
 -- ---- turns
 
--- so many steps of `three`, or of it with another state; every word is 0, so every step is an interrupt
+-- so many steps of `three`, or of it with another state; every word is 0, as behind a list's end, so every step is an interrupt
 unfoldable pub after : ℕ → House → House
-after n h = hostSteps n (world h (zeros 4096)) .house
+after n h = hostSteps n (world h []) .house
 
 -- three partitions with turns of q steps, after a trap of the first
 unfoldable pub trapped : ℕ → House
-trapped q = hostStep (world (bootedHouse (ones 3) q (firstFrames 3) 4096) (zeros 1024 ++ (0xF8000007 ∷ zeros 3071))) .house
+trapped q = hostStep (world (bootedHouse (ones 3) q (firstFrames 3) 4096) (zeros 1024 ++ (0xF8000007 ∷ []))) .house
 
 -- six steps of `two`: five of partition 0, and one of partition 1, whose first word is 0x20010005
 unfoldable pub six : House
-six = hostSteps 6 (world two (zeros 2048 ++ (0x20010005 ∷ zeros 1023))) .house
+six = hostSteps 6 (world two (zeros 2048 ++ (0x20010005 ∷ []))) .house
 
 -- one step more by a partition that has made n
 unfoldable pub counts : ℕ → ℕ
-counts n = counter (hostStep (world (withPart alone 0 (part 1 (at 0 4 0 0 0) 0 0 n)) (zeros 2048)) .house) 0
+counts n = counter (hostStep (world (withPart alone 0 (part 1 (at 0 4 0 0 0) 0 0 n)) []) .house) 0
 
 -- One step by partition 1 of `busy`, with l steps left: at DPC 8 and PC 12 in a mode, of the word w. Its entries 0 and 1 lead to its page 0, and to page 1
 -- protected.
@@ -401,7 +401,7 @@ turns =
     -- [turn: trap in system mode] passes, once also where it is the last step, and to itself if alone
     ∷ current (trapped 2) 1 2
     ∷ current (trapped 1) 1 1
-    ∷ current (hostStep (world alone (zeros 1024 ++ (0xF8000007 ∷ zeros 1023))) .house) 0 2
+    ∷ current (hostStep (world alone (zeros 1024 ++ (0xF8000007 ∷ []))) .house) 0 2
     ∷ comes (stepping 5 0 0xF8000007) 3 9
     (record { dpc = 0; pc = 4; sr = 0; esr = 64; eca = 32; epc = 16; edpc = 12; edata = 7; mode = 0; emode = 0 }) (busy alternate 1 0 .regs)
     (busy alternate 1 0 .shadows) (lent 0xF8000007)
@@ -760,7 +760,7 @@ atDesk h n r1 r2 r3 t =
 unfoldable pub leaves : House → List ℕ → ℕ → Queues → ℕ → ℕ → Queues → Bool
 leaves h ws to t r1 r3 t′ =
     let n = length ws in
-    let m = zeros 1024 ++ (ws ++ zeros (2048 - n)) in
+    let m = zeros 1024 ++ ws in
     let w = hostSteps n (world (atDesk h 0 7 to 55 t) m) in
     sameHouse (w .house) (atDesk h n r1 to r3 t′) && same (w .memory) m
 
@@ -781,7 +781,7 @@ receive = 0xF8000101
 unfoldable pub across : ℕ → House
 across n =
     hostSteps n
-    (world (withRegisters (bootedHouse (1 ∷ 1 ∷ []) 1 (1 ∷ 2 ∷ []) 3072) (0 ∷ 7 ∷ 1 ∷ zeros 253)) (zeros 1024 ++ (send ∷ zeros 1023 ++ (receive ∷ zeros 1023)))) .house
+    (world (withRegisters (bootedHouse (1 ∷ 1 ∷ []) 1 (1 ∷ 2 ∷ []) 3072) (0 ∷ 7 ∷ 1 ∷ zeros 253)) (zeros 1024 ++ (send ∷ zeros 1023 ++ (receive ∷ [])))) .house
 
 unfoldable pub exchanges : List Bool
 exchanges =
