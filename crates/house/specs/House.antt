@@ -68,7 +68,7 @@ guestsOf h = guests (h .parts) (h .regs) (h .shadows)
 abbrev pub queuesOf : House → Queues
 queuesOf h = queues (h .tickets) (h .waiting)
 
--- with h for what stands in none of these
+-- h is there for a field that stands in none of these groups; today every field stands in one
 abbrev remade : House → Layout → List Bool → Turn → Guests → Queues → House
 remade h l running t g k = record {
   count = l .count;
