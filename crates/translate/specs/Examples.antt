@@ -14,7 +14,8 @@ use Rattle.dlx.specs.declared.partition.Processor.{Processor}
 use Rattle.dlx.specs.declared.execute.Access.{Access}
 use Rattle.dlx.specs.declared.execute.Access.the-variants.{Fault, Word}
 use Rattle.translate.specs.Entries.{compositionOf}
-use Rattle.translate.specs.Memory.{Lone, lone, loneMemory, Host, host, hostWord, hostMemory, freshShadow}
+use Rattle.translate.specs.Walk.{entries}
+use Rattle.translate.specs.Memory.{Lone, lone, loneMemory, Host, host, hostWord, hostMemory, emptied, freshShadow}
 
 -- ---- entry composition: 0 is load, 1 store; 4,294,967,295 is a fault
 
@@ -55,12 +56,13 @@ wordsFrom i zero = []
 wordsFrom i (suc n) = word i ∷ wordsFrom (suc i) n
 
 -- entries: 0 page 0, 1 the table's own page 1, 2 page 2 protected, 3 a page that is not there, 4 not valid though all below bit 11 is 1, 5 page 2 with
--- bits 9..0 all 1, and 6, 255 and 256 page 2. Word 6 of page 2 is an entry of page 0, and the first of page 0 one of page 2.
+-- bits 9..0 all 1, and 6 and 1,023 page 2. The word behind the table, the first of page 2, is an entry of page 0, and so is word 6 of page 2; the first of
+-- page 0 is one of page 2.
 abbrev memory : List ℕ
 memory =
-    set (set (wordsFrom 0 3072) 1030 0x00000800) 2048 0x00002814
+    set (set (set (wordsFrom 0 3072) 1024 0x00000800) 1030 0x00000800) 2048 0x00002814
     ++ (0x00000800 ∷ 0x00001800 ∷ 0x00002C00 ∷ 0x00003BFF ∷ 0x000027FF ∷ 0x00002BFF ∷ 0x00002800
-    ∷ set (set (wordsFrom 3079 1017) 248 0x00002800) 249 0x00002800)
+    ∷ set (wordsFrom 3079 1017) 1016 0x00002800)
 
 abbrev table : ℕ → ℕ → Table
 table pto ptl = record { pto = pto; ptl = ptl }
@@ -73,7 +75,7 @@ abbrev shadowed : List ℕ → Host
 shadowed sh = host (table 1 6) memory sh
 
 abbrev full : List ℕ
-full = replicate 256 0x00001800
+full = replicate entries 0x00001800
 
 -- the empty shadow but for entry px
 abbrev only : ℕ → ℕ → List ℕ
@@ -123,10 +125,10 @@ walks =
     ∷ refuses (guest 1 5) true 0x5ABC freshShadow
     ∷ gives (guest 1 1) true 0x0ABC (word 2735) (only 0 0x00002800)
     ∷ faults (guest 1 0) true 0x0ABC freshShadow
-    -- [walk: px above 255] 255 may pass, 256 never
-    ∷ gives (guest 1 256) true 0xFFABC (word 1711) (only 255 0x00001800)
-    ∷ faults (guest 1 257) true 0x100ABC freshShadow
-    ∷ refuses (guest 1 257) true 0x100ABC freshShadow
+    -- [walk: px above 1,023] 1,023 may pass, 1,024 never
+    ∷ gives (guest 1 1024) true 0x3FFABC (word 1711) (only 1023 0x00001800)
+    ∷ faults (guest 1 1025) true 0x400ABC freshShadow
+    ∷ refuses (guest 1 1025) true 0x400ABC freshShadow
     ∷ faults (guest 1 4294967295) true 0xFFFFFFFC freshShadow
     -- [walk: entry outside guest memory] PTO 2 is the last page, 3 is outside; never wrapped, though 4,096·PTO modulo 2^32 is page 0 or the table's
     ∷ gives (guest 2 7) true 0x6ABC (word 2735) (only 6 0x00002800)
@@ -153,8 +155,8 @@ walks =
     ∷ gives (guest 1 6) true 0x1ABC (word 3759) (only 1 0x00003800)
     ∷ writes (guest 1 6) true 0x0FFC 77 3071 (only 0 0x00002800)
     ∷ eqb (hostWord frames memory 1023) (word 3071)
-    ∷ eqb (hostWord frames memory 2047) (word 4095)
-    ∷ eqb (hostWord frames memory 2048) (word 1024)
+    ∷ eqb (hostWord frames memory 2047) 0x00002800
+    ∷ eqb (hostWord frames memory 2048) 0x00000800
     -- [system: below 4,096 times the page count] both sides of the limit; neither table nor shadow counts, and nothing is filled
     ∷ gives (guest 1 6) false 0x2FFC (word 2047) freshShadow
     ∷ faults (guest 1 6) false 0x3000 freshShadow
@@ -177,7 +179,7 @@ walks =
     ∷ faults (shadowed (set full 4 0)) true 0x4ABC (set full 4 0)
     ∷ refuses (shadowed (set full 6 0)) true 0x6ABC (set full 6 0)
     ∷ faults (shadowed (only 4 0x000017FF)) true 0x4ABC (only 4 0x000017FF)
-    ∷ faults (shadowed full) true 0x100ABC full
+    ∷ faults (shadowed full) true 0x400ABC full
     ∷ []
 
 -- ---- hits
@@ -196,7 +198,7 @@ hits =
     ∷ writes (shadowed full) true 0x2ABC 77 1711 full
     -- [hit: px at or above PTL]
     ∷ gives (shadowed full) true 0x6ABC (word 1711) full
-    ∷ gives (shadowed full) true 0xFFABC (word 1711) full
+    ∷ gives (shadowed full) true 0x3FFABC (word 1711) full
     ∷ writes (host (table 1 0) memory full) true 0x0ABC 77 1711 full
     -- [hit: entry px] and not the next one's
     ∷ gives (shadowed (only 1 0x00001800)) true 0x0ABC (word 2735) (set (only 1 0x00001800) 0 0x00002800)
@@ -226,9 +228,10 @@ emptyings =
     ∷ writes (shadowed full) false 0x1014 77 3077 (set full 5 0)
     ∷ writes (shadowed full) false 0x1018 77 3078 full
     ∷ writes (shadowed mapped) true 0x1018 77 3078 mapped
-    -- [emptying: px below 256] 255 is; 256 isn't, in a shadow made one too long
-    ∷ writes (host (table 1 4294967295) memory full) false 0x13FC 77 3327 (set full 255 0)
-    ∷ writes (host (table 1 4294967295) memory (replicate 257 0x00001800)) false 0x1400 77 3328 (replicate 257 0x00001800)
+    -- [emptying: px below 1,024] 1,023 is; the word behind lies in another page; 1,024 isn't, in a shadow made one too long
+    ∷ writes (host (table 1 4294967295) memory full) false 0x1FFC 77 4095 (set full 1023 0)
+    ∷ writes (host (table 1 4294967295) memory full) false 0x2000 77 1024 full
+    ∷ same (emptied frames 3 (table 1 4294967295) 3 1024 (replicate 1025 0x00001800)) (replicate 1025 0x00001800)
     -- [emptying: the table's page] no other page, whatever PTO; none where PTO is outside
     ∷ writes (shadowed full) false 0x0008 77 2050 full
     ∷ writes (shadowed full) false 0x2008 77 1026 full
@@ -278,8 +281,8 @@ alone =
     -- [walk: a lone machine] its table alone decides: each test at its two sides
     loneLoads 1 6 true 0x5ABC (word 1711 ∷ [])
     ∷ loneLoads 1 5 true 0x5ABC []
-    ∷ loneLoads 1 256 true 0xFFABC (word 1711 ∷ [])
-    ∷ loneLoads 1 257 true 0x100ABC []
+    ∷ loneLoads 1 1024 true 0x3FFABC (word 1711 ∷ [])
+    ∷ loneLoads 1 1025 true 0x400ABC []
     ∷ loneLoads 2 7 true 0x6ABC (word 2735 ∷ [])
     ∷ loneLoads (2 ^ 20 + 1) 7 true 0x0ABC []
     ∷ loneLoads 1 6 true 0x4ABC []

@@ -92,7 +92,7 @@ served fr n s user a = if user then looked fr n s (a / 4096) else (hosted fr (di
 unfoldable pub hostRead : Host → ℕ → ℕ → Access
 hostRead s a e = if valid e then Word (getD (s .words) (wordIn (number e) a) 0) else Fault
 
--- A store into word `off` of the frame f hits entry `off` of the table where f holds page PTO: the table lies in that one page.
+-- A store into word `off` of the frame f hits entry `off` of the table where f holds page PTO: the 1,024 entries fill exactly that one page.
 unfoldable pub emptied : List ℕ → ℕ → Table → ℕ → ℕ → List ℕ → List ℕ
 emptied fr n t f off sh =
     if ltb (t .pto) n && eqb (getD fr (t .pto) 0) f && ltb off (t .ptl) && ltb off entries then set sh off 0 else sh

@@ -7,7 +7,7 @@ use Rattle.translate.specs.Entries.{Found, fault, found, judged}
 
 -- how many entries a shadow table has, and how many pages a user's address can name
 abbrev pub entries : ℕ
-entries = 256
+entries = 1024
 
 -- the byte address of entry px, worked out without wrapping
 abbrev pub entryAddress : Table → ℕ → ℕ
