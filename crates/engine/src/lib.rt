@@ -5,6 +5,7 @@ ghost use Prim.Native.Nat.{ℕ, _<_};
 ghost use lib.ListN.{length};
 ghost use Rattle.dlx.specs.Machine.{core, fetched, accessedAt, retabled, stepAt, stretchFrom};
 ghost use Rattle.tickets.specs.Queues.{queues, taking, desk, Queued, Seated};
+ghost use Rattle.translate.specs.Walk.{entries};
 ghost use Rattle.translate.specs.Memory.{host, hostMemory};
 ghost use Rattle.translate.specs.Premises.{Placed, Shadowed};
 ghost use Rattle.engine.specs.Answers.{receivedOf, outcomeOf, stretchOf};
@@ -115,7 +116,7 @@ fn access(
 
 // The table after a change. A change of PTO or PTL empties the shadow.
 fn retable(t: Table, shadow: &mut [u32], c: Change) -> Table
-    requires { ⌜ length (now shadow) ≡ 256 ⌝ }
+    requires { ⌜ length (now shadow) ≡ entries ⌝ }
     ensures { λ r. ⌜ ((fr ws : List ℕ) (n : ℕ) → host r ws (now (shadow .exit)) ≡ retabled (hostMemory fr n) c (host t ws (now (shadow .entry)))) ⌝ }
 {
     match c {

@@ -1,12 +1,13 @@
--- Where an entry of the guest's table lies: word px of the page PTO, so that "outside guest memory" is PTO not below the page count.
+-- Where an entry of the guest's table lies: word px of the page PTO, which the table fills exactly, so that "outside guest memory" is PTO not below the page count.
 use mathlib.Core.Path.{_≡_}
 use mathlib.Core.Bool.{true, false}
 use Prim.Native.Nat.{ℕ, _+_, _*_, _/_, _%_, _<_, _≤_}
 use native.Mathlib.Omega.{arith}
 use borrow.Author.Tests.{le-leb, lt-leb}
 use lib.Dec.{leb}
+use Rattle.translate.specs.Walk.{entries}
 
-module _ (pto px : ℕ) (below : px < 256) where
+module _ (pto px : ℕ) (below : px < entries) where
   pub entry-page : (4096 * pto + 4 * px) / 4 / 1024 ≡ pto
   entry-page = omega arith
 

@@ -4,15 +4,16 @@ ghost use Prim.Native.Nat.{_+_, _*_, _/_, _%_, _<_};
 ghost use lib.ListN.{length, set};
 ghost use Rattle.dlx.specs.declared.partition.Table.{Table};
 ghost use Rattle.translate.specs.Entries.{compositionOf};
-ghost use Rattle.translate.specs.Walk.{direct};
+ghost use Rattle.translate.specs.Walk.{entries, direct};
 ghost use Rattle.translate.specs.Memory.{host, hosted, given, looked, served, hostReads, hostWrites, emptied, freshShadow};
 ghost use Rattle.translate.specs.Premises.{Listed, Placed, Shadowed};
 use dlx::execute::Access;
 use dlx::partition::Table;
 use dlx::words::wide;
+use translate::ENTRIES;
 
-// How many entries a shadow table has, and how many pages a user's address can name.
-pub const ENTRIES: u32 = 256;
+// Virtual pages are below it.
+const LIMIT: u32 = ENTRIES as u32;
 
 // Entry composition: 0 is load, all else store. Answers the guest page, or 4,294,967,295 for a fault.
 pub fn compose(entry: u32, pages: u32, access: u32) -> u32
@@ -41,7 +42,7 @@ fn walk(words: &[u32], frames: &[u32], pages: u32, t: Table, px: u32) -> u32
     if px >= t.ptl {
         return 0;
     }
-    if px >= ENTRIES {
+    if px >= LIMIT {
         return 0;
     }
     let pto = t.pto;
@@ -65,7 +66,7 @@ fn look(words: &[u32], frames: &[u32], shadow: &mut [u32], pages: u32, t: Table,
     requires { ⌜ Placed (now frames) pages (length (now words)) ⌝ ∗ ⌜ Shadowed (now frames) pages (now shadow) ⌝ }
     ensures { λ r. ⌜ (r, host t (now (words .entry)) (now (shadow .exit))) ≡ looked (now (frames .entry)) pages (host t (now (words .entry)) (now (shadow .entry))) px ⌝ }
 {
-    if px >= ENTRIES {
+    if px >= LIMIT {
         return 0;
     }
     let e = shadow[wide(px)];
@@ -140,22 +141,19 @@ fn put(frame: &mut [u32], off: usize, v: u32)
     frame[off] = v;
 }
 
-// What a store into a frame empties: entry `off`, where the frame holds the table.
+// What a store into a frame empties: entry `off`, where the frame holds the table. The table fills one page, so that every word of the frame below PTL is an entry.
 fn empty_entry(frames: &[u32], shadow: &mut [u32], pages: u32, t: Table, frame: u32, off: u32)
-    requires { ⌜ Listed (now frames) pages ⌝ ∗ ⌜ length (now shadow) ≡ 256 ⌝ }
+    requires { ⌜ Listed (now frames) pages ⌝ ∗ ⌜ length (now shadow) ≡ entries ⌝ ∗ ⌜ off < entries ⌝ }
     ensures { λ r. ⌜ now (shadow .exit) ≡ emptied (now (frames .entry)) pages t frame off (now (shadow .entry)) ⌝ }
 {
+    if off >= t.ptl {
+        return;
+    }
     let pto = t.pto;
     if pto >= pages {
         return;
     }
     if frames[wide(pto)] != frame {
-        return;
-    }
-    if off >= t.ptl {
-        return;
-    }
-    if off >= ENTRIES {
         return;
     }
     shadow[wide(off)] = 0;
@@ -191,10 +189,10 @@ pub fn store(
 }
 
 // A fresh shadow table.
-pub fn fresh_shadow() -> [u32; 256]
+pub fn fresh_shadow() -> [u32; ENTRIES]
     ensures { λ r. ⌜ r ≡ freshShadow ⌝ }
 {
-    [0; 256]
+    [0; ENTRIES]
 }
 
 // The words of one list, written over another of the same length.
@@ -211,7 +209,7 @@ pub fn copy(to: &mut [u32], from: &[u32])
 
 // All entries become empty.
 pub fn clear(shadow: &mut [u32])
-    requires { ⌜ length (now shadow) ≡ 256 ⌝ }
+    requires { ⌜ length (now shadow) ≡ entries ⌝ }
     ensures { λ r. ⌜ now (shadow .exit) ≡ freshShadow ⌝ }
 {
     let fresh = fresh_shadow();

@@ -64,7 +64,7 @@ put-requires : tie.Need-put-requires
 put-requires c κs = omega arith
 
 empty-entry-requires : tie.Need-empty-entry-requires
-empty-entry-requires c κs = (placed-listed (c .before .before .before .before .before .before .before .before .before .before .before .before .before .before .before .before .before .pre .0), omega (arith, c .before .before .before .before .before .before .before .before .before .before .before .before .before .before .before .before .before .pre .1 .count))
+empty-entry-requires c κs = (placed-listed (c .before .before .before .before .before .before .before .before .before .before .before .before .before .before .before .before .before .pre .0), (omega (arith, c .before .before .before .before .before .before .before .before .before .before .before .before .before .before .before .before .before .pre .1 .count), omega arith))
 
 same-length-5 : tie.Need-same-length-5
 same-length-5 c = search needs
