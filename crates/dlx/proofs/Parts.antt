@@ -1,7 +1,8 @@
 -- A part of a list, and the list with another part in its place.
 use Prim.Native.Nat.{ℕ, _+_, _-_, _*_, _<_, _≤_}
-use mathlib.Core.Path.{_≡_, sym, _∙_, ap}
+use mathlib.Core.Path.{_≡_, sym, subst, _∙_, ap}
 use mathlib.Core.List.{List, _++_}
+use native.Mathlib.Nat.{suc-mul, mul-le-mul-right}
 use native.Mathlib.Omega.{arith}
 use borrow.Author.Tests.{ltb-true, ltb-false}
 use lib.ListN.{length, getD, take, drop, replicate, length-append, length-take, length-drop, length-replicate, List·getD-append, List·getD-eq-default}
@@ -93,20 +94,16 @@ inner-above m k a b s f g e l =
     let z : b + i ≡ a + (s + (b + i - (a + s))) = omega arith in
     ap (λ (x : ℕ). getD (outer a s m k) x 0) z ∙ outer-high m a s f k e (b + i - (a + s)) ∙ ap (λ (x : ℕ). getD m x 0) (sym z)
 
--- ---- another partition's part
+-- ---- another partition's part, of s places each
 
--- of 32 registers, or 256 entries
-pub registers-apart : (m k : List ℕ) (i j : ℕ) → i * 32 + 32 ≤ length m → j * 32 + 32 ≤ length m → length k ≡ 32 → (j ≡ i → ⊥) → inner (j * 32) 32 (outer (i * 32) 32 m k) ≡ inner (j * 32) 32 m
-registers-apart m k i j f g e d =
-    by-test (ltb j i)
-    (λ t. let l = ltb-true j i t in inner-other m k (i * 32) (j * 32) 32 f g e (omega arith))
-    (λ t. let l = ltb-false j i t in inner-above m k (i * 32) (j * 32) 32 f g e (omega arith))
+before : (s i j : ℕ) → i < j → i * s + s ≤ j * s
+before s i j l = subst (λ (x : ℕ). x ≤ j * s) (suc-mul i s) (mul-le-mul-right s (omega arith))
 
-pub entries-apart : (m k : List ℕ) (i j : ℕ) → i * 256 + 256 ≤ length m → j * 256 + 256 ≤ length m → length k ≡ 256 → (j ≡ i → ⊥) → inner (j * 256) 256 (outer (i * 256) 256 m k) ≡ inner (j * 256) 256 m
-entries-apart m k i j f g e d =
+pub parts-apart : (s : ℕ) (m k : List ℕ) (i j : ℕ) → i * s + s ≤ length m → j * s + s ≤ length m → length k ≡ s → (j ≡ i → ⊥) → inner (j * s) s (outer (i * s) s m k) ≡ inner (j * s) s m
+parts-apart s m k i j f g e d =
     by-test (ltb j i)
-    (λ t. let l = ltb-true j i t in inner-other m k (i * 256) (j * 256) 256 f g e (omega arith))
-    (λ t. let l = ltb-false j i t in inner-above m k (i * 256) (j * 256) 256 f g e (omega arith))
+    (λ t. inner-other m k (i * s) (j * s) s f g e (before s j i (ltb-true j i t)))
+    (λ t. let l = ltb-false j i t in inner-above m k (i * s) (j * s) s f g e (before s i j (omega arith)))
 
 -- a part put in place twice is the last one
 module _ (m : List ℕ) (a s : ℕ) (fits : a + s ≤ length m) (k l : List ℕ) (e : length k ≡ s) where

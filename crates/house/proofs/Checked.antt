@@ -23,13 +23,14 @@ use Rattle.translate.specs.Memory.{hosted, given, filled, looked, served, hostR
 use Rattle.dlx.proofs.Tests.{by-test, by-eq, and-left, getD-replicate-same}
 use Rattle.dlx.specs.Parts.{inner, outer}
 use Rattle.house.specs.Lists.{listFrom, any, firstFrom}
-use Rattle.house.specs.House.{noHouse}
+use Rattle.house.specs.House.{freshShadows, noHouse}
 use Rattle.tickets.specs.Queues.{sending, taking, desk}
 use Rattle.house.specs.Damage.{outsideLimits, frameTwice, turnWrong, registersWrong, shadowWrong, unusedWrong, partitionUsed, queuesWrong, damaged}
 use Rattle.house.specs.Boot.{firstOf, sum, bootVerdict, laid, offset, bootedHouse}
 use Rattle.house.specs.Turns.{nextFrom, turnOf, requestNow, replyNow, queuesNext, guestStep, settledHouse, stepWith, hostStep, hostSteps}
 use Rattle.house.specs.Calls.{bootCall, runVerdict, runCall, oneVerdict, started, stopped, emptiedHouse, startCall, stopCall, emptyCall, readVerdict, readOut, readCall}
 use Rattle.house.specs.Examples.{alone, two, idle, three, uneven, seven, busy, pair, interrupt, current, answers, flags, fields, numbers, sameHouse, sameWorld, ran, once, mapped, papers, plain, unbooted, boots, widest, after, trapped, six, counts, stepping, comes, turns, missized, refuses, does, reading, gives, calls, beyond, within, twice, once-each, outOfTurn, inTurn, misset, set-right, astray, used, damages, places, leaves, across, exchanges, whole}
+use Rattle.house.proofs.Damage.Updates.{fresh-long, fresh-at}
 use Rattle.house.proofs.Lists.Bounded.{and-right}
 use Rattle.house.proofs.Lists.ByRule.{getD-listFrom, length-listFrom}
 
@@ -65,7 +66,7 @@ joined (x ∷ a) b e f = rw (and-left x (all a) e) (joined a b (and-right x (all
 
 -- all that the examples compute with, but damage
 computing : ℕ
-unfolding all papers boots widest turns calls whole damages places exchanges leaves across alone two idle three uneven seven busy pair interrupt current answers same flags fields numbers sameHouse sameWorld ran once mapped plain unbooted after trapped six counts stepping comes missized refuses does reading gives beyond within twice once-each outOfTurn inTurn misset set-right astray used inner outer listFrom any firstFrom firstOf sum bootVerdict laid offset bootedHouse nextFrom turnOf requestNow replyNow queuesNext desk sending taking asked requestOf guestStep settledHouse stepWith hostStep hostSteps bootCall runVerdict runCall oneVerdict started stopped emptiedHouse startCall stopCall emptyCall readVerdict readOut readCall judged composed walked direct hosted given filled looked served hostRead emptied hostWritten hostReads hostWrites step fetched executed loaded stored accessed received handed settled retabled instructionOf registerType effectOf written valueOf overflowsOf operated reached loads stores movedTo trapOf specialOf withSpecial interrupted levelOf trailingZeros extendedBy readIn holds
+unfolding freshShadows all papers boots widest turns calls whole damages places exchanges leaves across alone two idle three uneven seven busy pair interrupt current answers same flags fields numbers sameHouse sameWorld ran once mapped plain unbooted after trapped six counts stepping comes missized refuses does reading gives beyond within twice once-each outOfTurn inTurn misset set-right astray used inner outer listFrom any firstFrom firstOf sum bootVerdict laid offset bootedHouse nextFrom turnOf requestNow replyNow queuesNext desk sending taking asked requestOf guestStep settledHouse stepWith hostStep hostSteps bootCall runVerdict runCall oneVerdict started stopped emptiedHouse startCall stopCall emptyCall readVerdict readOut readCall judged composed walked direct hosted given filled looked served hostRead emptied hostWritten hostReads hostWrites step fetched executed loaded stored accessed received handed settled retabled instructionOf registerType effectOf written valueOf overflowsOf operated reached loads stores movedTo trapOf specialOf withSpecial interrupted levelOf trailingZeros extendedBy readIn holds
 computing = 0
 
 -- how a call comes to its answer
@@ -103,13 +104,13 @@ checked =
 
     -- Damage reads thousands of places: first each is turned into what stands there, then all is computed.
     two-whole : damaged two ≡ false
-    two-whole = unfold damaging in simp (part-at, rule-at, getD-replicate-same) (unfold computing in refl)
+    two-whole = unfold damaging in simp (part-at, rule-at, getD-replicate-same, fresh-at) (unfold computing in refl)
 
     idle-whole : damaged idle ≡ false
-    idle-whole = unfold damaging in simp (part-at, rule-at, getD-replicate-same) (unfold computing in refl)
+    idle-whole = unfold damaging in simp (part-at, rule-at, getD-replicate-same, fresh-at) (unfold computing in refl)
 
     uneven-whole : damaged uneven ≡ false
-    uneven-whole = unfold damaging in simp (part-at, rule-at, getD-replicate-same) (unfold computing in refl)
+    uneven-whole = unfold damaging in simp (part-at, rule-at, getD-replicate-same, fresh-at) (unfold computing in refl)
 
     missized-damaged : damaged missized ≡ true
     missized-damaged = unfold damaging computing in refl
@@ -124,7 +125,7 @@ checked =
     of-damages = unfold damaging computing in refl
 
     of-places : all places ≡ true
-    of-places = unfold damaging in simp (set-at, part-at, rule-at, getD-replicate-same) (unfold computing in refl)
+    of-places = unfold damaging in simp (set-at, part-at, rule-at, getD-replicate-same, fresh-at, fresh-long) (unfold computing in refl)
 
     of-exchanges : all exchanges ≡ true
     of-exchanges = unfold damaging computing in refl

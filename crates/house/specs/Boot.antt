@@ -7,7 +7,7 @@ use lib.ListN.{length, getD, replicate}
 use Rattle.dlx.specs.Choice.{if_then_else_}
 use Rattle.dlx.specs.Processor.{freshOf}
 use Rattle.house.specs.Lists.{listFrom, any, firstFrom, between}
-use Rattle.house.specs.House.{noPartition, noHouse, layout, guests, turn, withLayout, withTurn, withGuests}
+use Rattle.house.specs.House.{freshShadows, noPartition, noHouse, layout, guests, turn, withLayout, withTurn, withGuests}
 use Rattle.house.specs.Damage.{wholeFrames}
 use Rattle.house.specs.declared.House.{House}
 
@@ -86,5 +86,5 @@ bootedHouse ps q fr words =
     (guests
     (listFrom (λ i. if ltb i (length ps) then freshOf (getD ps i 0) else noPartition) 0 8)
     (replicate 256 0)
-    (replicate 2048 0)))
+    freshShadows))
     (layout (length ps) q words (listFrom (laid ps fr) 0 2048))

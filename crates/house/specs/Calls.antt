@@ -74,7 +74,7 @@ stopped h i =
     else turn (h .current) (h .left))
 
 unfoldable pub emptiedHouse : House → ℕ → House
-emptiedHouse h i = withShadows h (outer (i * 256) 256 (h .shadows) (replicate entries 0))
+emptiedHouse h i = withShadows h (outer (i * entries) entries (h .shadows) (replicate entries 0))
 
 unfoldable pub startCall : World → ℕ → Answered
 startCall w i = unlessRefused (oneVerdict (w .house) i) w (world (started (w .house) i) (w .memory))

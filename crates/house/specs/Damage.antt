@@ -89,7 +89,7 @@ unusedWrong h =
     || partitionUsed (partition h i)
     || notZero (h .regs) (i * 32) 32
     || notZero (h .frames) (i * 256) 256
-    || notZero (h .shadows) (i * 256) 256) 8
+    || notZero (h .shadows) (i * entries) entries) 8
 
 -- a count above 32, or of a partition that is not there; or anything but 0 in a place of a queue that no ticket uses
 abbrev pub queueWrong : House → ℕ → Bool

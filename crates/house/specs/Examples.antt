@@ -12,8 +12,9 @@ use Rattle.dlx.specs.Interrupts.{levelOf}
 use Rattle.dlx.specs.declared.partition.Partition.{Partition}
 use Rattle.dlx.specs.declared.partition.Processor.{Processor}
 use Rattle.translate.specs.Entries.{entryOf, faultWord, compositionOf}
+use Rattle.translate.specs.Walk.{entries}
 use Rattle.house.specs.Lists.{listFrom}
-use Rattle.house.specs.House.{noHouse, layout, guests, turn, withLayout, withTurn, withGuests, withQueues, withFrames, withParts, withRegisters, withShadows, partition, registersOf}
+use Rattle.house.specs.House.{freshShadows, noHouse, layout, guests, turn, withLayout, withTurn, withGuests, withQueues, withFrames, withParts, withRegisters, withShadows, partition, registersOf}
 use Rattle.house.specs.Damage.{outsideLimits, frameTwice, turnWrong, registersWrong, shadowWrong, partitionUsed, unusedWrong, queuesWrong, damaged}
 use Rattle.tickets.specs.Queues.{Queues, queues}
 use Rattle.house.specs.Boot.{Verdict, bootVerdict, bootedHouse}
@@ -118,7 +119,7 @@ unfoldable pub busy : List Bool → ℕ → ℕ → House
 busy running c l =
     withQueues
     (withGuests (turning (withSizes noHouse 4 9 3072 (set (set (listFrom (λ j. 10000 + j) 0 300) 256 2) 257 1)) running c l)
-    (guests (listFrom numbered 0 8) (set (listFrom (λ j. 1000 + j) 0 128) 32 0) (listFrom (λ j. 0x8000 + j) 0 800)))
+    (guests (listFrom numbered 0 8) (set (listFrom (λ j. 1000 + j) 0 128) 32 0) (listFrom (λ j. 4096 * (8 + j)) 0 (3 * entries + 32))))
     (queues (listFrom (λ j. 40000 + j) 0 64) (listFrom (λ j. 4 + j) 0 8))
 
 -- ---- what is looked at
@@ -146,7 +147,7 @@ current h c l = eqb (h .current) c && eqb (h .left) l
 unfoldable pub answers : Verdict → ℕ → ℕ → Bool
 answers v n d = eqb (v .number) n && eqb (v .detail) d
 
--- every number in a house, 4,741 of them
+-- every number in a house, 10,885 of them
 
 unfoldable pub flags : List Bool → List ℕ
 flags [] = []
@@ -188,14 +189,14 @@ system r w = once 0 0 r w
 abbrev user : List ℕ → ℕ → World
 user r w = once 0 1 r w
 
--- One step of the word w at address 0, by a user with so many of the frames 3, 1, 4 and 2. Its table is its page 1, with 257 entries: 0 leads to page
--- 0, px is the entry e. Register 1 is 9, register 2 is 4,096·px, and page 3 begins with 77.
+-- One step of the word w at address 0, by a user with so many of the frames 3, 1, 4 and 2. Its table is its page 1, PTL is 1,025: 0 leads to page 0, px is
+-- the entry e, and so is the word behind the page. Register 1 is 9, register 2 is 4,096·px, and page 3 begins with 77.
 unfoldable pub mapped : ℕ → ℕ → ℕ → ℕ → World
 mapped pages px e w =
     let h = bootedHouse (pages ∷ []) 2 (take pages (3 ∷ 1 ∷ 4 ∷ 2 ∷ [])) 5120 in
     hostStep
-    (world (withRegisters (withPart h 0 (part pages (at 0 4 0 1 1) 1 257 0)) (0 ∷ 9 ∷ 4096 * px ∷ zeros 253))
-    (set (set (set (set (zeros 5120) 1024 0x00000800) (1024 + px) e) 2048 77) 3072 w))
+    (world (withRegisters (withPart h 0 (part pages (at 0 4 0 1 1) 1 1025 0)) (0 ∷ 9 ∷ 4096 * px ∷ zeros 253))
+    (set (set (set (set (set (zeros 5120) 1024 0x00000800) (1024 + px) e) 4096 e) 2048 77) 3072 w))
 
 -- of register 1 at the address in register 2
 abbrev lw : ℕ
@@ -248,9 +249,9 @@ papers =
     ∷ eqb (compositionOf 0x00003C00 3 1) faultWord
     ∷ interrupt (mapped 3 1 0x00003C00 lw) 16 0 4 0x1000
     ∷ interrupt (mapped 3 1 0x00003C00 sw) 16 0 4 0x1000
-    -- px 255 may pass, 256 never
-    ∷ eqb (register (mapped 4 255 0x00003800 lw) 1) 77
-    ∷ interrupt (mapped 4 256 0x00003800 lw) 16 0 4 0x100000
+    -- px 1,023 may pass, 1,024 never
+    ∷ eqb (register (mapped 4 1023 0x00003800 lw) 1) 77
+    ∷ interrupt (mapped 4 1024 0x00003800 lw) 16 0 4 0x400000
     ∷ []
 
 -- ---- boot
@@ -262,7 +263,7 @@ plain q words = bootVerdict (1 ∷ []) q (1 ∷ []) words
 -- a refused boot returns the house of no partitions, every number in it 0, and the memory as it was
 unfoldable pub unbooted : Answered → ℕ → ℕ → List ℕ → Bool
 unbooted a n d m =
-    answers (a .verdict) n d && same (numbers (a .world .house)) (zeros 4741) && same (a .world .memory) m
+    answers (a .verdict) n d && same (numbers (a .world .house)) (zeros 10885) && same (a .world .memory) m
 
 unfoldable pub boots : List Bool
 boots =
@@ -326,7 +327,7 @@ boots =
     answers (a .verdict) 0 0
     && same (numbers (a .world .house))
     (3 ∷ 7 ∷ 6144 ∷ 0 ∷ 7 ∷ 1 ∷ 1 ∷ 1 ∷ zeros 5
-    ++ (2 ∷ 0 ∷ 4 ∷ zeros 11 ++ (1 ∷ 0 ∷ 4 ∷ zeros 11 ++ (2 ∷ 0 ∷ 4 ∷ zeros 11 ++ (zeros 70 ++ (zeros 256 ++ (4 ∷ 2 ∷ zeros 254 ++ (3 ∷ zeros 255 ++ (5 ∷ 1 ∷ zeros 1534 ++ (zeros 2048 ++ zeros 264))))))))))
+    ++ (2 ∷ 0 ∷ 4 ∷ zeros 11 ++ (1 ∷ 0 ∷ 4 ∷ zeros 11 ++ (2 ∷ 0 ∷ 4 ∷ zeros 11 ++ (zeros 70 ++ (zeros 256 ++ (4 ∷ 2 ∷ zeros 254 ++ (3 ∷ zeros 255 ++ (5 ∷ 1 ∷ zeros 1534 ++ (freshShadows ++ zeros 264))))))))))
     && same (a .world .memory) (told 6144))
     ∷ []
 
@@ -391,13 +392,13 @@ turns =
     -- [turn: one step] changes nothing of another partition's
     ∷ same (numbers six)
     (2 ∷ 5 ∷ 3072 ∷ 1 ∷ 4 ∷ 1 ∷ 1 ∷ zeros 6
-    ++ (1 ∷ 0 ∷ 4 ∷ 0 ∷ 0 ∷ 2 ∷ 4 ∷ 0 ∷ zeros 5 ++ (5 ∷ 1 ∷ 4 ∷ 8 ∷ zeros 10 ++ (1 ∷ zeros 84 ++ (zeros 33 ++ (5 ∷ zeros 222 ++ (1 ∷ zeros 255 ++ (2 ∷ zeros 4103))))))))
+    ++ (1 ∷ 0 ∷ 4 ∷ 0 ∷ 0 ∷ 2 ∷ 4 ∷ 0 ∷ zeros 5 ++ (5 ∷ 1 ∷ 4 ∷ 8 ∷ zeros 10 ++ (1 ∷ zeros 84 ++ (zeros 33 ++ (5 ∷ zeros 222 ++ (1 ∷ zeros 255 ++ (2 ∷ zeros 10247))))))))
     -- in a full house: 0xAC4116B2 stores 1033 at 0x1ABC of partition 1, so in frame 1
     ∷ comes (stepping 5 0 0xAC4116B2) 1 4 (own 12 16 0 1) (busy alternate 1 0 .regs) (busy alternate 1 0 .shadows)
     (set (lent 0xAC4116B2) 1711 1033)
     -- [turn: 0 left] 0x8C4516B2 loads it in user mode at the last step: registers and shadow go to the partition that made it
     ∷ comes (stepping 1 1 0x8C4516B2) 3 9 (own 12 16 1 1) (set (busy alternate 1 0 .regs) 37 (word 1711))
-    (set (set (busy alternate 1 0 .shadows) 256 0x00002800) 257 0x00001C00) (lent 0x8C4516B2)
+    (set (set (busy alternate 1 0 .shadows) 1024 0x00002800) 1025 0x00001C00) (lent 0x8C4516B2)
     -- [turn: trap in system mode] passes, once also where it is the last step, and to itself if alone
     ∷ current (trapped 2) 1 2
     ∷ current (trapped 1) 1 1
@@ -408,7 +409,7 @@ turns =
     -- [turn: trap in user mode] and any other interrupt: the turn goes on
     ∷ comes (stepping 5 1 0xF8000007) 1 4
     (record { dpc = 0; pc = 4; sr = 0; esr = 64; eca = 32; epc = 16; edpc = 12; edata = 7; mode = 0; emode = 1 }) (busy alternate 1 0 .regs)
-    (set (busy alternate 1 0 .shadows) 256 0x00002800) (lent 0xF8000007)
+    (set (busy alternate 1 0 .shadows) 1024 0x00002800) (lent 0xF8000007)
     ∷ comes (stepping 5 0 0) 1 4
     (record { dpc = 0; pc = 4; sr = 0; esr = 64; eca = 2; epc = 12; edpc = 8; edata = 95; mode = 0; emode = 0 }) (busy alternate 1 0 .regs)
     (busy alternate 1 0 .shadows) (lent 0)
@@ -439,10 +440,10 @@ turns =
     ∷ sameHouse (stopped (busy alternate 1 5) 2) (busy alternate 1 5)
     ∷ sameHouse (stopped idle 0) idle
     -- [empty: one shadow] one partition's whole shadow, and no other's
-    ∷ sameHouse (emptiedHouse (withShadows three (set (set (set (set (zeros 2048) 255 0x1800) 256 0x2800) 511 0x2C00) 512 0x3800)) 1)
-    (withShadows three (set (set (zeros 2048) 255 0x1800) 512 0x3800))
+    ∷ sameHouse (emptiedHouse (withShadows three (set (set (set (set freshShadows 1023 0x1800) 1024 0x2800) 2047 0x2C00) 2048 0x3800)) 1)
+    (withShadows three (set (set freshShadows 1023 0x1800) 2048 0x3800))
     ∷ sameHouse (emptiedHouse (busy alternate 1 5) 2)
-    (withShadows (busy alternate 1 5) (take 512 (busy alternate 1 0 .shadows) ++ (zeros 256 ++ drop 768 (busy alternate 1 0 .shadows))))
+    (withShadows (busy alternate 1 5) (take 2048 (busy alternate 1 0 .shadows) ++ (zeros entries ++ drop 3072 (busy alternate 1 0 .shadows))))
     ∷ []
 
 -- ---- the calls
@@ -568,7 +569,7 @@ abbrev withRegister : ℕ → ℕ → House
 withRegister j x = withRegisters two (set (zeros 256) j x)
 
 abbrev withEntry : ℕ → ℕ → House
-withEntry j e = withShadows two (set (zeros 2048) j e)
+withEntry j e = withShadows two (set freshShadows j e)
 
 -- a count or frame outside boot's limits; and houses at their limits
 unfoldable pub beyond : List House
@@ -674,16 +675,16 @@ set-right =
 unfoldable pub astray : List House
 astray =
     -- [damage: shadow entry's frame] of another partition, of none, and what stands in an unused place
-    withEntry 511 (entryOf 1 0)
-    ∷ withEntry 511 (entryOf 3 1)
-    ∷ withEntry 511 (entryOf 0 0)
+    withEntry 2047 (entryOf 1 0)
+    ∷ withEntry 2047 (entryOf 3 1)
+    ∷ withEntry 2047 (entryOf 0 0)
     -- [damage: stray bits 9..0]
-    ∷ withEntry 511 (entryOf 2 0 + 1)
-    ∷ withEntry 511 (entryOf 2 1 + 512)
+    ∷ withEntry 2047 (entryOf 2 0 + 1)
+    ∷ withEntry 2047 (entryOf 2 1 + 512)
     -- [damage: entry not empty and not valid]
-    ∷ withEntry 511 1
-    ∷ withEntry 511 1024
-    ∷ withEntry 511 0x00001000
+    ∷ withEntry 2047 1
+    ∷ withEntry 2047 1024
+    ∷ withEntry 2047 0x00001000
     ∷ []
 
 -- a place with 1 for its k-th number
@@ -740,12 +741,12 @@ places =
     ∷ unusedWrong (withFrame seven 1792 1)
     ∷ unusedWrong (withFrame two 2047 1)
     -- [damage: unused shadow place]
-    ∷ damaged (withEntry 767 (entryOf 1 0))
-    ∷ unusedWrong (withShadows seven (set (zeros 2048) 1792 1))
+    ∷ damaged (withEntry 3071 (entryOf 1 0))
+    ∷ unusedWrong (withShadows seven (set freshShadows 7168 1))
     -- [damage: queue count], beside all that is right
     ∷ damaged (withQueues two (queues (zeros 256) (set (zeros 8) 7 1)))
     -- [damage: shadow entry's frame] an own frame, protected or not, is right
-    ∷ not (damaged (withEntry 263 (entryOf 2 1)))
+    ∷ not (damaged (withEntry 1031 (entryOf 2 1)))
     ∷ []
 
 -- ---- tickets

@@ -6,9 +6,18 @@ use lib.ListN.{getD, replicate}
 use Rattle.dlx.specs.Processor.{freshOf, withProcessor}
 use Rattle.dlx.specs.declared.partition.Partition.{Partition}
 use Rattle.dlx.specs.Parts.{inner}
+use Rattle.translate.specs.Walk.{entries}
 use Rattle.tickets.specs.Queues.{Queues, queues}
 use Rattle.house.specs.declared.House.{House}
 use Rattle.house.specs.declared.Turn.{Turn}
+
+-- the shadow entries of all partitions
+abbrev pub allEntries : ℕ
+allEntries = 8 * entries
+
+-- every shadow empty
+unfoldable pub freshShadows : List ℕ
+freshShadows = replicate allEntries 0
 
 -- a place that no partition uses
 abbrev pub noPartition : Partition
@@ -27,7 +36,7 @@ noHouse = record {
   parts = replicate 8 noPartition;
   regs = replicate 256 0;
   frames = replicate 2048 0;
-  shadows = replicate 2048 0;
+  shadows = freshShadows;
   tickets = replicate 256 0;
   waiting = replicate 8 0;
 }
@@ -127,4 +136,4 @@ abbrev pub framesOf : House → ℕ → List ℕ
 framesOf h i = inner (i * 256) 256 (h .frames)
 
 abbrev pub shadowOf : House → ℕ → List ℕ
-shadowOf h i = inner (i * 256) 256 (h .shadows)
+shadowOf h i = inner (i * entries) entries (h .shadows)

@@ -8,7 +8,7 @@ use Rattle.dlx.specs.declared.partition.Partition.{Partition}
 use Rattle.translate.specs.Entries.{number, valid}
 use Rattle.translate.specs.Walk.{entries}
 use Rattle.translate.specs.Premises.{Placed, Own, Shadowed}
-use Rattle.house.specs.House.{noPartition, partition, pagesOf, runs, registersOf, framesOf, shadowOf, queuesOf}
+use Rattle.house.specs.House.{allEntries, noPartition, partition, pagesOf, runs, registersOf, framesOf, shadowOf, queuesOf}
 use Rattle.house.specs.Damage.{damaged}
 use Rattle.house.specs.Turns.{World}
 use Rattle.tickets.specs.Queues.{waitingOf, ProperQueue}
@@ -20,7 +20,7 @@ pub record Shaped (h : House) : Type 0 where
   pub parts : length (h .parts) ≡ 8
   pub regs : length (h .regs) ≡ 256
   pub frames : length (h .frames) ≡ 2048
-  pub shadows : length (h .shadows) ≡ 2048
+  pub shadows : length (h .shadows) ≡ allEntries
   pub tickets : length (h .tickets) ≡ 256
   pub waiting : length (h .waiting) ≡ 8
 
@@ -53,7 +53,7 @@ pub record Unused (h : House) (i : ℕ) : Type 0 where
   pub none : partition h i ≡ noPartition
   pub regs : (k : ℕ) → k < 32 → getD (registersOf h i) k 0 ≡ 0
   pub frames : (k : ℕ) → k < 256 → getD (framesOf h i) k 0 ≡ 0
-  pub shadows : (k : ℕ) → k < 256 → getD (shadowOf h i) k 0 ≡ 0
+  pub shadows : (k : ℕ) → k < entries → getD (shadowOf h i) k 0 ≡ 0
 
 pub record Undamaged (h : House) : Type 0 where
   -- boot's limits

@@ -9,6 +9,7 @@ use Rattle.dlx.specs.Machine.{Ops, Core, core, Outcome, Request, asked, step, S
 use Rattle.dlx.specs.Processor.{withProcessor, withTable, withCounter}
 use Rattle.dlx.specs.declared.execute.Reply.{Reply}
 use Rattle.dlx.specs.declared.partition.Partition.{Partition}
+use Rattle.translate.specs.Walk.{entries}
 use Rattle.translate.specs.Memory.{Host, host, hostMemory}
 use Rattle.dlx.specs.Parts.{outer}
 use Rattle.house.specs.House.{guests, turn, withTurn, withGuests, withQueues, partition, pagesOf, registersOf, framesOf, shadowOf, queuesOf}
@@ -79,7 +80,7 @@ settledHouse h i o t =
     (guests
     (set (h .parts) i (counted (partition h i) o))
     (outer (i * 32) 32 (h .regs) (o .0 .core .registers))
-    (outer (i * 256) 256 (h .shadows) (o .1 .shadow)))
+    (outer (i * entries) entries (h .shadows) (o .1 .shadow)))
 
 unfoldable pub stepWith : House → Outcome × Host → World
 stepWith h o = world (settledHouse h (h .current) o (turnAfter h 1 (o .0 .calls))) (o .1 .words)
@@ -109,7 +110,7 @@ stretchedHouse h i r t =
     (guests
     (set (h .parts) i (countedOn (partition h i) r))
     (outer (i * 32) 32 (h .regs) (r .core .registers))
-    (outer (i * 256) 256 (h .shadows) (r .memory .shadow))))
+    (outer (i * entries) entries (h .shadows) (r .memory .shadow))))
     (r .desk)
 
 -- the house h with what a host step may change

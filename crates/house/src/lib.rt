@@ -1,7 +1,11 @@
-// The house: one state for up to 8 partitions. Partition i's registers stand at 32 * i, its frame list and its shadow at 256 * i.
+// The house: one state for up to 8 partitions. Partition i's registers stand at 32 * i, its frame list at 256 * i, its shadow at ENTRIES * i.
 ghost use mathlib.Core.Path.{_≡_};
 ghost use Rattle.house.specs.House.{noHouse};
 use dlx::partition::Partition;
+use translate::ENTRIES;
+
+// The shadow entries of all partitions.
+pub const ALL_ENTRIES: usize = 8 * ENTRIES;
 
 pub struct House {
     pub count: u32,
@@ -13,7 +17,7 @@ pub struct House {
     pub parts: [Partition; 8],
     pub regs: [u32; 256],
     pub frames: [u32; 2048],
-    pub shadows: [u32; 2048],
+    pub shadows: [u32; ALL_ENTRIES],
     pub tickets: [u32; 256],
     pub waiting: [u32; 8],
 }
@@ -42,7 +46,7 @@ impl House {
         let parts = [unused; 8];
         let regs = [0u32; 256];
         let frames = [0u32; 2048];
-        let shadows = [0u32; 2048];
+        let shadows = [0u32; ALL_ENTRIES];
         let tickets = [0u32; 256];
         let waiting = [0u32; 8];
         House {

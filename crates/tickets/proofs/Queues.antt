@@ -14,7 +14,7 @@ use Rattle.dlx.proofs.Kept.{either, getD-set-elim, KeptReply, KeptRequest}
 use Rattle.dlx.proofs.Tests.{by-test, by-eq}
 use Rattle.dlx.specs.Parts.{inner}
 use Rattle.tickets.specs.Queues.{Queued, ProperQueue, Queues, placesOf, waitingOf, sentOn, takenOff, sending, taking, desk, queueOf, oldest, ruled, sentTo, takenBy, lined, Moved, stays, takesOne, sendsOne}
-use Rattle.dlx.proofs.Parts.{part-at, part-each, inner-length, outer-length, inner-outer, outer-each, registers-apart}
+use Rattle.dlx.proofs.Parts.{part-at, part-each, inner-length, outer-length, inner-outer, outer-each, parts-apart}
 
 -- ---- one word set, in a part of 32 places and outside it
 
@@ -145,7 +145,7 @@ module _ (t : Queues) (q : Queued t) where
         ∙ rw (first-place, taken-waits, taken-places)
 
     taken-places-other : (k : ℕ) → k < 8 → (k ≡ i → ⊥) → placesOf (takenOff t i) k ≡ placesOf t k
-    taken-places-other k l d = registers-apart (t .tickets) moved i k fits (omega (arith, q .tickets)) moved-count d
+    taken-places-other k l d = parts-apart 32 (t .tickets) moved i k fits (omega (arith, q .tickets)) moved-count d
 
     pub taken-other : (k : ℕ) → k < 8 → (k ≡ i → ⊥) → queueOf (takenOff t i) k ≡ queueOf t k
     unfolding queueOf

@@ -10,24 +10,24 @@ use Rattle.house.specs.Calls.{emptiedHouse}
 use Rattle.house.specs.Sound.{Shaped}
 use Rattle.house.specs.declared.House.{House}
 use Rattle.house.proofs.Damage.Updates.{guests-shaped}
-use Rattle.dlx.proofs.Parts.{inner-outer, outer-length, entries-apart}
+use Rattle.dlx.proofs.Parts.{inner-outer, outer-length, parts-apart}
 
-pub fresh-count : length freshShadow ≡ 256
+pub fresh-count : length freshShadow ≡ entries
 fresh-count = length-replicate {A = ℕ} entries 0
 
 module _ (h : House) (i : ℕ) (s : Shaped h) (small : i < 8) where
-  room : i * 256 + 256 ≤ length (h .shadows)
+  room : i * entries + entries ≤ length (h .shadows)
   room = omega (arith, s .shadows)
 
   pub emptied-shaped : Shaped (emptiedHouse h i)
   unfolding emptiedHouse
   emptied-shaped =
-      guests-shaped h s _ (s .parts) (s .regs) (outer-length (h .shadows) (i * 256) 256 room freshShadow fresh-count ∙ s .shadows)
+      guests-shaped h s _ (s .parts) (s .regs) (outer-length (h .shadows) (i * entries) entries room freshShadow fresh-count ∙ s .shadows)
 
   pub emptied-own : shadowOf (emptiedHouse h i) i ≡ freshShadow
   unfolding emptiedHouse
-  emptied-own = inner-outer (h .shadows) (i * 256) 256 room freshShadow fresh-count
+  emptied-own = inner-outer (h .shadows) (i * entries) entries room freshShadow fresh-count
 
   pub emptied-other : (j : ℕ) → j < 8 → (j ≡ i → ⊥) → shadowOf (emptiedHouse h i) j ≡ shadowOf h j
   unfolding emptiedHouse
-  emptied-other j l n = entries-apart (h .shadows) freshShadow i j room (omega (arith, s .shadows)) fresh-count n
+  emptied-other j l n = parts-apart entries (h .shadows) freshShadow i j room (omega (arith, s .shadows)) fresh-count n

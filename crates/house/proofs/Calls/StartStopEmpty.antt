@@ -113,7 +113,7 @@ module _ (w : World) (i : ℕ) (y : Typed w) (d : OneDone (w .house) i) where
         (λ q. rw (q, emptied-own h i (y .shaped) small, getD-replicate-same entries 0 px) (empty-proper (framesOf h i) (pagesOf h i)))
         (λ n. rw (emptied-other h i (y .shaped) small j (omega (arith, u .few)) n) (u .proper j px l m));
     none = λ j k l m n. rw (emptied-other h i (y .shaped) small j m (λ q. omega (arith, d .there))) (u .unused j l m .shadows k n);
-    words = outer-each (h .shadows) (i * 256) 256 (omega (arith, y .shaped .shadows, small)) freshShadow fresh-count (λ x. x < 2 ^ 32) (y .shadows) (zeros-words entries);
+    words = outer-each (h .shadows) (i * entries) entries (omega (arith, y .shaped .shadows, small)) freshShadow fresh-count (λ x. x < 2 ^ 32) (y .shadows) (zeros-words entries);
   }
 
   pub emptied-stays : Stays w (world (emptiedHouse h i) (w .memory))

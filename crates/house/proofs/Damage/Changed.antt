@@ -8,7 +8,7 @@ use lib.ListN.{length, getD}
 use Rattle.translate.specs.Walk.{entries}
 use Rattle.dlx.proofs.Tests.{by-eq}
 use Rattle.dlx.specs.Parts.{inner}
-use Rattle.house.specs.House.{pagesOf, framesOf}
+use Rattle.house.specs.House.{allEntries, pagesOf, framesOf}
 use Rattle.house.specs.Turns.{world}
 use Rattle.house.specs.Sound.{Proper, Undamaged, Typed, Stays}
 use Rattle.house.specs.declared.House.{House}
@@ -27,9 +27,9 @@ pub record TurnRight (h : House) (running : List Bool) (t : Turn) : Type 0 where
   pub busy : (t .left ≡ 0 → ⊥) → (t .current < h .count) × (getD running (t .current) false ≡ true) × (t .left ≤ h .q)
 
 pub record ShadowsRight (h : House) (shadows : List ℕ) : Type 0 where
-  pub long : length shadows ≡ 2048
-  pub proper : (i px : ℕ) → i < h .count → px < entries → Proper (framesOf h i) (pagesOf h i) (getD (inner (i * 256) 256 shadows) px 0)
-  pub none : (i k : ℕ) → h .count ≤ i → i < 8 → k < 256 → getD (inner (i * 256) 256 shadows) k 0 ≡ 0
+  pub long : length shadows ≡ allEntries
+  pub proper : (i px : ℕ) → i < h .count → px < entries → Proper (framesOf h i) (pagesOf h i) (getD (inner (i * entries) entries shadows) px 0)
+  pub none : (i k : ℕ) → h .count ≤ i → i < 8 → k < entries → getD (inner (i * entries) entries shadows) k 0 ≡ 0
   pub words : (k : ℕ) → getD shadows k 0 < 2 ^ 32
 
 module _ (h : House) (m : List ℕ) (u : Undamaged h) (y : Typed (world h m)) where

@@ -11,6 +11,7 @@ use Rattle.dlx.specs.Choice.{if_then_else_}
 use Rattle.dlx.specs.declared.partition.Partition.{Partition}
 use Rattle.dlx.proofs.Kept.{either}
 use Rattle.translate.specs.Entries.{number, valid, entryOf}
+use Rattle.translate.specs.Walk.{entries}
 use Rattle.translate.specs.Premises.{Own}
 use Rattle.translate.proofs.Entries.{number-entry, valid-entry, empty-invalid}
 use Rattle.dlx.proofs.Tests.{and-left}
@@ -161,7 +162,7 @@ module _ (h : House) where
       || partitionUsed (partition h i)
       || notZero (h .regs) (i * 32) 32
       || notZero (h .frames) (i * 256) 256
-      || notZero (h .shadows) (i * 256) 256
+      || notZero (h .shadows) (i * entries) entries
 
   abbrev pub badPlace : ℕ → Bool
   badPlace i = if ltb i (h .count) then any (badBehind i) 256 else badUnused i

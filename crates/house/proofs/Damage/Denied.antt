@@ -74,7 +74,7 @@ module _ (h : House) (u : Undamaged h) where
   place-zero : (i : ℕ) → h .count ≤ i → i < 8 → badUnused h i ≡ false
   place-zero i l m =
       let z = u .unused i l m in
-      or-none (or-none (or-none (or-none (z .still) (unused-partition _ (z .none))) (zeros-from (h .regs) (i * 32) 32 (z .regs))) (zeros-from (h .frames) (i * 256) 256 (z .frames))) (zeros-from (h .shadows) (i * 256) 256 (z .shadows))
+      or-none (or-none (or-none (or-none (z .still) (unused-partition _ (z .none))) (zeros-from (h .regs) (i * 32) 32 (z .regs))) (zeros-from (h .frames) (i * 256) 256 (z .frames))) (zeros-from (h .shadows) (i * entries) entries (z .shadows))
 
   unused-right : unusedWrong h ≡ false
   unfolding unusedWrong

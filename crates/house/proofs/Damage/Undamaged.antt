@@ -161,7 +161,7 @@ module _ (h : House) where
     place-unused : h .count ≤ i → i < 8 → Unused h i
     place-unused l m =
         let a : badUnused h i ≡ false = simp (le-ltb i (h .count) l) at (place-right m) in
-        let b = or-left (runs h i || partitionUsed (partition h i) || notZero (h .regs) (i * 32) 32 || notZero (h .frames) (i * 256) 256) (notZero (h .shadows) (i * 256) 256) a in
+        let b = or-left (runs h i || partitionUsed (partition h i) || notZero (h .regs) (i * 32) 32 || notZero (h .frames) (i * 256) 256) (notZero (h .shadows) (i * entries) entries) a in
         let c = or-left (runs h i || partitionUsed (partition h i) || notZero (h .regs) (i * 32) 32) (notZero (h .frames) (i * 256) 256) b in
         let d = or-left (runs h i || partitionUsed (partition h i)) (notZero (h .regs) (i * 32) 32) c in
         record {
@@ -169,7 +169,7 @@ module _ (h : House) where
           none = partition-unused (partition h i) (or-right (runs h i) (partitionUsed (partition h i)) d);
           regs = zeros (h .regs) (i * 32) 32 (or-right (runs h i || partitionUsed (partition h i)) (notZero (h .regs) (i * 32) 32) c);
           frames = zeros (h .frames) (i * 256) 256 (or-right (runs h i || partitionUsed (partition h i) || notZero (h .regs) (i * 32) 32) (notZero (h .frames) (i * 256) 256) b);
-          shadows = zeros (h .shadows) (i * 256) 256 (or-right (runs h i || partitionUsed (partition h i) || notZero (h .regs) (i * 32) 32 || notZero (h .frames) (i * 256) 256) (notZero (h .shadows) (i * 256) 256) a);
+          shadows = zeros (h .shadows) (i * entries) entries (or-right (runs h i || partitionUsed (partition h i) || notZero (h .regs) (i * 32) 32 || notZero (h .frames) (i * 256) 256) (notZero (h .shadows) (i * entries) entries) a);
         }
 
   module _ (e : queuesWrong h ≡ false) (j : ℕ) (l : j < 8) where
@@ -255,7 +255,7 @@ module _ (h : House) (e : damaged h ≡ false) where
     pub sound-partition : (i : ℕ) → i < h .count → SoundPartition (world h m) i
     sound-partition i l =
         let c = count-within in
-        let len = inner-length (h .shadows) (i * 256) 256 (omega (arith, s .shadows)) in
+        let len = inner-length (h .shadows) (i * entries) entries (omega (arith, s .shadows)) in
         record {
           placed = record {
             few = u .pages i l .1;

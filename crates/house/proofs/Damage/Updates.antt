@@ -7,13 +7,24 @@ use native.Mathlib.Omega.{arith}
 use lib.ListN.{length, getD, length-replicate, replicate}
 use Rattle.dlx.specs.Processor.{freshOf, withProcessor}
 use Rattle.dlx.specs.declared.partition.Partition.{Partition}
+use Rattle.dlx.proofs.Tests.{getD-replicate-same}
 use Rattle.translate.proofs.Kept.{zeros-words}
 use Rattle.tickets.specs.Queues.{Queues}
-use Rattle.house.specs.House.{noPartition, noHouse, Layout, Guests, withLayout, withTurn, withGuests, withQueues}
+use Rattle.house.specs.House.{allEntries, freshShadows, noPartition, noHouse, Layout, Guests, withLayout, withTurn, withGuests, withQueues}
 use Rattle.house.specs.Turns.{world}
 use Rattle.house.specs.Sound.{Shaped, TypedPartition, Typed}
 use Rattle.house.specs.declared.House.{House}
 use Rattle.house.specs.declared.Turn.{Turn}
+
+-- ---- every shadow empty
+
+pub fresh-long : length freshShadows ≡ allEntries
+unfolding freshShadows
+fresh-long = length-replicate {A = ℕ} allEntries 0
+
+pub fresh-at : (k : ℕ) → getD freshShadows k 0 ≡ 0
+unfolding freshShadows
+fresh-at k = getD-replicate-same allEntries 0 k
 
 -- ---- the arrays' lengths
 
@@ -23,7 +34,7 @@ none-shaped = record {
   parts = length-replicate {A = Partition} 8 noPartition;
   regs = length-replicate {A = ℕ} 256 0;
   frames = length-replicate {A = ℕ} 2048 0;
-  shadows = length-replicate {A = ℕ} 2048 0;
+  shadows = fresh-long;
   tickets = length-replicate {A = ℕ} 256 0;
   waiting = length-replicate {A = ℕ} 8 0;
 }
@@ -51,7 +62,7 @@ module _ (h : House) (s : Shaped h) where
     waiting = s .waiting;
   }
 
-  pub guests-shaped : (g : Guests) → length (g .parts) ≡ 8 → length (g .regs) ≡ 256 → length (g .shadows) ≡ 2048 → Shaped (withGuests h g)
+  pub guests-shaped : (g : Guests) → length (g .parts) ≡ 8 → length (g .regs) ≡ 256 → length (g .shadows) ≡ allEntries → Shaped (withGuests h g)
   guests-shaped g p r z = record {
     running = s .running;
     parts = p;
@@ -117,7 +128,7 @@ none-typed m t = record {
   parts = unused-each 8;
   regs = zeros-words 256;
   frames = zeros-words 2048;
-  shadows = zeros-words 2048;
+  shadows = λ k. rw (fresh-at k) (omega arith);
   tickets = zeros-words 256;
   waiting = zeros-words 8;
   memory = t;

@@ -61,7 +61,7 @@ module _ (w : World) (r : Ready w) where
     long = refl;
     words = r .typed .memory;
     shadowed = ready-sound .each i here .shadowed;
-    shadow = part-each (λ x. x < 2 ^ 32) (w .house .shadows) (i * 256) 256 (omega arith) (r .typed .shadows);
+    shadow = part-each (λ x. x < 2 ^ 32) (w .house .shadows) (i * entries) entries (omega arith) (r .typed .shadows);
   }
 
   shadow-proper : Each (Proper (framesOf (w .house) i) (pagesOf (w .house) i)) (guest w i .1)

@@ -7,6 +7,7 @@ use lib.ListN.{length, getD}
 use Rattle.dlx.specs.Machine.{Outcome}
 use Rattle.dlx.specs.declared.partition.Partition.{Partition}
 use Rattle.dlx.proofs.Kept.{getD-set-elim, Kept}
+use Rattle.translate.specs.Walk.{entries}
 use Rattle.translate.specs.Memory.{Host}
 use Rattle.translate.proofs.Kept.{KeptHost}
 use Rattle.translate.proofs.Each.{Each}
@@ -82,7 +83,7 @@ module _ (w : World) (r : Ready w) (o : Outcome × Host) (t : Turn) where
                 none = own-or-other (λ p _ _. p ≡ noPartition) j m (λ q. absurd (d q)) (λ _. z .none);
                 regs = own-or-other (λ _ g _. (k : ℕ) → k < 32 → getD g k 0 ≡ 0) j m (λ q. absurd (d q)) (λ _. z .regs);
                 frames = z .frames;
-                shadows = own-or-other (λ _ _ s. (k : ℕ) → k < 256 → getD s k 0 ≡ 0) j m (λ q. absurd (d q)) (λ _. z .shadows);
+                shadows = own-or-other (λ _ _ s. (k : ℕ) → k < entries → getD s k 0 ≡ 0) j m (λ q. absurd (d q)) (λ _. z .shadows);
               };
           queued = u .queued;
         }
@@ -118,7 +119,7 @@ module _ (w : World) (r : Ready w) (o : Outcome × Host) (t : Turn) where
         (guests-typed _ (w .memory) y _ (settled-shaped w i s small o a b t)
         (λ j. getD-set-elim TypedPartition (w .house .parts) i j _ noPartition (λ _. counted-typed) (r .typed .parts j))
         (outer-each (w .house .regs) (i * 32) 32 (omega (arith, s .regs, small)) (o .0 .core .registers) a (λ v. v < 2 ^ 32) (r .typed .regs) (core .registers .words))
-        (outer-each (w .house .shadows) (i * 256) 256 (omega (arith, s .shadows, small)) (o .1 .shadow) b (λ v. v < 2 ^ 32) (r .typed .shadows) (memory .shadow)))
+        (outer-each (w .house .shadows) (i * entries) entries (omega (arith, s .shadows, small)) (o .1 .shadow) b (λ v. v < 2 ^ 32) (r .typed .shadows) (memory .shadow)))
         (o .1 .words) (memory .words)
 
     settled-ready : Ready (world (settledHouse (w .house) i o t) (o .1 .words))

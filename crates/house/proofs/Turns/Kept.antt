@@ -13,6 +13,7 @@ use Rattle.dlx.specs.Machine.{Outcome}
 use Rattle.dlx.specs.declared.partition.Partition.{Partition}
 use Rattle.dlx.proofs.Kept.{either, getD-set-elim}
 use Rattle.dlx.proofs.Places.{step-count}
+use Rattle.translate.specs.Walk.{entries}
 use Rattle.translate.specs.Memory.{Host}
 use Rattle.translate.proofs.Steps.{Whole, step-whole}
 use Rattle.dlx.proofs.Tests.{by-eq}
@@ -26,7 +27,7 @@ use Rattle.house.proofs.Damage.Updates.{turn-shaped, guests-shaped, que
 use Rattle.house.proofs.Lists.Bounded.{or-left, one-way}
 use Rattle.tickets.specs.Queues.{Queued}
 use Rattle.tickets.proofs.Queues.{desk-queued}
-use Rattle.dlx.proofs.Parts.{inner-length, outer-length, inner-outer, registers-apart, entries-apart}
+use Rattle.dlx.proofs.Parts.{inner-length, outer-length, inner-outer, parts-apart}
 
 -- ---- whose turn it is
 
@@ -145,14 +146,14 @@ pub settled-pages : (h : House) (i : ℕ) (o : Outcome × Host) (t : Turn) (j : 
 unfolding settledHouse
 settled-pages h i o t j = getD-set-elim (λ (p : Partition). p .pages ≡ pagesOf h j) (h .parts) i j _ noPartition (λ e. ap (pagesOf h) (sym e)) refl
 
-module _ (w : World) (i : ℕ) (s : Shaped (w .house)) (few : i < 8) (o : Outcome × Host) (regs : length (o .0 .core .registers) ≡ 32) (shadow : length (o .1 .shadow) ≡ 256) (t : Turn) where
+module _ (w : World) (i : ℕ) (s : Shaped (w .house)) (few : i < 8) (o : Outcome × Host) (regs : length (o .0 .core .registers) ≡ 32) (shadow : length (o .1 .shadow) ≡ entries) (t : Turn) where
   pub settled-shaped : Shaped (settledHouse (w .house) i o t)
   unfolding settledHouse
   settled-shaped =
       guests-shaped (withTurn (w .house) (w .house .running) t) (turn-shaped (w .house) s (w .house .running) t (s .running)) _
       (length-set (w .house .parts) i _ ∙ s .parts)
       (outer-length (w .house .regs) (i * 32) 32 (omega (arith, s .regs)) _ regs ∙ s .regs)
-      (outer-length (w .house .shadows) (i * 256) 256 (omega (arith, s .shadows)) _ shadow ∙ s .shadows)
+      (outer-length (w .house .shadows) (i * entries) entries (omega (arith, s .shadows)) _ shadow ∙ s .shadows)
 
   pub settled-partition : partition (settledHouse (w .house) i o t) i ≡ counted (partition (w .house) i) o
   unfolding settledHouse
@@ -164,7 +165,7 @@ module _ (w : World) (i : ℕ) (s : Shaped (w .house)) (few : i < 8) (o : Outcom
 
   pub settled-shadow : shadowOf (settledHouse (w .house) i o t) i ≡ o .1 .shadow
   unfolding settledHouse
-  settled-shadow = inner-outer (w .house .shadows) (i * 256) 256 (omega (arith, s .shadows)) _ shadow
+  settled-shadow = inner-outer (w .house .shadows) (i * entries) entries (omega (arith, s .shadows)) _ shadow
 
   module _ (j : ℕ) (small : j < 8) (other : j ≡ i → ⊥) where
     pub other-partition : partition (settledHouse (w .house) i o t) j ≡ partition (w .house) j
@@ -173,11 +174,11 @@ module _ (w : World) (i : ℕ) (s : Shaped (w .house)) (few : i < 8) (o : Outcom
 
     pub other-registers : registersOf (settledHouse (w .house) i o t) j ≡ registersOf (w .house) j
     unfolding settledHouse
-    other-registers = registers-apart (w .house .regs) _ i j (omega (arith, s .regs)) (omega (arith, s .regs)) regs other
+    other-registers = parts-apart 32 (w .house .regs) _ i j (omega (arith, s .regs)) (omega (arith, s .regs)) regs other
 
     pub other-shadow : shadowOf (settledHouse (w .house) i o t) j ≡ shadowOf (w .house) j
     unfolding settledHouse
-    other-shadow = entries-apart (w .house .shadows) _ i j (omega (arith, s .shadows)) (omega (arith, s .shadows)) shadow other
+    other-shadow = parts-apart entries (w .house .shadows) _ i j (omega (arith, s .shadows)) (omega (arith, s .shadows)) shadow other
 
 -- ---- the queues after a step
 

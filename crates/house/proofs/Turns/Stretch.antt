@@ -13,6 +13,7 @@ use Rattle.dlx.specs.declared.partition.Partition.{Partition}
 use Rattle.dlx.specs.Machine.{Ops, Core, core, Outcome, Desk, stepAt, Stretch, stretchFrom}
 use Rattle.dlx.specs.Processor.{withProcessor, withTable, withCounter}
 use Rattle.dlx.proofs.Kept.{either}
+use Rattle.translate.specs.Walk.{entries}
 use Rattle.translate.specs.Memory.{Host, hostMemory}
 use Rattle.dlx.proofs.Tests.{by-eq}
 use Rattle.house.specs.House.{guests, turn, withTurn, withGuests, withQueues, partition, pagesOf, framesOf, queuesOf}
@@ -58,7 +59,7 @@ same-guests : (h : House) (t : Turn) (k : Queues) {p p′ : List Partition} {r r
     → withQueues (withGuests (withTurn h (h .running) t) (guests p r z)) k ≡ withQueues (withGuests (withTurn h (h .running) t) (guests p′ r′ z′)) k
 same-guests h t k e f g = rw (e, f, g)
 
-module _ (w : World) (i : ℕ) (s : Shaped (w .house)) (few : i < 8) (o : Outcome × Host) (regs : length (o .0 .core .registers) ≡ 32) (shadow : length (o .1 .shadow) ≡ 256) (t₀ : Turn) where
+module _ (w : World) (i : ℕ) (s : Shaped (w .house)) (few : i < 8) (o : Outcome × Host) (regs : length (o .0 .core .registers) ≡ 32) (shadow : length (o .1 .shadow) ≡ entries) (t₀ : Turn) where
   -- the stretched house of the stepped one
   joined : (r : Stretch Host Queues) (t : Turn) → stretchedHouse (settledHouse (w .house) i o t₀) i r t ≡ stretchedHouse (w .house) i (bumped r) t
   unfolding stretchedHouse settledHouse bumped
@@ -66,7 +67,7 @@ module _ (w : World) (i : ℕ) (s : Shaped (w .house)) (few : i < 8) (o : Outcom
       same-guests (w .house) t (r .desk)
       (set-set (w .house .parts) i _ _ ∙ ap (set (w .house .parts) i) (ap (λ (p : Partition). countedOn p r) (settled-partition w i s few o regs shadow t₀) ∙ counted-on (partition (w .house) i) o r))
       (outer-outer (w .house .regs) (i * 32) 32 (omega (arith, s .regs)) (o .0 .core .registers) (r .core .registers) regs)
-      (outer-outer (w .house .shadows) (i * 256) 256 (omega (arith, s .shadows)) (o .1 .shadow) (r .memory .shadow) shadow)
+      (outer-outer (w .house .shadows) (i * entries) entries (omega (arith, s .shadows)) (o .1 .shadow) (r .memory .shadow) shadow)
 
   -- and its guest
   hopped : guest (world (settledHouse (w .house) i o t₀) (o .1 .words)) i ≡ (o .0 .core, o .1)
