@@ -11,18 +11,19 @@ use Rattle.dlx.specs.Choice.{if_then_else_}
 use Rattle.dlx.specs.Processor.{freshOf}
 use Rattle.dlx.specs.declared.partition.Partition.{Partition}
 use Rattle.dlx.proofs.Kept.{either}
+use Rattle.translate.specs.Walk.{entries}
 use Rattle.translate.specs.Memory.{freshShadow}
 use Rattle.translate.proofs.Kept.{zeros-words}
 use Rattle.dlx.proofs.Tests.{by-test, getD-replicate-same}
 use Rattle.house.specs.Lists.{listFrom}
-use Rattle.house.specs.House.{noPartition, noHouse, turn, partition, pagesOf, runs, registersOf, framesOf, shadowOf}
+use Rattle.house.specs.House.{allEntries, freshShadows, noPartition, noHouse, turn, partition, pagesOf, runs, registersOf, framesOf, shadowOf}
 use Rattle.house.specs.Damage.{damaged}
 use Rattle.house.specs.Boot.{bootVerdict, offset, laid, bootedHouse}
 use Rattle.house.specs.Sound.{Shaped, Unused, Undamaged, TypedPartition, Typed, Ready}
 use Rattle.house.specs.Calls.{bootCall}
 use Rattle.demands.specs.Histories.{Boot, booted}
 use Rattle.house.specs.declared.House.{House}
-use Rattle.house.proofs.Damage.Updates.{none-shaped, layout-shaped, turn-shaped, guests-shaped, fresh-typed, unused-typed, none-typed, layout-typed, turn-typed, guests-typed}
+use Rattle.house.proofs.Damage.Updates.{fresh-long, fresh-at, none-shaped, layout-shaped, turn-shaped, guests-shaped, fresh-typed, unused-typed, none-typed, layout-typed, turn-typed, guests-typed}
 use Rattle.house.proofs.Lists.Bounded.{by-order}
 use Rattle.house.proofs.Lists.ByRule.{length-listFrom, listFrom-at}
 use Rattle.house.proofs.Damage.Conditions.{empty-proper}
@@ -59,7 +60,7 @@ module _ (b : Boot) where
   booted-shaped =
       layout-shaped _
       (guests-shaped _ (turn-shaped noHouse none-shaped _ _ (length-listFrom (λ i. ltb i (length ps)) 0 8)) _
-      (length-listFrom _ 0 8) (length-replicate {A = ℕ} 256 0) (length-replicate {A = ℕ} 2048 0))
+      (length-listFrom _ 0 8) (length-replicate {A = ℕ} 256 0) fresh-long)
       _ (length-listFrom (laid ps fr) 0 2048)
 
   pub booted-runs : (i : ℕ) → i < 8 → runs h i ≡ ltb i (length ps)
@@ -75,8 +76,8 @@ module _ (b : Boot) where
   booted-registers i l = inner-replicate (i * 32) 32 256 (omega arith)
 
   pub booted-shadow : (i : ℕ) → i < 8 → shadowOf h i ≡ freshShadow
-  unfolding bootedHouse
-  booted-shadow i l = inner-replicate (i * 256) 256 2048 (omega arith)
+  unfolding bootedHouse freshShadows
+  booted-shadow i l = inner-replicate (i * entries) entries allEntries (omega arith)
 
   booted-laid : (i k : ℕ) → i < 8 → k < 256 → getD (framesOf h i) k 0 ≡ laid ps fr (i * 256 + k)
   unfolding bootedHouse
@@ -115,7 +116,7 @@ module _ (b : Boot) where
       none = booted-place i m ∙ rw (le-ltb i (length ps) l);
       regs = λ k n. rw (booted-registers i m) (getD-replicate-same 32 0 k);
       frames = λ k n. booted-laid i k m n ∙ laid-after ps fr (i * 256 + k) (omega arith);
-      shadows = λ k n. rw (booted-shadow i m) (getD-replicate-same 256 0 k);
+      shadows = λ k n. rw (booted-shadow i m) (getD-replicate-same entries 0 k);
     }
 
   -- one frame stands at one position of the list
@@ -151,7 +152,7 @@ module _ (b : Boot) where
     first = λ i l. rw (booted-registers i (omega (arith, booted-few))) (getD-replicate-same 32 0 0);
     mode = λ i l. rw (booted-partition i l) (omega arith);
     emode = λ i l. rw (booted-partition i l) (omega arith);
-    proper = λ i px l m. rw (booted-shadow i (omega (arith, booted-few)), getD-replicate-same 256 0 px) (empty-proper (framesOf h i) (pagesOf h i));
+    proper = λ i px l m. rw (booted-shadow i (omega (arith, booted-few)), getD-replicate-same entries 0 px) (empty-proper (framesOf h i) (pagesOf h i));
     behind = λ i k l m n. booted-behind i l k n (rw (booted-pages i l) at m);
     unused = booted-unused;
     queued = λ j l. record {
@@ -198,8 +199,8 @@ module _ (b : Boot) where
       let x = turn-typed noHouse (b .memory) y _ (turn 0 q) l (omega arith) (omega (arith, d .turns .1)) in
       layout-typed _ (b .memory)
       (guests-typed _ (b .memory) x _
-      (guests-shaped _ (x .shaped) _ (length-listFrom _ 0 8) (length-replicate {A = ℕ} 256 0) (length-replicate {A = ℕ} 2048 0))
-      parts-typed (zeros-words 256) (zeros-words 2048))
+      (guests-shaped _ (x .shaped) _ (length-listFrom _ 0 8) (length-replicate {A = ℕ} 256 0) fresh-long)
+      parts-typed (zeros-words 256) (λ k. rw (fresh-at k) (omega arith)))
       _ (omega (arith, d .count .1)) (omega (arith, d .turns .1)) (omega (arith, d .size .1)) (length-listFrom (laid ps fr) 0 2048) frames-words
 
   pub booted-ready : ((k : ℕ) → getD (b .memory) k 0 < 2 ^ 32) → Ready (booted b)

@@ -15,6 +15,7 @@ use Rattle.dlx.specs.declared.partition.Partition.{Partition}
 use Rattle.dlx.specs.declared.partition.Table.{Table}
 use Rattle.dlx.proofs.Like.{Both, asked-like, step-like}
 use Rattle.translate.specs.Entries.{valid}
+use Rattle.translate.specs.Walk.{entries}
 use Rattle.translate.specs.Memory.{Lone, lone, loneMemory, Host, place, hostWord, hosted, given}
 use Rattle.translate.specs.Premises.{Placed}
 use Rattle.translate.proofs.Entries.{walked-same}
@@ -90,7 +91,7 @@ module _ (b : Boot) (w : World) (st : Standing b w) where
     pages = length-listFrom (hostWord (framesOf (w .house) i) (w .memory)) 0 (pagesOf (w .house) i * 1024);
     size = refl;
     agree = λ j m. listFrom-at (hostWord (framesOf (w .house) i) (w .memory)) 0 (pagesOf (w .house) i * 1024) j m;
-    count = inner-length (w .house .shadows) (i * 256) 256 (omega (arith, st .shaped .shadows, standing-small l));
+    count = inner-length (w .house .shadows) (i * entries) entries (omega (arith, st .shaped .shadows, standing-small l));
     shadow = st .right i l;
     others = λ _ _. refl;
   }
@@ -137,7 +138,7 @@ module _ (b : Boot) (w : World) (st : Standing b w) where
   regs : length (guestStep w (w .house .current) .0 .core .registers) ≡ 32
   regs = step-registers w (st .shaped) (standing-small (st .here))
 
-  shadow : length (guestStep w (w .house .current) .1 .shadow) ≡ 256
+  shadow : length (guestStep w (w .house .current) .1 .shadow) ≡ entries
   shadow = both .rest .count
 
   abbrev made : Outcome × Host

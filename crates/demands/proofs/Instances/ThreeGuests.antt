@@ -17,6 +17,7 @@ use Rattle.translate.specs.Walk.{walked, direct}
 use Rattle.translate.specs.Memory.{hosted, given, filled, looked, served, hostRead, emptied, hostWritten, hostReads, hostWrites}
 use Rattle.tickets.specs.Queues.{sending, taking, desk}
 use Rattle.house.specs.Lists.{listFrom, any, firstFrom}
+use Rattle.house.specs.House.{freshShadows}
 use Rattle.house.specs.Boot.{sum, firstOf, bootVerdict, laid, offset, bootedHouse}
 use Rattle.house.specs.Turns.{World, world, nextFrom, turnOf, requestNow, replyNow, queuesNext, guestStep, settledHouse, stepWith, hostStep, hostSteps}
 use Rattle.house.specs.Calls.{bootCall, started, stopped}
@@ -65,7 +66,7 @@ abbrev calls : List Call
 calls = run 1 ∷ stop 1 ∷ start 1 ∷ run 4 ∷ []
 
 computing : ℕ
-unfolding three-guests called every-boot inner outer listFrom any laid offset bootedHouse nextFrom turnOf requestNow replyNow queuesNext desk sending taking asked effectRequest guestStep settledHouse stepWith hostStep hostSteps started stopped judged walked direct hosted given filled looked served hostRead emptied hostWritten hostReads hostWrites step fetched executed loaded stored accessed received handed settled retabled instructionOf registerType effectOf written valueOf overflowsOf operated reached loads stores movedTo trapOf specialOf withSpecial interrupted levelOf trailingZeros extendedBy readIn holds turnsIn
+unfolding freshShadows three-guests called every-boot inner outer listFrom any laid offset bootedHouse nextFrom turnOf requestNow replyNow queuesNext desk sending taking asked effectRequest guestStep settledHouse stepWith hostStep hostSteps started stopped judged walked direct hosted given filled looked served hostRead emptied hostWritten hostReads hostWrites step fetched executed loaded stored accessed received handed settled retabled instructionOf registerType effectOf written valueOf overflowsOf operated reached loads stores movedTo trapOf specialOf withSpecial interrupted levelOf trailingZeros extendedBy readIn holds turnsIn
 computing = 0
 
 some : {n : ℕ} (k : ℕ) → n ≡ suc k → n ≡ 0 → ⊥

@@ -18,7 +18,7 @@ use Rattle.translate.specs.Memory.{loneFound, loneRead, hosted, given, filled, 
 use Rattle.dlx.specs.Parts.{inner, outer}
 use Rattle.house.specs.Lists.{listFrom, any, firstFrom}
 use Rattle.tickets.specs.Queues.{waitingOf, sending, taking, desk, queueOf, oldest, ruled, sentTo, takenBy}
-use Rattle.house.specs.House.{queuesOf}
+use Rattle.house.specs.House.{freshShadows, queuesOf}
 use Rattle.house.specs.Boot.{sum, firstOf, bootVerdict, laid, offset, bootedHouse}
 use Rattle.house.specs.Turns.{World, nextFrom, turnOf, requestNow, replyNow, queuesNext, guestStep, settledHouse, stepWith, hostStep, hostSteps}
 use Rattle.house.specs.Calls.{runVerdict, runCall}
@@ -49,7 +49,7 @@ abbrev calls : List Call
 calls = run 13 ∷ []
 
 computing : ℕ
-unfolding ticket-guests inner outer listFrom any laid offset bootedHouse nextFrom turnOf requestNow replyNow queuesNext desk sending taking asked effectRequest guestStep settledHouse stepWith hostStep hostSteps judged walked direct hosted given filled looked served hostRead emptied hostWritten hostReads hostWrites step fetched executed loaded stored accessed received handed settled retabled instructionOf registerType effectOf written valueOf overflowsOf operated reached loads stores movedTo trapOf specialOf withSpecial interrupted levelOf trailingZeros extendedBy readIn holds
+unfolding freshShadows ticket-guests inner outer listFrom any laid offset bootedHouse nextFrom turnOf requestNow replyNow queuesNext desk sending taking asked effectRequest guestStep settledHouse stepWith hostStep hostSteps judged walked direct hosted given filled looked served hostRead emptied hostWritten hostReads hostWrites step fetched executed loaded stored accessed received handed settled retabled instructionOf registerType effectOf written valueOf overflowsOf operated reached loads stores movedTo trapOf specialOf withSpecial interrupted levelOf trailingZeros extendedBy readIn holds
 computing = 0
 
 logging : ℕ

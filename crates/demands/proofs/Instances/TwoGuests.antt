@@ -17,14 +17,14 @@ use Rattle.dlx.specs.Execute.{written, valueOf, overflowsOf, operated, reached,
 use Rattle.dlx.specs.Machine.{executed, fetched, loaded, stored, accessed, received, handed, settled, retabled, step, steps, asked, requestOf as effectRequest, reply}
 use Rattle.dlx.specs.declared.execute.Reply.{Reply}
 use Rattle.translate.specs.Entries.{entryOf, judged}
-use Rattle.translate.specs.Walk.{walked, direct}
+use Rattle.translate.specs.Walk.{entries, walked, direct}
 use Rattle.translate.specs.Memory.{loneMemory, loneFound, loneRead, hosted, given, filled, looked, served, hostRead, emptied, hostWritten, hostReads, hostWrites}
 use Rattle.dlx.specs.Parts.{inner, outer}
 use Rattle.dlx.proofs.Parts.{part-at}
 use Rattle.dlx.proofs.Kept.{getD-set-elim}
 use Rattle.translate.specs.Premises.{Own}
 use Rattle.house.specs.Lists.{listFrom, any, firstFrom}
-use Rattle.house.specs.House.{noHouse, partition, pagesOf, runs, framesOf, shadowOf, turn}
+use Rattle.house.specs.House.{freshShadows, noHouse, partition, pagesOf, runs, framesOf, shadowOf, turn}
 use Rattle.tickets.specs.Queues.{sending, taking, desk, queueOf, oldest, ruled}
 use Rattle.house.specs.Damage.{damaged}
 use Rattle.house.specs.Boot.{Verdict, verdict, sum, firstOf, bootVerdict, laid, offset, bootedHouse}
@@ -113,7 +113,7 @@ ended = hostSteps 4 cleared
 
 -- all that a step computes with
 computing : ℕ
-unfolding two-guests inner outer listFrom any laid offset bootedHouse nextFrom turnOf requestNow replyNow queuesNext desk sending taking asked effectRequest guestStep settledHouse stepWith hostStep hostSteps started stopped emptiedHouse judged walked direct hosted given filled looked served hostRead emptied hostWritten hostReads hostWrites step fetched executed loaded stored accessed received handed settled retabled instructionOf registerType effectOf written valueOf overflowsOf operated reached loads stores movedTo trapOf specialOf withSpecial interrupted levelOf trailingZeros extendedBy readIn holds turnsIn
+unfolding freshShadows two-guests inner outer listFrom any laid offset bootedHouse nextFrom turnOf requestNow replyNow queuesNext desk sending taking asked effectRequest guestStep settledHouse stepWith hostStep hostSteps started stopped emptiedHouse judged walked direct hosted given filled looked served hostRead emptied hostWritten hostReads hostWrites step fetched executed loaded stored accessed received handed settled retabled instructionOf registerType effectOf written valueOf overflowsOf operated reached loads stores movedTo trapOf specialOf withSpecial interrupted levelOf trailingZeros extendedBy readIn holds turnsIn
 computing = 0
 
 -- entry px of partition 0's shadow
@@ -364,14 +364,14 @@ misled-right =
     record {
       long = length-set (h .shadows) 0 (entryOf 1 0) ∙ fit-full .typed .shaped .shadows;
       proper = λ i px l m.
-          subst (Proper (framesOf h i) (pagesOf h i)) (sym (part-at astray (i * 256) 256 px m))
-          (getD-set-elim (Proper (framesOf h i) (pagesOf h i)) (h .shadows) 0 (i * 256 + px) (entryOf 1 0) 0
+          subst (Proper (framesOf h i) (pagesOf h i)) (sym (part-at astray (i * entries) entries px m))
+          (getD-set-elim (Proper (framesOf h i) (pagesOf h i)) (h .shadows) 0 (i * entries + px) (entryOf 1 0) 0
           (λ z. let e : i ≡ 0 = omega arith in subst (λ (x : ℕ). Proper (framesOf h x) (pagesOf h x) (entryOf 1 0)) (sym e) other-frame)
-          (subst (Proper (framesOf h i) (pagesOf h i)) (part-at (h .shadows) (i * 256) 256 px m) (u .proper i px l m)));
+          (subst (Proper (framesOf h i) (pagesOf h i)) (part-at (h .shadows) (i * entries) entries px m) (u .proper i px l m)));
       none = λ i k l b m.
-          part-at astray (i * 256) 256 k m
-          ∙ getD-set-other (h .shadows) 0 (i * 256 + k) (entryOf 1 0) 0 (λ z. omega (arith, fit-full .count))
-          ∙ sym (part-at (h .shadows) (i * 256) 256 k m)
+          part-at astray (i * entries) entries k m
+          ∙ getD-set-other (h .shadows) 0 (i * entries + k) (entryOf 1 0) 0 (λ z. omega (arith, fit-full .count))
+          ∙ sym (part-at (h .shadows) (i * entries) entries k m)
           ∙ u .unused i l b .shadows k m;
       words = λ k. getD-set-elim (λ (x : ℕ). x < 2 ^ 32) (h .shadows) 0 k (entryOf 1 0) 0 (λ _. omega arith) (fit-full .typed .shadows k);
     }
