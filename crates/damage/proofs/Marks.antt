@@ -7,6 +7,7 @@ use native.Mathlib.Numerals.{add-one}
 use native.Mathlib.Nat.{add-sub-cancel-left}
 use native.Mathlib.Omega.{arith}
 use borrow.Author.Tests.{not-false, eqb-true, eq-eqb, ne-eqb, leb-true, leb-false}
+use lib.Bits.{bitOr, or-zero-r, or-add-and, and-le-l}
 use lib.Dec.{eqb, leb}
 use lib.ListN.{length, getD, take, drop, length-replicate, getD-replicate, List·getD-eq-default}
 use Rattle.dlx.specs.Choice.{if_then_else_}
@@ -22,7 +23,7 @@ use Rattle.house.specs.declared.House.{House}
 use Rattle.house.proofs.Lists.Bounded.{one-way, same-test, or-left, or-right, any-yes, any-at, any-none, any-same, and-right}
 use Rattle.marks.specs.Marked.{marked, twiceMarked}
 use Rattle.marks.proofs.Marked.{marked-length, marked-at}
-use Rattle.damage.specs.Marks.{Within, shadowMarked, shadowOutside, pagesAt, partAt, pagesOutside, barredAt, framesBarred, ownersOf, twiceAt, twiceIn, entryMarked, outside, turnOutside, registersAt, roomWrong, queueAt, inside}
+use Rattle.damage.specs.Marks.{Within, shadowMarked, shadowOutside, pagesAt, partAt, entriesAt, pagesOutside, barredAt, framesBarred, ownersOf, twiceAt, twiceIn, entryMarked, outside, turnOutside, registersAt, roomWrong, queueAt, inside}
 
 -- partition i's part of a list, as the code lends it
 pub part-is : (l : List ℕ) (i : ℕ) → take (i * 256 + 256 - i * 256) (drop (i * 256) l) ≡ partAt l i
@@ -141,10 +142,10 @@ pub shadows-by-marks : (count : ℕ) (ps : List Partition) (fr sh o : List ℕ) 
 shadows-by-marks count ps fr sh o w once e =
     rw e (any-same (shadowMarked (ownersOf ps fr count) sh) (shadowOutside ps fr sh) count
     (λ i l. any-same
-    (λ px. entryMarked (ownersOf ps fr count) (i + 1) (getD (partAt sh i) px 0))
-    (λ px. entryWrong (partAt fr i) (pagesAt ps i) (getD (partAt sh i) px 0))
+    (λ px. entryMarked (ownersOf ps fr count) (i + 1) (getD (entriesAt sh i) px 0))
+    (λ px. entryWrong (partAt fr i) (pagesAt ps i) (getD (entriesAt sh i) px 0))
     entries
-    (λ px m. entry-by-marks ps fr count i (w .below i l) once l (getD (partAt sh i) px 0))))
+    (λ px m. entry-by-marks ps fr count i (w .below i l) once l (getD (entriesAt sh i) px 0))))
 
 -- ---- the conditions in the order in which the code looks
 
@@ -222,6 +223,18 @@ or-turned false x y e = e ∙ sym (or-false y)
 
 abbrev some : ℕ → Bool
 some n = not (eqb n 0)
+
+-- bits gathered from two places are 0 exactly where both are
+gathered : (a b : ℕ) → some (bitOr a b) ≡ (some b || some a)
+gathered a b =
+    by-eq b 0
+    (λ e. rw (e, or-zero-r a))
+    (λ e. rw (ne-eqb b 0 e, ne-eqb (bitOr a b) 0 (λ z. e (omega (arith, or-add-and a b, and-le-l a b)))))
+
+-- one place more
+pub gathered-on : (l : List ℕ) (base k bits : ℕ) → some bits ≡ notZero l base k → some (bitOr bits (getD l (base + k) 0)) ≡ notZero l base (k + 1)
+unfolding any
+gathered-on l base k bits e = rw add-one (gathered bits (getD l (base + k) 0) ∙ ap (λ (b : Bool). some (getD l (base + k) 0) || b) e)
 
 turned : (a b c d e f g h i j k l m : ℕ) → notZero (a ∷ b ∷ c ∷ d ∷ e ∷ f ∷ g ∷ h ∷ i ∷ j ∷ k ∷ l ∷ m ∷ []) 0 13 ≡ (some a || some b || some c || some d || some e || some f || some g || some h || some i || some j || some k || some l || some m)
 unfolding any

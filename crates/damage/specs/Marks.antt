@@ -15,12 +15,15 @@ use Rattle.house.specs.House.{noPartition}
 use Rattle.house.specs.Damage.{wholeFrames, frameBarred, stands, entryWrong, notZero, partitionUsed}
 use Rattle.marks.specs.Marked.{marked}
 
--- partition i's page count, and its part of the frames or of the shadows
+-- partition i's page count, and its parts of the frames and of the shadows
 abbrev pub pagesAt : List Partition → ℕ → ℕ
 pagesAt ps i = getD ps i noPartition .pages
 
 abbrev pub partAt : List ℕ → ℕ → List ℕ
 partAt l i = inner (i * 256) 256 l
+
+abbrev pub entriesAt : List ℕ → ℕ → List ℕ
+entriesAt l i = inner (i * entries) entries l
 
 -- ---- boot's limits
 
@@ -69,7 +72,7 @@ entryMarked o tag e =
     if valid e then not (eqb (getD o (number e) 0) tag) || not (eqb (e % 1024) 0) else not (eqb e 0)
 
 abbrev pub shadowMarked : List ℕ → List ℕ → ℕ → Bool
-shadowMarked o sh i = any (λ px. entryMarked o (i + 1) (getD (partAt sh i) px 0)) entries
+shadowMarked o sh i = any (λ px. entryMarked o (i + 1) (getD (entriesAt sh i) px 0)) entries
 
 -- ---- turn, registers, unused places
 
@@ -95,7 +98,7 @@ roomWrong count i run p rs fr sh =
     || partitionUsed p
     || notZero rs (i * 32) 32
     || notZero fr (i * 256) 256
-    || notZero sh (i * 256) 256
+    || notZero sh (i * entries) entries
 
 -- ---- queues
 
@@ -112,7 +115,7 @@ queueAt count ts ns j = queueOutside count j (getD ns j 0) (inner (j * 32) 32 ts
 -- ---- all of it but the limits and the queues
 
 abbrev pub shadowOutside : List Partition → List ℕ → List ℕ → ℕ → Bool
-shadowOutside ps fr sh i = any (λ px. entryWrong (partAt fr i) (pagesAt ps i) (getD (partAt sh i) px 0)) entries
+shadowOutside ps fr sh i = any (λ px. entryWrong (partAt fr i) (pagesAt ps i) (getD (entriesAt sh i) px 0)) entries
 
 abbrev pub inside : ℕ → ℕ → ℕ → ℕ → List Bool → List Partition → List ℕ → List ℕ → List ℕ → Bool
 inside count q current left running ps rs fr sh =

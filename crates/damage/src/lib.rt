@@ -5,7 +5,7 @@ ghost use Prim.Native.Nat.{ℕ, _+_, _<_, _≤_};
 ghost use lib.ListN.{length, getD, replicate};
 ghost use Rattle.translate.specs.Walk.{entries};
 ghost use Rattle.house.specs.Lists.{any};
-ghost use Rattle.house.specs.House.{noPartition};
+ghost use Rattle.house.specs.House.{allEntries, noPartition};
 ghost use Rattle.house.specs.Damage.{damaged, partitionUsed, notZero};
 ghost use Rattle.damage.specs.Marks.{Within, inside, pagesAt, partAt, pagesOutside, barredAt, framesBarred, outside, ownersOf, twiceIn, entryMarked, shadowMarked, turnOutside, processorWrong, registersAt, behind, roomWrong, countWrong, queueOutside, queueAt};
 use dlx::partition::Partition;
@@ -13,6 +13,7 @@ use dlx::partition::Processor;
 use dlx::words::wide;
 use house::House;
 use marks::mark;
+use translate::ENTRIES;
 
 // Some partition below n runs.
 pub fn any_runs(running: &[bool; 8], n: usize) -> bool
@@ -208,8 +209,11 @@ fn entry_wrong(e: u32, tag: u32, owners: &[u32; 1024]) -> bool
     requires { ⌜ (0 < tag) × (length (now owners) ≡ 1024) ⌝ }
     ensures { λ r. ⌜ r ≡ entryMarked (now (owners .entry)) tag e ⌝ }
 {
+    if e == 0 {
+        return false;
+    }
     if e / 2048 % 2 != 1 {
-        return e != 0;
+        return true;
     }
     let frame = wide(e / 4096);
     if frame >= 1024 {
@@ -223,11 +227,11 @@ fn entry_wrong(e: u32, tag: u32, owners: &[u32; 1024]) -> bool
 
 // An entry of the shadow of the owner with this tag is wrong.
 fn shadow_wrong(shadow: &[u32], tag: u32, owners: &[u32; 1024]) -> bool
-    requires { ⌜ (length (now shadow) ≡ 256) × (0 < tag) × (length (now owners) ≡ 1024) ⌝ }
+    requires { ⌜ (length (now shadow) ≡ entries) × (0 < tag) × (length (now owners) ≡ 1024) ⌝ }
     ensures { λ r. ⌜ r ≡ any (λ px. entryMarked (now (owners .entry)) tag (getD (now (shadow .entry)) px 0)) entries ⌝ }
 {
     let mut px = 0;
-    while px < 256 {
+    while px < ENTRIES {
         if entry_wrong(shadow[px], tag, owners) {
             return true;
         }
@@ -238,14 +242,14 @@ fn shadow_wrong(shadow: &[u32], tag: u32, owners: &[u32; 1024]) -> bool
 
 // A shadow entry of the first n partitions is wrong.
 fn shadows_wrong(shadows: &[u32], n: usize, owners: &[u32; 1024]) -> bool
-    requires { ⌜ (n ≤ 8) × (length (now shadows) ≡ 2048) × (length (now owners) ≡ 1024) ⌝ }
+    requires { ⌜ (n ≤ 8) × (length (now shadows) ≡ allEntries) × (length (now owners) ≡ 1024) ⌝ }
     ensures { λ r. ⌜ r ≡ any (shadowMarked (now (owners .entry)) (now (shadows .entry))) n ⌝ }
 {
     let mut tag: u32 = 1;
     let mut i: usize = 0;
     while i < n {
-        let a = i * 256;
-        let e = a + 256;
+        let a = i * ENTRIES;
+        let e = a + ENTRIES;
         if shadow_wrong(&shadows[a..e], tag, owners) {
             return true;
         }
@@ -255,19 +259,18 @@ fn shadows_wrong(shadows: &[u32], n: usize, owners: &[u32; 1024]) -> bool
     false
 }
 
-// Anything but 0 in the size places from base on.
+// Anything but 0 in the size places from base on. All bits are gathered, with no way out between: the compiler takes several places at a time.
 fn not_zero(l: &[u32], base: usize, size: usize) -> bool
     requires { ⌜ base + size ≤ length (now l) ⌝ }
     ensures { λ r. ⌜ r ≡ notZero (now (l .entry)) base size ⌝ }
 {
+    let mut bits: u32 = 0;
     let mut k = 0;
     while k < size {
-        if l[base + k] != 0 {
-            return true;
-        }
+        bits |= l[base + k];
         k += 1;
     }
-    false
+    bits != 0
 }
 
 // Anything but 0 in a partition that isn't there.
@@ -321,7 +324,7 @@ fn room_wrong(
     frames: &[u32],
     shadows: &[u32],
 ) -> bool
-    requires { ⌜ (i < 8) × (length (now regs) ≡ 256) × (length (now frames) ≡ 2048) × (length (now shadows) ≡ 2048) ⌝ }
+    requires { ⌜ (i < 8) × (length (now regs) ≡ 256) × (length (now frames) ≡ 2048) × (length (now shadows) ≡ allEntries) ⌝ }
     ensures { λ r. ⌜ r ≡ roomWrong count i run p (now (regs .entry)) (now (frames .entry)) (now (shadows .entry)) ⌝ }
 {
     let a = i * 256;
@@ -341,7 +344,7 @@ fn room_wrong(
     if not_zero(frames, a, 256) {
         return true;
     }
-    not_zero(shadows, a, 256)
+    not_zero(shadows, i * ENTRIES, ENTRIES)
 }
 
 // Anything but 0 in an unused place.
@@ -353,7 +356,7 @@ fn unused_wrong(
     frames: &[u32],
     shadows: &[u32],
 ) -> bool
-    requires { ⌜ (length (now regs) ≡ 256) × (length (now frames) ≡ 2048) × (length (now shadows) ≡ 2048) ⌝ }
+    requires { ⌜ (length (now regs) ≡ 256) × (length (now frames) ≡ 2048) × (length (now shadows) ≡ allEntries) ⌝ }
     ensures { λ r. ⌜ r ≡ any (λ i. roomWrong count i (getD (now (running .entry)) i false) (getD parts i noPartition) (now (regs .entry)) (now (frames .entry)) (now (shadows .entry))) 8 ⌝ }
 {
     let mut i: usize = 0;
@@ -419,7 +422,7 @@ fn inside_wrong(
     frames: &[u32],
     shadows: &[u32],
 ) -> bool
-    requires { ⌜ Within count parts (now frames) × (length (now regs) ≡ 256) × (length (now frames) ≡ 2048) × (length (now shadows) ≡ 2048) ⌝ }
+    requires { ⌜ Within count parts (now frames) × (length (now regs) ≡ 256) × (length (now frames) ≡ 2048) × (length (now shadows) ≡ allEntries) ⌝ }
     ensures { λ r. ⌜ r ≡ inside count q current left (now (running .entry)) parts (now (regs .entry)) (now (frames .entry)) (now (shadows .entry)) ⌝ }
 {
     let n = wide(count);

@@ -60,6 +60,9 @@ not-zero-requires-2 c κs = search needs
 returns-5 : tie.Need-returns-5
 returns-5 c = simp ((simp (c .before .not-zero2 .ensures) at (c .if5 .taken)), (simp (c .before .before .before .not-zero .ensures) at (c .before .before .if4 .left)), (simp (c .before .before .before .before .before .partition-used .ensures) at (c .before .before .before .before .if3 .left)), (c .before .before .before .before .before .before .if2 .left), le-ltb _ _ (c .before .before .before .before .before .before .before .if1 .left))
 
+mul-not-zero-2 : tie.Need-mul-not-zero-2
+mul-not-zero-2 c = search needs
+
 not-zero-requires-3 : tie.Need-not-zero-requires-3
 not-zero-requires-3 c κs = search needs
 
@@ -87,5 +90,6 @@ room-wrong-spec =
     returns-4
     not-zero-requires-2
     returns-5
+    mul-not-zero-2
     not-zero-requires-3
     returns-6)

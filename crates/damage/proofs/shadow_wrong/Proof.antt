@@ -2,8 +2,9 @@ use native.Mathlib.Omega.{arith}
 use native.Mathlib.Nat.{le-antisymm}
 use lib.ListN.{getD}
 use mathlib.Core.Bool.{false}
-use mathlib.Core.Path.{_≡_, refl, _∙_, sym}
-use Prim.Native.Nat.{_≤_, _-_, zero-le}
+use mathlib.Core.Path.{_≡_, refl, _∙_, sym, subst}
+use Prim.Native.Nat.{ℕ, _≤_, _-_, zero-le}
+use Rattle.translate.specs.Walk.{entries}
 use Rattle.house.specs.Lists.{any}
 use Rattle.house.proofs.Lists.Bounded.{any-more, any-yes}
 use Rattle.damage.specs.Marks.{entryMarked}
@@ -11,10 +12,10 @@ use Rattle.damage.proofs.shadow_wrong.Statement.{statement}
 use Rattle.damage.proofs.shadow_wrong.Tie as tie
 
 abbrev Inv-loop : tie.InvT-loop
-Inv-loop shadow tag owners px₀ px = (any (λ x. entryMarked owners tag (getD shadow x 0)) px ≡ false) × (px ≤ 256)
+Inv-loop shadow tag owners px₀ px = (any (λ x. entryMarked owners tag (getD shadow x 0)) px ≡ false) × (px ≤ entries)
 
 abbrev μ-loop : tie.MeasureT-loop
-μ-loop shadow tag owners px₀ px = 256 - px
+μ-loop shadow tag owners px₀ px = entries - px
 
 loop-holds : tie.Need-loop-holds Inv-loop μ-loop
 unfolding any
@@ -30,7 +31,7 @@ entry-wrong-requires : tie.Need-entry-wrong-requires Inv-loop μ-loop
 entry-wrong-requires c κs = (c .before .before .before .before .pre .1, c .before .before .before .before .pre .2)
 
 returns : tie.Need-returns Inv-loop μ-loop
-returns c = let a = c .before .before .before .before .before .before .args in sym (any-yes (λ x. entryMarked (a .owners .now) (a .tag) (getD (a .shadow .now) x 0)) 256 (c .before .before .before .before .loop .px) (c .before .before .before .loop-test .taken) (sym (c .before .entry-wrong .ensures) ∙ c .if1 .taken))
+returns c = let a = c .before .before .before .before .before .before .args in sym (any-yes (λ x. entryMarked (a .owners .now) (a .tag) (getD (a .shadow .now) x 0)) entries (c .before .before .before .before .loop .px) (c .before .before .before .loop-test .taken) (sym (c .before .entry-wrong .ensures) ∙ c .if1 .taken))
 
 add-px : tie.Need-add-px Inv-loop μ-loop
 add-px c = omega arith
@@ -42,7 +43,7 @@ loop-again : tie.Need-loop-again Inv-loop μ-loop
 loop-again c = let a = c .before .before .before .before .before .before .args in (any-more (λ x. entryMarked (a .owners .now) (a .tag) (getD (a .shadow .now) x 0)) (c .before .before .before .before .loop .px) (c .before .before .before .before .loop .inv .0) (sym (c .before .entry-wrong .ensures) ∙ c .if1 .left), omega arith)
 
 returns-2 : tie.Need-returns-2 Inv-loop μ-loop
-returns-2 c = sym (rw (le-antisymm (c .loop-test .left) (c .before .loop .inv .1)) (c .before .loop .inv .0))
+returns-2 c = let a = c .before .before .before .args in sym (subst (λ (n : ℕ). any (λ x. entryMarked (a .owners .now) (a .tag) (getD (a .shadow .now) x 0)) n ≡ false) (le-antisymm (c .before .loop .inv .1) (c .loop-test .left)) (c .before .loop .inv .0))
 
 pub shadow-wrong-spec : {M : Type 1} → statement M
 shadow-wrong-spec =
