@@ -2,7 +2,7 @@
 use mathlib.Core.Path.{_≡_, sym, subst}
 use mathlib.Core.List.{List, _++_}
 use Prim.Native.Nat.{ℕ, _+_, _-_, _*_, _%_, _^_, _<_, _≤_}
-use native.Mathlib.Nat.{add-sub-cancel-left}
+use native.Mathlib.Nat.{add-sub-cancel-left, suc-mul, mul-le-mul, mul-le-mul-right}
 use native.Mathlib.Omega.{arith}
 use borrow.Author.Tests.{leb-true, leb-false}
 use lib.Dec.{leb}
@@ -12,6 +12,7 @@ use Rattle.dlx.specs.Processor.{withProcessor, withTable, withCounter}
 use Rattle.dlx.specs.Machine.{core, stretchFrom}
 use Rattle.dlx.proofs.Kept.{either}
 use Rattle.dlx.specs.declared.partition.Partition.{Partition}
+use Rattle.translate.specs.Walk.{entries}
 use Rattle.translate.specs.Memory.{host, hostMemory}
 use Rattle.translate.specs.Premises.{Placed, Shadowed}
 use Rattle.engine.specs.declared.Stretched.{Stretched}
@@ -42,7 +43,7 @@ module _ (h : House) (current left : ℕ) (parts : List Partition) (regs shadows
     abbrev Asked : ℕ → Type 0
     Asked i =
         stretchOf s regs′ m′ shadow′ (queues tickets′ waiting′)
-        ≡ stretchFrom (hostMemory (lent i 256 (h .frames)) (getD parts i noPartition .pages)) (desk (h .count) current) n 0 (core (getD parts i noPartition .processor) (lent i 32 regs), host (getD parts i noPartition .table) m (lent i 256 shadows)) (queues tickets waiting)
+        ≡ stretchFrom (hostMemory (lent i 256 (h .frames)) (getD parts i noPartition .pages)) (desk (h .count) current) n 0 (core (getD parts i noPartition .processor) (lent i 32 regs), host (getD parts i noPartition .table) m (lent i entries shadows)) (queues tickets waiting)
 
     pub asked-turned : (i : ℕ) → i ≡ current → Asked i → Sound here → 0 < n → n ≤ left → Turned here n (stretchOf s regs′ m′ shadow′ (queues tickets′ waiting′))
     unfolding inner
@@ -54,7 +55,7 @@ module _ (h : House) (current left : ℕ) (parts : List Partition) (regs shadows
     -- the house that the loop's body makes of its answer
     abbrev Made : Turn → ℕ → ℕ → World
     Made t counter i =
-        world (withQueues (houseAt h (t .current) (t .left) (set parts i (withCounter (withTable (withProcessor (getD parts i noPartition) (s .processor)) (s .table)) counter)) (back i 32 regs regs′) (back i 256 shadows shadow′)) (queues tickets′ waiting′)) m′
+        world (withQueues (houseAt h (t .current) (t .left) (set parts i (withCounter (withTable (withProcessor (getD parts i noPartition) (s .processor)) (s .table)) counter)) (back i 32 regs regs′) (back i entries shadows shadow′)) (queues tickets′ waiting′)) m′
 
     pub after-turn : (i : ℕ) (t : Turn) (counter : ℕ) → i ≡ current → Turned here n (stretchOf s regs′ m′ shadow′ (queues tickets′ waiting′)) → t ≡ turnOf (h .running) (h .count) (h .q) current left (s .made) (s .called) → counter ≡ (getD parts i noPartition .counter + s .made) % 2 ^ 64 → Made t counter i ≡ hostSteps (s .made) here
     unfolding stretchedHouse outer
@@ -69,7 +70,7 @@ module _ (h : House) (current left : ℕ) (parts : List Partition) (regs shadows
   seated o = record { queued = record { tickets = o .shaped .tickets; waiting = o .shaped .waiting; most = o .most }; few = o .few; small = omega (arith, o .here, o .few) }
 
   -- what the engine asks of the lent parts
-  pub asked-sound : (i : ℕ) → i ≡ current → Sound here → (length (lent i 32 regs) ≡ 32) × (Placed (lent i 256 (h .frames)) (getD parts i noPartition .pages) (length m) × (Shadowed (lent i 256 (h .frames)) (getD parts i noPartition .pages) (lent i 256 shadows) × Seated (h .count) current (queues tickets waiting)))
+  pub asked-sound : (i : ℕ) → i ≡ current → Sound here → (length (lent i 32 regs) ≡ 32) × (Placed (lent i 256 (h .frames)) (getD parts i noPartition .pages) (length m) × (Shadowed (lent i 256 (h .frames)) (getD parts i noPartition .pages) (lent i entries shadows) × Seated (h .count) current (queues tickets waiting)))
   unfolding inner
   asked-sound i q o =
       rw q
@@ -97,30 +98,18 @@ more-is-no-less a s = omega arith
 pub starts : (i s : ℕ) → i * s ≤ i * s + s
 starts i s = more-is-no-less (i * s) s
 
-module _ (i : ℕ) (l : i < 8) where
-  pub fits-64 : i * 64 < 2 ^ 64
-  fits-64 = omega arith
+module _ (i s : ℕ) (l : i < 8) (m : s ≤ 1024) where
+  below : i * s ≤ 8 * 1024
+  below = let k : i ≤ 8 = omega arith in mul-le-mul k m
 
-  pub fits-32 : i * 32 < 2 ^ 64
-  fits-32 = omega arith
+  pub fits : i * s < 2 ^ 64
+  fits = omega (arith, below)
 
-  pub fits-32-on : i * 32 + 32 < 2 ^ 64
-  fits-32-on = omega arith
+  pub fits-on : i * s + s < 2 ^ 64
+  fits-on = omega (arith, below)
 
-  pub fits-32-words : i * 32 * 4 < 2 ^ 64
-  fits-32-words = omega arith
+  pub fits-words : i * s * 4 < 2 ^ 64
+  fits-words = omega (arith, below)
 
-  pub ends-32 : (n : ℕ) → n ≡ 256 → i * 32 + 32 ≤ n
-  ends-32 n e = omega arith
-
-  pub fits-256 : i * 256 < 2 ^ 64
-  fits-256 = omega arith
-
-  pub fits-256-on : i * 256 + 256 < 2 ^ 64
-  fits-256-on = omega arith
-
-  pub fits-256-words : i * 256 * 4 < 2 ^ 64
-  fits-256-words = omega arith
-
-  pub ends-256 : (n : ℕ) → n ≡ 2048 → i * 256 + 256 ≤ n
-  ends-256 n e = omega arith
+  pub ends : (n : ℕ) → n ≡ 8 * s → i * s + s ≤ n
+  ends n e = subst (λ (x : ℕ). i * s + s ≤ x) (sym e) (subst (λ (x : ℕ). x ≤ 8 * s) (suc-mul i s) (mul-le-mul-right s l))

@@ -8,6 +8,7 @@ ghost use Rattle.house.specs.Sound.{Sound};
 use dlx::words::wide;
 use house::House;
 use house::Turn;
+use translate::ENTRIES;
 
 // The partition after i, in cyclic order.
 fn following(n: u32, i: u32) -> u32
@@ -102,6 +103,8 @@ pub fn steps(mut h: House, memory: &mut [u32], k: u32) -> House
         let b = a + 32;
         let c = i * 256;
         let d = c + 256;
+        let e = i * ENTRIES;
+        let f = e + ENTRIES;
         let n = limit(left, k - made);
         let s = engine::stretch(
             p.processor,
@@ -109,7 +112,7 @@ pub fn steps(mut h: House, memory: &mut [u32], k: u32) -> House
             p.pages,
             &mut regs[a..b],
             &frames[c..d],
-            &mut shadows[c..d],
+            &mut shadows[e..f],
             memory,
             count,
             current,

@@ -14,6 +14,7 @@ use crate::run::next;
 use damage::any_runs;
 use dlx::words::wide;
 use house::House;
+use translate::ENTRIES;
 
 // The house with other flags and another turn.
 fn with_turn(h: House, running: [bool; 8], current: u32, left: u32) -> House
@@ -63,8 +64,8 @@ pub fn empty(h: House, i: u32) -> House
     ensures { λ r. ⌜ r ≡ emptiedHouse h i ⌝ }
 {
     let mut shadows = h.shadows;
-    let a = wide(i) * 256;
-    let b = a + 256;
+    let a = wide(i) * ENTRIES;
+    let b = a + ENTRIES;
     shadow::clear(&mut shadows[a..b]);
     let mut r = h;
     r.shadows = shadows;

@@ -7,7 +7,7 @@ use lib.ListN.{replicate}
 use Rattle.dlx.specs.Processor.{freshOf, withProcessor, withCounter}
 use Rattle.dlx.specs.declared.partition.Partition.{Partition}
 use Rattle.house.specs.Lists.{listFrom}
-use Rattle.house.specs.House.{noPartition, noHouse, layout, guests, turn, withLayout, withTurn, withGuests}
+use Rattle.house.specs.House.{freshShadows, noPartition, noHouse, layout, guests, turn, withLayout, withTurn, withGuests}
 use Rattle.house.specs.Boot.{bootedHouse}
 use Rattle.house.specs.Turns.{World, world, hostSteps}
 use Rattle.house.specs.declared.House.{House}
@@ -40,7 +40,7 @@ largest =
 unfoldable pub byHand : House
 byHand =
     withGuests (withTurn (withLayout noHouse (layout (2 ^ 32 - 1) 0 0 (replicate 2048 0))) (replicate 8 true) (turn 0 0))
-    (guests (replicate 6 noPartition ++ (largest ∷ freshOf 256 ∷ [])) (replicate 256 0) (replicate 2048 0))
+    (guests (replicate 6 noPartition ++ (largest ∷ freshOf 256 ∷ [])) (replicate 256 0) freshShadows)
 
 unfoldable pub reports : List (List ℕ × String)
 reports =

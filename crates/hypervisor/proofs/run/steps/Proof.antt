@@ -1,5 +1,6 @@
 use Prim.Native.Nat.{ℕ}
-use Rattle.hypervisor.proofs.Turn.{asked-turned, after-turn, asked-sound, limited, current-few, still-some, fits-32, fits-32-on, fits-32-words, fits-256, fits-256-on, fits-256-words, fits-64, starts, ends-32, ends-256}
+use Rattle.hypervisor.proofs.Turn.{asked-turned, after-turn, asked-sound, limited, current-few, still-some, fits, fits-on, fits-words, starts, ends}
+use Rattle.translate.specs.Walk.{entries}
 use Rattle.house.proofs.Turns.Stretch.{steps-add}
 use Rattle.house.proofs.Turns.Kept.{sound-steps}
 use mathlib.Core.Path.{sym, subst}
@@ -38,22 +39,28 @@ inside : (c : tie.After-wide Inv-loop μ-loop) → c .wide .result < 8
 inside c = current-few _ _ _ (c .wide .ensures) (c .before .before .loop .inv .1 .here) (c .before .before .loop .inv .1 .few)
 
 mul-p : tie.Need-mul-p Inv-loop μ-loop
-mul-p c = record { fits = fits-64 _ (inside c) }
+mul-p c = record { fits = fits _ 64 (inside c) (omega arith) }
 
 array-copy-out-p : tie.Need-array-copy-out-p Inv-loop μ-loop
 array-copy-out-p c = inside c
 
 mul-a : tie.Need-mul-a Inv-loop μ-loop
-mul-a c = record { fits = fits-32 _ (inside (c .before)) }
+mul-a c = record { fits = fits _ 32 (inside (c .before)) (omega arith) }
 
 add-b : tie.Need-add-b Inv-loop μ-loop
-add-b c = record { fits = fits-32-on _ (inside (c .before)) }
+add-b c = record { fits = fits-on _ 32 (inside (c .before)) (omega arith) }
 
 mul-c : tie.Need-mul-c Inv-loop μ-loop
-mul-c c = record { fits = fits-256 _ (inside (c .before)) }
+mul-c c = record { fits = fits _ 256 (inside (c .before)) (omega arith) }
 
 add-d : tie.Need-add-d Inv-loop μ-loop
-add-d c = record { fits = fits-256-on _ (inside (c .before)) }
+add-d c = record { fits = fits-on _ 256 (inside (c .before)) (omega arith) }
+
+mul-e : tie.Need-mul-e Inv-loop μ-loop
+mul-e c = record { fits = fits _ entries (inside (c .before)) (omega arith) }
+
+add-f : tie.Need-add-f Inv-loop μ-loop
+add-f c = record { fits = fits-on _ entries (inside (c .before)) (omega arith) }
 
 sub-limit : tie.Need-sub-limit Inv-loop μ-loop
 sub-limit c = omega (arith, c .before .before .loop-test .taken)
@@ -62,7 +69,7 @@ limit-requires : tie.Need-limit-requires Inv-loop μ-loop
 limit-requires c κs = search needs
 
 mul-regs : tie.Need-mul-regs Inv-loop μ-loop
-mul-regs c = record { fits = fits-32-words _ (inside (c .before .before)) }
+mul-regs c = record { fits = fits-words _ 32 (inside (c .before .before)) (omega arith) }
 
 sub-stretch : tie.Need-sub-stretch Inv-loop μ-loop
 sub-stretch c = starts _ 32
@@ -71,10 +78,10 @@ part-regs-start : tie.Need-part-regs-start Inv-loop μ-loop
 part-regs-start c = starts _ 32
 
 part-regs-end : tie.Need-part-regs-end Inv-loop μ-loop
-part-regs-end c = ends-32 _ (inside (c .before .before)) _ (c .before .before .before .before .loop .inv .1 .shaped .regs)
+part-regs-end c = ends _ 32 (inside (c .before .before)) (omega arith) _ (c .before .before .before .before .loop .inv .1 .shaped .regs)
 
 mul-stretch : tie.Need-mul-stretch Inv-loop μ-loop
-mul-stretch c = record { fits = fits-256-words _ (inside (c .before .before .before)) }
+mul-stretch c = record { fits = fits-words _ 256 (inside (c .before .before .before)) (omega arith) }
 
 sub-stretch-2 : tie.Need-sub-stretch-2 Inv-loop μ-loop
 sub-stretch-2 c = starts _ 256
@@ -83,19 +90,19 @@ part-stretch-start : tie.Need-part-stretch-start Inv-loop μ-loop
 part-stretch-start c = starts _ 256
 
 part-stretch-end : tie.Need-part-stretch-end Inv-loop μ-loop
-part-stretch-end c = ends-256 _ (inside (c .before .before .before .before)) _ (c .before .before .before .before .before .before .loop .inv .1 .shaped .frames)
+part-stretch-end c = ends _ 256 (inside (c .before .before .before .before)) (omega arith) _ (c .before .before .before .before .before .before .loop .inv .1 .shaped .frames)
 
 mul-shadows : tie.Need-mul-shadows Inv-loop μ-loop
-mul-shadows c = record { fits = fits-256-words _ (inside (c .before .before .before .before .before)) }
+mul-shadows c = record { fits = fits-words _ entries (inside (c .before .before .before .before .before)) (omega arith) }
 
 sub-stretch-3 : tie.Need-sub-stretch-3 Inv-loop μ-loop
-sub-stretch-3 c = starts _ 256
+sub-stretch-3 c = starts _ entries
 
 part-shadows-start : tie.Need-part-shadows-start Inv-loop μ-loop
-part-shadows-start c = starts _ 256
+part-shadows-start c = starts _ entries
 
 part-shadows-end : tie.Need-part-shadows-end Inv-loop μ-loop
-part-shadows-end c = ends-256 _ (inside (c .before .before .before .before .before)) _ (c .before .before .before .before .before .before .before .loop .inv .1 .shaped .shadows)
+part-shadows-end c = ends _ entries (inside (c .before .before .before .before .before)) (omega arith) _ (c .before .before .before .before .before .before .before .loop .inv .1 .shaped .shadows)
 
 slice-aggregate-stretch : tie.Need-slice-aggregate-stretch Inv-loop μ-loop
 slice-aggregate-stretch c = search needs
@@ -119,7 +126,7 @@ wrapping-add-u64-requires : tie.Need-wrapping-add-u64-requires Inv-loop μ-loop
 wrapping-add-u64-requires c κs = search needs
 
 mul-parts : tie.Need-mul-parts Inv-loop μ-loop
-mul-parts c = record { fits = fits-64 _ (inside (c .before .before .before .before .before .before .before .before .before .before .before .before .before .before .before .before .before .before .before .before)) }
+mul-parts c = record { fits = fits _ 64 (inside (c .before .before .before .before .before .before .before .before .before .before .before .before .before .before .before .before .before .before .before .before)) (omega arith) }
 
 array-set-from-parts : tie.Need-array-set-from-parts Inv-loop μ-loop
 array-set-from-parts c = inside (c .before .before .before .before .before .before .before .before .before .before .before .before .before .before .before .before .before .before .before .before)
@@ -162,6 +169,8 @@ steps-spec =
     add-b
     mul-c
     add-d
+    mul-e
+    add-f
     sub-limit
     limit-requires
     mul-regs

@@ -1,5 +1,6 @@
 use lib.ListN.{length}
 use mathlib.Core.Path.{_≡_}
+use Rattle.house.specs.House.{allEntries}
 use Rattle.house.specs.Calls.{emptiedHouse}
 use Rattle.dlx.specs.Parts.{outer}
 use native.Mathlib.Nat.{add-sub-cancel-left}
@@ -27,7 +28,7 @@ part-shadows-start : tie.Need-part-shadows-start
 part-shadows-start c = search needs
 
 part-shadows-end : tie.Need-part-shadows-end
-part-shadows-end c = let l : length (c .before .before .args .h .shadows) ≡ 2048 = search needs in omega (arith, c .wide .ensures, c .before .before .pre)
+part-shadows-end c = let l : length (c .before .before .args .h .shadows) ≡ allEntries = search needs in omega (arith, c .wide .ensures, c .before .before .pre)
 
 clear-requires : tie.Need-clear-requires
 clear-requires c κs = search needs
