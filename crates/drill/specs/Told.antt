@@ -1,12 +1,19 @@
 -- The text of a call.
 use mathlib.Core.List.{List, _++_}
-use Prim.Native.Nat.{ℕ}
+use Prim.Native.Nat.{ℕ, _+_, _*_}
 use lib.Dec.{eqb, leb}
 use Rattle.dlx.specs.Choice.{if_then_else_}
 use Rattle.house.specs.declared.House.{House}
 use Rattle.drill_text.specs.Lines.{callOf, houseOf, memoryOf}
-use Rattle.drill_text.specs.Partitions.{partitionsOf}
+use Rattle.drill_text.specs.Partitions.{longest, partitionsOf}
 use Rattle.drill_text.specs.Queues.{queueLinesOf}
+
+-- the most bytes of a call's text, and of one with a read-out's output
+abbrev pub mostTold : ℕ
+mostTold = 8 * longest + 6144
+
+abbrev pub mostRead : ℕ
+mostRead = mostTold + 196
 
 unfoldable pub toldOf : ℕ → ℕ → ℕ → House → List ℕ → List ℕ
 toldOf op number detail h memory =

@@ -7,6 +7,7 @@ ghost use Rattle.house.specs.Turns.{world};
 ghost use Rattle.house.specs.Calls.{answered, read as readOf};
 ghost use Rattle.decimal.specs.Texts.{Puts};
 ghost use Rattle.drill.specs.Fit.{Plays, Boots};
+ghost use Rattle.drill.specs.Told.{mostTold, mostRead};
 ghost use Rattle.drill.specs.Player.{bootOf, calledOf, readOutOf, callTextOf, readTextOf, madeOf, madeTextOf, moreOf, playedOf, textOf};
 use crate::reading::Reading;
 use crate::told;
@@ -90,7 +91,7 @@ fn call(
     used: usize,
 ) -> Done
     requires { ⌜ (c .op ≡ 1 → Boots c (length (now more))) ⌝ ∗ ⌜ 4096 ≤ length (now frames) ⌝ }
-    ensures { λ r. ⌜ (world (r .house) (now (memory .exit)) ≡ calledOf c (now (more .entry)) h (now (memory .entry)) .world) × Puts (now (text .entry)) used (now (text .exit)) (r .used) (callTextOf c (now (more .entry)) h (now (memory .entry))) 143336 ⌝ }
+    ensures { λ r. ⌜ (world (r .house) (now (memory .exit)) ≡ calledOf c (now (more .entry)) h (now (memory .entry)) .world) × Puts (now (text .entry)) used (now (text .exit)) (r .used) (callTextOf c (now (more .entry)) h (now (memory .entry))) mostTold ⌝ }
 {
     let a = called(h, c, more, memory, pages, frames);
     let house = a.house;
@@ -109,7 +110,7 @@ fn read(
     used: usize,
 ) -> Done
     requires { ⌜ 8 ≤ length (now more) ⌝ ∗ ⌜ length (now output) ≤ 4096 ⌝ }
-    ensures { λ r. ⌜ (r .house ≡ h) × Puts (now (text .entry)) used (now (text .exit)) (r .used) (readTextOf c (now (more .entry)) h (now (memory .entry)) (length (now (output .entry)))) 143532 ⌝ }
+    ensures { λ r. ⌜ (r .house ≡ h) × Puts (now (text .entry)) used (now (text .exit)) (r .used) (readTextOf c (now (more .entry)) h (now (memory .entry)) (length (now (output .entry)))) mostRead ⌝ }
 {
     let a = read_out(h, c, more, memory, output);
     let house = a.house;
@@ -131,7 +132,7 @@ fn made(
     used: usize,
 ) -> Done
     requires { ⌜ (c .op ≡ 6 → (c .c ≤ 4096) × (8 ≤ length (now more))) ⌝ ∗ ⌜ (c .op ≡ 1 → Boots c (length (now more))) ⌝ ∗ ⌜ 4096 ≤ length (now many) ⌝ }
-    ensures { λ r. ⌜ (world (r .house) (now (memory .exit)) ≡ madeOf c (now (more .entry)) h (now (memory .entry))) × Puts (now (text .entry)) used (now (text .exit)) (r .used) (madeTextOf c (now (more .entry)) h (now (memory .entry))) 143532 ⌝ }
+    ensures { λ r. ⌜ (world (r .house) (now (memory .exit)) ≡ madeOf c (now (more .entry)) h (now (memory .entry))) × Puts (now (text .entry)) used (now (text .exit)) (r .used) (madeTextOf c (now (more .entry)) h (now (memory .entry))) mostRead ⌝ }
 {
     if c.op == 6 {
         let n = wide(c.c);
@@ -152,7 +153,7 @@ pub fn play(
     used: usize,
 ) -> Played
     requires { ⌜ Plays r (length (now input)) (length (now memory)) ⌝ }
-    ensures { λ p. ⌜ (record { house = p .house; memory = now (memory .exit); lent = p .lent } ≡ playedOf (r .command) (moreOf r (now (input .entry))) (record { house = h; memory = now (memory .entry); lent = r .lent })) × Puts (now (text .entry)) used (now (text .exit)) (p .used) (textOf (r .command) (moreOf r (now (input .entry))) (record { house = h; memory = now (memory .entry); lent = r .lent })) 143532 ⌝ }
+    ensures { λ p. ⌜ (record { house = p .house; memory = now (memory .exit); lent = p .lent } ≡ playedOf (r .command) (moreOf r (now (input .entry))) (record { house = h; memory = now (memory .entry); lent = r .lent })) × Puts (now (text .entry)) used (now (text .exit)) (p .used) (textOf (r .command) (moreOf r (now (input .entry))) (record { house = h; memory = now (memory .entry); lent = r .lent })) mostRead ⌝ }
 {
     let c = r.command;
     let lent = r.lent;

@@ -93,7 +93,7 @@ fn many_space() -> [u32; 4096]
 }
 
 fn text_space() -> [u8; ROOM]
-    ensures { λ r. ⌜ 262144 ≡ length r ⌝ }
+    ensures { λ r. ⌜ 524288 ≡ length r ⌝ }
 {
     [0; ROOM]
 }

@@ -5,7 +5,7 @@ ghost use Prim.Native.Nat.{_+_, _<_, _≤_};
 ghost use lib.ListN.{length};
 ghost use Rattle.decimal.specs.Decimals.{decimal};
 ghost use Rattle.decimal.specs.Texts.{ascii, Puts};
-ghost use Rattle.drill.specs.Told.{toldOf, shownOf};
+ghost use Rattle.drill.specs.Told.{mostTold, toldOf, shownOf};
 use decimal::put_byte;
 use decimal::put_decimal;
 use decimal::put_text;
@@ -18,7 +18,7 @@ use libc::STDOUT_FILENO;
 
 // The text of a call.
 pub fn call(text: &mut [u8; ROOM], used: usize, op: u32, a: Answer, memory: &[u32]) -> usize
-    ensures { λ r. ⌜ Puts (now (text .entry)) used (now (text .exit)) r (toldOf op (a .number) (a .detail) (a .house) (now (memory .entry))) 143336 ⌝ }
+    ensures { λ r. ⌜ Puts (now (text .entry)) used (now (text .exit)) r (toldOf op (a .number) (a .detail) (a .house) (now (memory .entry))) mostTold ⌝ }
 {
     let house = a.house;
     let called = lines::call(text, used, op, a.number, a.detail);
@@ -71,7 +71,7 @@ fn wrong(text: &mut [u8; ROOM], used: usize, offset: u64) -> usize
 
 // The end of the script, or a wrong command.
 pub fn finish(text: &mut [u8; ROOM], used: usize, at: usize, end: usize, offset: u64)
-    requires { ⌜ used + 38 ≤ 262144 ⌝ }
+    requires { ⌜ used + 38 ≤ 524288 ⌝ }
 {
     if at == end {
         written(text, used);

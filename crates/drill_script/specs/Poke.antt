@@ -9,7 +9,7 @@ use Rattle.dlx.specs.declared.partition.Partition.{Partition}
 use Rattle.dlx.specs.declared.partition.Processor.{Processor}
 use Rattle.tickets.specs.Queues.{queues}
 use Rattle.house.specs.declared.House.{House}
-use Rattle.house.specs.House.{partition, layout, turn, turnNow, withLayout, withTurn, withQueues, withFrames, withParts, withRegisters, withShadows}
+use Rattle.house.specs.House.{allEntries, partition, layout, turn, turnNow, withLayout, withTurn, withQueues, withFrames, withParts, withRegisters, withShadows}
 
 -- ---- a partition
 
@@ -47,6 +47,16 @@ ownPoked h k v =
     (withTurn h (h .running) (turn (if eqb k 3 then v else h .current) (if eqb k 4 then v else h .left)))
     (layout (if eqb k 0 then v else h .count) (if eqb k 1 then v else h .q) (if eqb k 2 then v else h .words) (h .frames))
 
+-- where the places of the queues, and how many wait in each, begin and end
+abbrev ticketsFrom : ℕ
+ticketsFrom = 2437 + allEntries
+
+abbrev waitingFrom : ℕ
+waitingFrom = ticketsFrom + 256
+
+abbrev past : ℕ
+past = waitingFrom + 8
+
 unfoldable pub poked : House → ℕ → ℕ → House
 poked h i v =
     if ltb i 5 then ownPoked h i v
@@ -54,7 +64,7 @@ poked h i v =
     else if ltb i 133 then withParts h (set (h .parts) ((i - 13) / 15) (scalarPoked (partition h ((i - 13) / 15)) ((i - 13) % 15) v))
     else if ltb i 389 then withRegisters h (set (h .regs) (i - 133) v)
     else if ltb i 2437 then withFrames h (set (h .frames) (i - 389) v)
-    else if ltb i 4485 then withShadows h (set (h .shadows) (i - 2437) v)
-    else if ltb i 4741 then withQueues h (queues (set (h .tickets) (i - 4485) v) (h .waiting))
-    else if ltb i 4749 then withQueues h (queues (h .tickets) (set (h .waiting) (i - 4741) v))
+    else if ltb i ticketsFrom then withShadows h (set (h .shadows) (i - 2437) v)
+    else if ltb i waitingFrom then withQueues h (queues (set (h .tickets) (i - ticketsFrom) v) (h .waiting))
+    else if ltb i past then withQueues h (queues (h .tickets) (set (h .waiting) (i - waitingFrom) v))
     else h

@@ -4,7 +4,15 @@ ghost use Prim.Native.Nat.{_<_};
 ghost use Rattle.drill_script.specs.Poke.{scalarPoked, ownPoked, poked};
 use dlx::partition::Partition;
 use dlx::words::wide;
+use house::ALL_ENTRIES;
 use house::House;
+
+// Where the places of the queues, and how many wait in each, begin and end.
+const TICKETS: u32 = 2437 + ALL_ENTRIES as u32;
+
+const WAITING: u32 = TICKETS + 256;
+
+const END: u32 = WAITING + 8;
 
 // Scalar k of a partition. Each half of the counter keeps the other.
 fn scalar(p: Partition, k: u32, v: u32) -> Partition
@@ -138,21 +146,21 @@ pub fn poke(h: House, index: u32, v: u32) -> House
         r.frames = frames;
         return r;
     }
-    if index < 4485 {
+    if index < TICKETS {
         let mut shadows = h.shadows;
         shadows[wide(index - 2437)] = v;
         r.shadows = shadows;
         return r;
     }
-    if index < 4741 {
+    if index < WAITING {
         let mut tickets = h.tickets;
-        tickets[wide(index - 4485)] = v;
+        tickets[wide(index - TICKETS)] = v;
         r.tickets = tickets;
         return r;
     }
-    if index < 4749 {
+    if index < END {
         let mut waiting = h.waiting;
-        waiting[wide(index - 4741)] = v;
+        waiting[wide(index - WAITING)] = v;
         r.waiting = waiting;
         return r;
     }

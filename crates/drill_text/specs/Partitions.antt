@@ -1,13 +1,14 @@
 -- The lines that tell of the partitions.
 use mathlib.Core.Bool.{Bool, _&&_}
 use mathlib.Core.List.{List, [], _∷_, _++_}
-use Prim.Native.Nat.{ℕ, zero, suc}
+use Prim.Native.Nat.{ℕ, zero, suc, _+_, _*_}
 use lib.Dec.{eqb}
 use lib.ListN.{length, getD, take}
 use Rattle.dlx.specs.Choice.{if_then_else_}
 use Rattle.dlx.specs.declared.partition.Partition.{Partition}
 use Rattle.dlx.specs.declared.partition.Processor.{Processor}
 use Rattle.dlx.specs.declared.partition.Table.{Table}
+use Rattle.translate.specs.Walk.{entries}
 use Rattle.house.specs.declared.House.{House}
 use Rattle.house.specs.House.{partition, registersOf, framesOf}
 use Rattle.house.specs.House.{shadowOf as entriesIn}
@@ -16,6 +17,10 @@ use Rattle.decimal.specs.Decimals.{decimal}
 use Rattle.decimal.specs.Texts.{ascii}
 use Rattle.drill_text.specs.Numbers.{joined, numberOf}
 use Rattle.drill_text.specs.Lines.{rowOf}
+
+-- the most bytes that tell of one partition, 325 of them in its own line
+abbrev pub longest : ℕ
+longest = 6397 + 42 * entries
 
 -- from DPC to EMODE
 unfoldable pub specialsOf : Processor → Table → List ℕ

@@ -7,4 +7,4 @@ pub mod partitions;
 pub mod queues;
 
 // The most bytes of text.
-pub const ROOM: usize = 262144;
+pub const ROOM: usize = 524288;

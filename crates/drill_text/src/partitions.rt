@@ -1,14 +1,15 @@
 // The lines that tell of the partitions. A partition of which every number is 0 has none.
 ghost use mathlib.Core.Path.{_≡_};
-ghost use Prim.Native.Nat.{_+_, _*_, _<_};
+ghost use Prim.Native.Nat.{_+_, _-_, _*_, _<_};
 ghost use mathlib.Core.List.{[], _++_};
 ghost use lib.ListN.{length, getD, take};
 ghost use Rattle.decimal.specs.Texts.{ascii, Puts};
 ghost use Rattle.dlx.specs.Parts.{inner};
-ghost use Rattle.house.specs.House.{noPartition};
+ghost use Rattle.translate.specs.Walk.{entries as shadowLength};
+ghost use Rattle.house.specs.House.{allEntries, noPartition};
 ghost use Rattle.drill_text.specs.Lines.{rowOf};
 ghost use Rattle.drill_text.specs.Numbers.{joined, numberOf};
-ghost use Rattle.drill_text.specs.Partitions.{specialsOf, zerosOf, listedOf, blankOf, ownOf, entryOf, entriesOf, shadowOf, partitionOf, partitionsOf};
+ghost use Rattle.drill_text.specs.Partitions.{longest, specialsOf, zerosOf, listedOf, blankOf, ownOf, entryOf, entriesOf, shadowOf, partitionOf, partitionsOf};
 use crate::ROOM;
 use crate::lines::rest;
 use crate::lines::row;
@@ -20,6 +21,7 @@ use dlx::partition::Partition;
 use dlx::partition::Processor;
 use dlx::partition::Table;
 use house::House;
+use translate::ENTRIES;
 
 // From DPC to EMODE, in the text's order.
 fn specials(p: Processor, t: Table) -> [u32; 12]
@@ -156,8 +158,8 @@ fn arrays(
     frames: &[u32],
     entries: &[u32],
 ) -> usize
-    requires { ⌜ length (now registers) ≡ 32 ⌝ ∗ ⌜ length (now frames) ≡ 256 ⌝ ∗ ⌜ length (now entries) ≡ 256 ⌝ }
-    ensures { λ r. ⌜ Puts (now (text .entry)) used (now (text .exit)) r (rowOf (ascii "registers") (now (registers .entry)) ++ (rowOf (ascii "frames") (take (listedOf (now (frames .entry))) (now (frames .entry))) ++ shadowOf (now (entries .entry)))) 16824 ⌝ }
+    requires { ⌜ length (now registers) ≡ 32 ⌝ ∗ ⌜ length (now frames) ≡ 256 ⌝ ∗ ⌜ length (now entries) ≡ shadowLength ⌝ }
+    ensures { λ r. ⌜ Puts (now (text .entry)) used (now (text .exit)) r (rowOf (ascii "registers") (now (registers .entry)) ++ (rowOf (ascii "frames") (take (listedOf (now (frames .entry))) (now (frames .entry))) ++ shadowOf (now (entries .entry)))) (longest - 325) ⌝ }
 {
     let n = listed(frames);
     let registered = row(text, used, b"registers", registers);
@@ -174,8 +176,8 @@ fn partition(
     frames: &[u32],
     entries: &[u32],
 ) -> usize
-    requires { ⌜ length (now registers) ≡ 32 ⌝ ∗ ⌜ length (now frames) ≡ 256 ⌝ ∗ ⌜ length (now entries) ≡ 256 ⌝ }
-    ensures { λ r. ⌜ Puts (now (text .entry)) used (now (text .exit)) r (partitionOf i p (now (registers .entry)) (now (frames .entry)) (now (entries .entry))) 17149 ⌝ }
+    requires { ⌜ length (now registers) ≡ 32 ⌝ ∗ ⌜ length (now frames) ≡ 256 ⌝ ∗ ⌜ length (now entries) ≡ shadowLength ⌝ }
+    ensures { λ r. ⌜ Puts (now (text .entry)) used (now (text .exit)) r (partitionOf i p (now (registers .entry)) (now (frames .entry)) (now (entries .entry))) longest ⌝ }
 {
     if blank(p, registers, frames, entries) {
         return used;
@@ -194,13 +196,15 @@ fn nth(
     frames: &[u32],
     shadows: &[u32],
 ) -> usize
-    requires { ⌜ i < 8 ⌝ ∗ ⌜ length (now registers) ≡ 256 ⌝ ∗ ⌜ length (now frames) ≡ 2048 ⌝ ∗ ⌜ length (now shadows) ≡ 2048 ⌝ }
-    ensures { λ r. ⌜ Puts (now (text .entry)) used (now (text .exit)) r (partitionOf i p (inner (i * 32) 32 (now (registers .entry))) (inner (i * 256) 256 (now (frames .entry))) (inner (i * 256) 256 (now (shadows .entry)))) 17149 ⌝ }
+    requires { ⌜ i < 8 ⌝ ∗ ⌜ length (now registers) ≡ 256 ⌝ ∗ ⌜ length (now frames) ≡ 2048 ⌝ ∗ ⌜ length (now shadows) ≡ allEntries ⌝ }
+    ensures { λ r. ⌜ Puts (now (text .entry)) used (now (text .exit)) r (partitionOf i p (inner (i * 32) 32 (now (registers .entry))) (inner (i * 256) 256 (now (frames .entry))) (inner (i * shadowLength) shadowLength (now (shadows .entry)))) longest ⌝ }
 {
     let a = i * 32;
     let b = a + 32;
     let c = i * 256;
     let d = c + 256;
+    let e = i * ENTRIES;
+    let f = e + ENTRIES;
     partition(
         text,
         used,
@@ -208,7 +212,7 @@ fn nth(
         p,
         &registers[a..b],
         &frames[c..d],
-        &shadows[c..d],
+        &shadows[e..f],
     )
 }
 
@@ -220,8 +224,8 @@ fn each(
     frames: &[u32],
     shadows: &[u32],
 ) -> usize
-    requires { ⌜ length (now registers) ≡ 256 ⌝ ∗ ⌜ length (now frames) ≡ 2048 ⌝ ∗ ⌜ length (now shadows) ≡ 2048 ⌝ }
-    ensures { λ r. ⌜ Puts (now (text .entry)) used (now (text .exit)) r (joined (λ k. partitionOf k (getD parts k noPartition) (inner (k * 32) 32 (now (registers .entry))) (inner (k * 256) 256 (now (frames .entry))) (inner (k * 256) 256 (now (shadows .entry)))) 8) 137192 ⌝ }
+    requires { ⌜ length (now registers) ≡ 256 ⌝ ∗ ⌜ length (now frames) ≡ 2048 ⌝ ∗ ⌜ length (now shadows) ≡ allEntries ⌝ }
+    ensures { λ r. ⌜ Puts (now (text .entry)) used (now (text .exit)) r (joined (λ k. partitionOf k (getD parts k noPartition) (inner (k * 32) 32 (now (registers .entry))) (inner (k * 256) 256 (now (frames .entry))) (inner (k * shadowLength) shadowLength (now (shadows .entry)))) 8) (8 * longest) ⌝ }
 {
     let mut end = used;
     let mut i = 0;
@@ -233,7 +237,7 @@ fn each(
 }
 
 pub fn partitions(text: &mut [u8; ROOM], used: usize, h: House) -> usize
-    ensures { λ r. ⌜ Puts (now (text .entry)) used (now (text .exit)) r (partitionsOf h) 137192 ⌝ }
+    ensures { λ r. ⌜ Puts (now (text .entry)) used (now (text .exit)) r (partitionsOf h) (8 * longest) ⌝ }
 {
     let parts = h.parts;
     let registers = h.regs;

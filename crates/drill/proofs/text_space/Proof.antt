@@ -5,7 +5,7 @@ use Rattle.drill.proofs.text_space.Statement.{statement}
 use Rattle.drill.proofs.text_space.Tie as tie
 
 returns : tie.Need-returns
-returns c = sym (length-replicate {A = ℕ} 262144 0)
+returns c = sym (length-replicate {A = ℕ} 524288 0)
 
 pub text-space-spec : {M : Type 1} → statement M
 text-space-spec = tie.close (tie.spec returns)

@@ -9,7 +9,7 @@ use Rattle.drill.proofs.turn.Tie as tie
 
 flushed-requires : tie.Need-flushed-requires
 flushed-requires c κs =
-    let n : length (c .before .before .before .before .args .text .now) ≡ 262144 = search (needs, c .flushed-arg2, c .before .flushed-arg) in
+    let n : length (c .before .before .before .before .args .text .now) ≡ 524288 = search (needs, c .flushed-arg2, c .before .flushed-arg) in
     omega (arith, n, c .before .before .before .before .pre .0 .used)
 
 play-requires : tie.Need-play-requires

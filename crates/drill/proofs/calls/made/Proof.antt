@@ -4,6 +4,7 @@ use borrow.Author.Tests.{eq-eqb, ne-eqb}
 use lib.ListN.{length, take}
 use lib.Seq.{length-take-le}
 use Rattle.decimal.proofs.Texts.{roomy}
+use Rattle.drill.specs.Told.{mostRead}
 use Rattle.drill.specs.Player.{madeOf, madeTextOf}
 use Rattle.drill.proofs.Shown.{as-many}
 use borrow.Author.Needs.{needs}
@@ -52,7 +53,7 @@ returns-2 : tie.Need-returns-2
 unfolding madeOf madeTextOf
 returns-2 c =
     let d = ne-eqb _ _ (c .before .before .before .before .before .before .before .before .before .if1 .left) in
-    (rw d (c .before .before .before .before .call .ensures .0), rw d (roomy 143532 (c .before .before .before .before .call .ensures .1) (omega arith)))
+    (rw d (c .before .before .before .before .call .ensures .0), rw d (roomy mostRead (c .before .before .before .before .call .ensures .1) (omega arith)))
 
 pub made-spec : {M : Type 1} → statement M
 made-spec = tie.close (tie.spec wide-requires slice-relend-prefix-read slice-aggregate-read read-requires same-length same-length-2 returns call-requires same-length-3 same-length-4 returns-2)

@@ -5,6 +5,7 @@ use lib.Dec.{eqb}
 use lib.ListN.{length}
 use lib.Seq.{length-take-le}
 use Rattle.decimal.proofs.Texts.{nothing, roomy}
+use Rattle.drill.specs.Told.{mostRead}
 use Rattle.drill.specs.Player.{madeOf, madeTextOf, playedOf, textOf}
 use Rattle.drill.proofs.Commands.{plays-sixteen, plays-inside, plays-read, plays-boot, more-length, made-played}
 use borrow.Author.Needs.{needs}
@@ -16,7 +17,7 @@ poke-requires c κs = tt
 
 returns : tie.Need-returns
 unfolding playedOf textOf
-returns c = (rw (eq-eqb _ _ (c .before .if1 .taken), c .poke .ensures), rw (eq-eqb _ _ (c .before .if1 .taken)) (roomy 143532 nothing (omega arith)))
+returns c = (rw (eq-eqb _ _ (c .before .if1 .taken), c .poke .ensures), rw (eq-eqb _ _ (c .before .if1 .taken)) (roomy mostRead nothing (omega arith)))
 
 fill-requires : tie.Need-fill-requires
 fill-requires c κs = tt
@@ -32,7 +33,7 @@ unfolding playedOf textOf
 returns-2 c =
     let a = ne-eqb _ _ (c .before .before .before .before .before .before .before .if1 .left) in
     let b = eq-eqb _ _ (c .before .before .before .before .before .if2 .taken) in
-    (rw (a, b, c .none .ensures, c .before .before .before .fill .ensures), rw (a, b) (roomy 143532 nothing (omega arith)))
+    (rw (a, b, c .none .ensures, c .before .before .before .fill .ensures), rw (a, b) (roomy mostRead nothing (omega arith)))
 
 add-from : tie.Need-add-from
 add-from c = search needs

@@ -8,7 +8,7 @@ use Rattle.drill.proofs.told.finish.Tie as tie
 
 written-requires : tie.Need-written-requires
 written-requires c κs =
-    let n : length (c .before .before .before .args .text .now) ≡ 262144 = search (needs, c .written-arg2, c .before .written-arg) in
+    let n : length (c .before .before .before .args .text .now) ≡ 524288 = search (needs, c .written-arg2, c .before .written-arg) in
     omega (arith, n, c .before .before .before .pre)
 
 returns : tie.Need-returns
@@ -19,7 +19,7 @@ wrong-requires c κs = tt
 
 written-requires-2 : tie.Need-written-requires-2
 written-requires-2 c κs =
-    let n : length (c .before .before .wrong .last .0) ≡ 262144 = search (needs, c .written-arg4, c .before .written-arg3) in
+    let n : length (c .before .before .wrong .last .0) ≡ 524288 = search (needs, c .written-arg4, c .before .written-arg3) in
     omega (arith, n, within (c .before .before .wrong .ensures), c .before .before .before .before .before .pre)
 
 returns-2 : tie.Need-returns-2

@@ -1,7 +1,9 @@
 use mathlib.Core.Path.{sym}
+use Prim.Native.Nat.{_-_}
 use native.Mathlib.Omega.{arith}
 use Rattle.decimal.specs.Texts.{ascii}
 use Rattle.decimal.proofs.Texts.{roomy, _then_}
+use Rattle.drill_text.specs.Partitions.{longest}
 use Rattle.drill_text.proofs.Listed.{listed-length, listed-most}
 use borrow.Author.Needs.{needs}
 use Rattle.drill_text.proofs.partitions.arrays.Statement.{statement}
@@ -32,7 +34,7 @@ returns : tie.Need-returns
 unfolding ascii
 returns c =
     rw (← c .before .before .before .before .before .before .before .before .before .listed .ensures)
-    (roomy 16824 (c .before .before .before .before .before .before .row .ensures then c .before .before .row2 .ensures then c .shadow .ensures)
+    (roomy (longest - 325) (c .before .before .before .before .before .before .row .ensures then c .before .before .row2 .ensures then c .shadow .ensures)
     (omega (arith, c .before .before .before .before .before .before .before .before .before .before .before .before .before .pre, listed-most (c .before .before .before .before .before .before .before .before .before .before .before .before .before .args .frames .now) (c .before .before .before .before .before .before .before .before .before .listed .ensures))))
 
 pub arrays-spec : {M : Type 1} → statement M

@@ -3,22 +3,23 @@ use native.Mathlib.Omega.{arith}
 use lib.ListN.{getD}
 use Rattle.dlx.specs.Parts.{inner}
 use Rattle.decimal.specs.Texts.{Puts}
+use Rattle.translate.specs.Walk.{entries}
 use Rattle.house.specs.House.{noPartition}
 use Rattle.drill_text.specs.Numbers.{joined}
-use Rattle.drill_text.specs.Partitions.{partitionOf}
+use Rattle.drill_text.specs.Partitions.{longest, partitionOf}
 use Rattle.drill_text.proofs.Appending.{parts-begin, parts-on, parts-end}
 use borrow.Author.Needs.{needs}
 use Rattle.drill_text.proofs.partitions.each.Statement.{statement}
 use Rattle.drill_text.proofs.partitions.each.Tie as tie
 
 abbrev Inv-loop : tie.InvT-loop
-Inv-loop text₀ used registers frames shadows parts end₀ i₀ text end i = Puts text₀ used text end (joined (λ k. partitionOf k (getD parts k noPartition) (inner (k * 32) 32 registers) (inner (k * 256) 256 frames) (inner (k * 256) 256 shadows)) i) (17149 * i) × (i ≤ 8)
+Inv-loop text₀ used registers frames shadows parts end₀ i₀ text end i = Puts text₀ used text end (joined (λ k. partitionOf k (getD parts k noPartition) (inner (k * 32) 32 registers) (inner (k * 256) 256 frames) (inner (k * entries) entries shadows)) i) (longest * i) × (i ≤ 8)
 
 abbrev μ-loop : tie.MeasureT-loop
 μ-loop text₀ used registers frames shadows parts end₀ i₀ text end i = 8 - i
 
 loop-holds : tie.Need-loop-holds Inv-loop μ-loop
-loop-holds c = (parts-begin _ 17149, omega arith)
+loop-holds c = (parts-begin _ longest, omega arith)
 
 mul-nth : tie.Need-mul-nth Inv-loop μ-loop
 mul-nth c = search needs
@@ -38,10 +39,10 @@ loop-less c = search needs
 loop-again : tie.Need-loop-again Inv-loop μ-loop
 loop-again c =
     let a = c .before .before .before .before .before .before .before .before .args in
-    (parts-on (λ (k : ℕ). partitionOf k (getD (a .t3) k noPartition) (inner (k * 32) 32 (a .registers .now)) (inner (k * 256) 256 (a .frames .now)) (inner (k * 256) 256 (a .shadows .now))) 17149 (c .before .before .before .before .loop .i) (c .before .before .before .before .loop .inv .0) (c .nth .ensures), omega arith)
+    (parts-on (λ (k : ℕ). partitionOf k (getD (a .t3) k noPartition) (inner (k * 32) 32 (a .registers .now)) (inner (k * 256) 256 (a .frames .now)) (inner (k * entries) entries (a .shadows .now))) longest (c .before .before .before .before .loop .i) (c .before .before .before .before .loop .inv .0) (c .nth .ensures), omega arith)
 
 returns : tie.Need-returns Inv-loop μ-loop
-returns c = parts-end _ 17149 (c .before .loop .i) 8 (c .before .loop .inv .1) (c .loop-test .left) (c .before .loop .inv .0)
+returns c = parts-end _ longest (c .before .loop .i) 8 (c .before .loop .inv .1) (c .loop-test .left) (c .before .loop .inv .0)
 
 pub each-spec : {M : Type 1} → statement M
 each-spec = tie.close (tie.spec Inv-loop μ-loop loop-holds mul-nth array-copy-out-nth nth-requires add-i loop-less loop-again returns)

@@ -1,7 +1,7 @@
 use mathlib.Core.Path.{sym, _∙_}
 use native.Mathlib.Omega.{arith}
 use Rattle.decimal.proofs.Texts.{nothing, roomy, _then_}
-use Rattle.drill_text.specs.Partitions.{partitionOf}
+use Rattle.drill_text.specs.Partitions.{longest, partitionOf}
 use Rattle.drill_text.proofs.partitions.partition.Statement.{statement}
 use Rattle.drill_text.proofs.partitions.partition.Tie as tie
 
@@ -10,7 +10,7 @@ blank-requires c κs = tt
 
 returns : tie.Need-returns
 unfolding partitionOf
-returns c = rw (sym (c .before .blank .ensures) ∙ c .if1 .taken) (roomy 17149 nothing (omega arith))
+returns c = rw (sym (c .before .blank .ensures) ∙ c .if1 .taken) (roomy longest nothing (omega arith))
 
 own-requires : tie.Need-own-requires
 own-requires c κs = tt
