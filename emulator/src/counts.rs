@@ -5,6 +5,29 @@ use std::ops::AddAssign;
 
 use crate::dlx::Cause;
 
+/// Shadow entries: how many in all, and how many above entry 255.
+#[derive(Clone, Copy, Debug, Default, PartialEq, Eq)]
+pub struct Entries {
+    /// All of them.
+    pub all: u64,
+    /// Those above entry 255.
+    pub above: u64,
+}
+
+impl Entries {
+    /// One entry more.
+    pub fn add(&mut self, px: usize) {
+        *self += Entries { all: 1, above: u64::from(px > 255) };
+    }
+}
+
+impl AddAssign for Entries {
+    fn add_assign(&mut self, other: Entries) {
+        self.all += other.all;
+        self.above += other.above;
+    }
+}
+
 /// Counts of steps, interrupts, shadow changes, tickets and answers.
 #[derive(Clone, Debug, Default, PartialEq, Eq)]
 pub struct Counts {
@@ -17,13 +40,13 @@ pub struct Counts {
     /// Interrupts raised by the first word of the handler: a guest in an interrupt loop.
     pub loops: u64,
     /// Shadow entries filled.
-    pub fills: u64,
+    pub fills: Entries,
     /// Valid shadow entries emptied by a store into the table.
-    pub emptied_by_store: u64,
+    pub emptied_by_store: Entries,
     /// Valid shadow entries emptied by movi2s to PTO or PTL.
-    pub emptied_by_special: u64,
+    pub emptied_by_special: Entries,
     /// Valid shadow entries emptied by the call.
-    pub emptied_by_call: u64,
+    pub emptied_by_call: Entries,
     /// Sends in system mode, by their answer (0 done, 1 full, 2 no such partition).
     pub sends: [u64; 4],
     /// Sends done to the sender itself.
@@ -68,18 +91,25 @@ fn causes_text(counts: &[u64; 7]) -> String {
     Cause::ALL.iter().map(pair).collect::<Vec<_>>().join(" ")
 }
 
+/// A line on shadow entries that were filled and emptied.
+fn entries_text(f: &mut fmt::Formatter<'_>, of: &str, counts: [u64; 4]) -> fmt::Result {
+    let [filled, store, special, call] = counts;
+    writeln!(
+        f,
+        "{of}: filled:{filled} emptied by a store:{store} by PTO or PTL:{special} by the call:{call}"
+    )
+}
+
 impl fmt::Display for Counts {
     fn fmt(&self, f: &mut fmt::Formatter<'_>) -> fmt::Result {
         writeln!(f, "steps by mode: system:{} user:{}", self.steps[0], self.steps[1])?;
         writeln!(f, "interrupts by cause: {}", causes_text(&self.interrupts))?;
         writeln!(f, "interrupts with PC not DPC + 4, by cause: {}", causes_text(&self.slots))?;
         writeln!(f, "interrupts from the handler's first word: {}", self.loops)?;
-        writeln!(f, "shadow entries filled: {}", self.fills)?;
-        writeln!(
-            f,
-            "shadow entries emptied: by a store:{} by PTO or PTL:{} by the call:{}",
-            self.emptied_by_store, self.emptied_by_special, self.emptied_by_call
-        )?;
+        let entries =
+            [self.fills, self.emptied_by_store, self.emptied_by_special, self.emptied_by_call];
+        entries_text(f, "shadow entries", entries.map(|entries| entries.all))?;
+        entries_text(f, "shadow entries above 255", entries.map(|entries| entries.above))?;
         let [sent, full, no_partition, _] = self.sends;
         writeln!(f, "sends by answer: done:{sent} full:{full} no such partition:{no_partition}")?;
         writeln!(

@@ -3,7 +3,7 @@
 use crate::dlx::special;
 use crate::dlx::Guest;
 use crate::house::{House, PARTITIONS};
-use crate::memory::ENTRIES;
+use crate::memory::{ENTRIES, LIST_PLACES};
 use crate::tickets::PLACES;
 
 /// Scalars of a partition: pages, DPC, PC, ten specials, counter low and high.
@@ -16,8 +16,8 @@ pub const PARTS: u32 = RUNNING + PARTITIONS as u32;
 pub const REGISTERS: u32 = PARTS + SCALARS * PARTITIONS as u32;
 /// First index of the frame lists, 256 places for each partition.
 pub const FRAMES: u32 = REGISTERS + 32 * PARTITIONS as u32;
-/// First index of the shadows, 256 entries for each partition.
-pub const SHADOWS: u32 = FRAMES + (ENTRIES * PARTITIONS) as u32;
+/// First index of the shadows, 1,024 entries for each partition.
+pub const SHADOWS: u32 = FRAMES + (LIST_PLACES * PARTITIONS) as u32;
 /// First index of the ticket queues, 32 places for each partition.
 pub const QUEUES: u32 = SHADOWS + (ENTRIES * PARTITIONS) as u32;
 /// First index of the numbers of waiting tickets, one for each partition.
@@ -66,7 +66,7 @@ pub fn register(partition: u32, number: u32) -> u32 {
 
 /// Index of a place of a partition's frame list.
 pub fn frame(partition: u32, place: u32) -> u32 {
-    FRAMES + ENTRIES as u32 * partition + place
+    FRAMES + LIST_PLACES as u32 * partition + place
 }
 
 /// Index of a shadow entry of a partition.
@@ -126,7 +126,7 @@ fn split(index: u32) -> (usize, usize) {
         RUNNING..PARTS => (RUNNING, PARTITIONS as u32),
         PARTS..REGISTERS => (PARTS, SCALARS),
         REGISTERS..FRAMES => (REGISTERS, 32),
-        FRAMES..SHADOWS => (FRAMES, ENTRIES as u32),
+        FRAMES..SHADOWS => (FRAMES, LIST_PLACES as u32),
         SHADOWS..QUEUES => (SHADOWS, ENTRIES as u32),
         QUEUES..WAITING => (QUEUES, PLACES as u32),
         WAITING..END => (WAITING, PARTITIONS as u32),
@@ -207,7 +207,8 @@ mod tests {
             set(&mut house, index, 1);
             assert_eq!(get(&house, index), Some(1), "index {index}");
         }
-        assert_eq!((QUEUES, WAITING, END), (4_485, 4_741, 4_749));
+        assert_eq!((FRAMES, SHADOWS), (389, 2_437));
+        assert_eq!((QUEUES, WAITING, END), (10_629, 10_885, 10_893));
         assert_eq!(get(&house, END), None);
     }
 

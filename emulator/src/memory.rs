@@ -1,13 +1,15 @@
 //! Addresses and shadows: how a guest byte address becomes one word of the lent host memory.
 
-use crate::counts::Counts;
+use crate::counts::{Counts, Entries};
 
 /// Words of a frame.
 pub const FRAME_WORDS: usize = 1_024;
 /// Bytes of a page.
 pub const PAGE_BYTES: u64 = 4_096;
-/// Entries of a shadow table, and places of a frame list.
-pub const ENTRIES: usize = 256;
+/// Places of a frame list.
+pub const LIST_PLACES: usize = 256;
+/// Entries of a shadow table: one for each virtual page that can be mapped.
+pub const ENTRIES: usize = 1_024;
 /// Bit 11 of an entry: valid.
 pub const VALID: u32 = 1 << 11;
 /// Bit 10 of an entry: protected.
@@ -81,14 +83,14 @@ pub struct Space {
     /// The page count.
     pub pages: u32,
     /// The frame list: guest page k is its k-th frame.
-    pub frames: [u32; ENTRIES],
+    pub frames: [u32; LIST_PLACES],
     /// The shadow table: frame in bits 31..12, bit 11 valid, bit 10 protected; 0 is empty.
     pub shadow: [u32; ENTRIES],
 }
 
 impl Space {
     /// The space of no pages.
-    pub const ZERO: Space = Space { pages: 0, frames: [0; ENTRIES], shadow: [0; ENTRIES] };
+    pub const ZERO: Space = Space { pages: 0, frames: [0; LIST_PLACES], shadow: [0; ENTRIES] };
 
     /// The frame list without its unused places.
     pub fn list(&self) -> &[u32] {
@@ -153,7 +155,7 @@ impl Space {
             page => page,
         };
         self.shadow[px as usize] = shadow_entry(self.frames[page as usize], entry);
-        counts.fills += 1;
+        counts.fills.add(px as usize);
         Some((page, entry))
     }
 
@@ -189,16 +191,20 @@ impl Space {
     ) {
         memory[self.host_word(place)] = value;
         if let Some(px) = entry_at(table, place) {
-            counts.emptied_by_store += u64::from(self.shadow[px] != 0);
+            if self.shadow[px] != 0 {
+                counts.emptied_by_store.add(px);
+            }
             self.shadow[px] = 0;
         }
     }
 
     /// Empties all entries; tells how many were valid.
-    pub fn empty(&mut self) -> u64 {
-        let valid = self.shadow.iter().filter(|&&entry| entry != 0).count();
+    pub fn empty(&mut self) -> Entries {
+        let mut valid = Entries::default();
+        let used = self.shadow.iter().enumerate().filter(|(_, &entry)| entry != 0);
+        used.for_each(|(px, _)| valid.add(px));
         self.shadow = [0; ENTRIES];
-        valid as u64
+        valid
     }
 
     fn host_word(&self, place: Place) -> usize {
@@ -206,7 +212,7 @@ impl Space {
     }
 }
 
-/// The px whose table entry stands at a place, px below PTL and 256.
+/// The px whose table entry stands at a place, px below PTL and 1,024.
 fn entry_at(table: Table, place: Place) -> Option<usize> {
     let offset = place.address().checked_sub(PAGE_BYTES * u64::from(table.pto))?;
     let px = offset / 4;

@@ -1,6 +1,7 @@
 //! Scripts and house files with a name: the examples of 01, and what follows from the rules and is
 //! easy to miss.
 
+mod far_pages;
 mod house_frame;
 mod pairs;
 mod tickets;
@@ -146,6 +147,7 @@ pub fn scripts() -> Vec<Script> {
         pairs::group(),
         translation(),
         shadows(),
+        far_pages::group(),
         turns(),
         tickets::group(),
         calls(),
@@ -311,16 +313,17 @@ fn through_entry(pages: u32, entry: u32, word: u32) -> Story {
 
 fn translation() -> Group {
     let (load, store) = (lw(1, 0, 8), sw(2, 0, 8));
+    // What would be entry 1,024 stands behind the table, in the first word of page 2.
     let far = |px: u32, word| {
-        Story::user(3, 1_000, &[(0, PAGE_0), (255, PAGE_2), (256, PAGE_2)])
+        Story::user(3, 2_000, &[(0, PAGE_0), (1_023, PAGE_2), (1_024, PAGE_2)])
             .words(0, &[word])
             .register(1, 4_096 * px)
             .run(1)
     };
     let far_fetch = |px: u32| {
-        Story::user(3, 1_000, &[(255, PAGE_2), (256, PAGE_2)])
-            .words(2 * TABLE, &[addi(1, 0, 7)])
-            .at(4_096 * px)
+        Story::user(3, 2_000, &[(1_023, PAGE_2), (1_024, PAGE_2)])
+            .words(2 * TABLE + 1, &[addi(1, 0, 7)])
+            .at(4_096 * px + 4)
             .run(1)
     };
     vec![
@@ -331,12 +334,12 @@ fn translation() -> Group {
         ("entry 0x00003800, 3 pages, load", through_entry(3, 0x3800, load)),
         ("entry 0x00003C00, 3 pages, load", through_entry(3, 0x3C00, load)),
         ("entry 0x00003C00, 3 pages, store", through_entry(3, 0x3C00, store)),
-        ("px 255, load", far(255, lw(2, 1, 0))),
-        ("px 255, store", far(255, sw(1, 1, 4))),
-        ("px 256, load", far(256, lw(2, 1, 0))),
-        ("px 256, store", far(256, sw(1, 1, 4))),
-        ("px 255, fetch", far_fetch(255)),
-        ("px 256, fetch", far_fetch(256)),
+        ("px 1,023, load", far(1_023, lw(2, 1, 0))),
+        ("px 1,023, store", far(1_023, sw(1, 1, 4))),
+        ("px 1,024, load", far(1_024, lw(2, 1, 0))),
+        ("px 1,024, store", far(1_024, sw(1, 1, 4))),
+        ("px 1,023, fetch", far_fetch(1_023)),
+        ("px 1,024, fetch", far_fetch(1_024)),
         ("px at PTL", Story::user(3, 1, &[(0, PAGE_0), (1, PAGE_2)]).step(lw(1, 1, 0), 4_096, 0)),
         (
             "the table's address does not wrap",
@@ -387,8 +390,8 @@ fn shadows() -> Group {
             mapped(2).shadow(2, PAGE_2).step(sw(2, 1, 8), 4_096, PAGE_2),
         ),
         (
-            "a store beyond entry 255 empties nothing",
-            mapped(1_000).shadow(255, PAGE_2).shadow(0, PAGE_0).step(sw(2, 1, 1_024), 4_096, 0),
+            "a store beyond entry 1,023 empties nothing",
+            mapped(2_000).shadow(1_023, PAGE_2).shadow(0, PAGE_0).step(sw(2, 1, 0), 8_192, 0),
         ),
         (
             "a store that faults empties nothing",
@@ -402,7 +405,7 @@ fn shadows() -> Group {
         ("a store empties the fetch's own page", mapped(3).step(sw(2, 1, 0), 4_096, PAGE_0)),
         (
             "PTO of the same value empties all",
-            mapped(3).special(MODE, 0).shadow(0, PAGE_0).shadow(255, PAGE_2).step(
+            mapped(3).special(MODE, 0).shadow(0, PAGE_0).shadow(1_023, PAGE_2).step(
                 movi2s(PTO, 1),
                 1,
                 0,
@@ -410,7 +413,7 @@ fn shadows() -> Group {
         ),
         (
             "PTL of the same value empties all",
-            mapped(3).special(MODE, 0).shadow(0, PAGE_0).shadow(255, PAGE_2).step(
+            mapped(3).special(MODE, 0).shadow(0, PAGE_0).shadow(1_023, PAGE_2).step(
                 movi2s(PTL, 1),
                 3,
                 0,
@@ -588,7 +591,14 @@ fn damages() -> Story {
         (fields::register(7, 5), 1, 0),
         (fields::scalar(2, fields::COUNTER_HIGH), 1, 0),
         (fields::frame(7, 255), 1, 0),
+        (fields::shadow(0, 255), shadow_entry(3, 0), 0),
+        (fields::shadow(0, 256), shadow_entry(3, 0), 0),
+        (fields::shadow(0, 1_023), shadow_entry(3, 0), 0),
+        (fields::shadow(1, 0), shadow_entry(2, 0), 0),
+        (fields::shadow(1, 1_023), PROTECTED, 0),
+        (fields::shadow(2, 0), shadow_entry(1, 0), 0),
         (fields::shadow(7, 255), shadow_entry(1, 0), 0),
+        (fields::shadow(7, 1_023), shadow_entry(1, 0), 0),
         (WAITING, 33, 0),
         (WAITING + 1, u32::MAX, 0),
         (fields::ticket(0, 0), 1, 0),
@@ -604,6 +614,7 @@ fn damages() -> Story {
     story
         .run(0)
         .field(fields::shadow(0, 9), shadow_entry(2, PROTECTED))
+        .field(fields::shadow(0, 1_023), shadow_entry(1, 0))
         .field(fields::special(0, PTO), u32::MAX)
         .field(fields::special(0, MODE), 1)
         .field(Q, 10_000)

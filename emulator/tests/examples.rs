@@ -124,19 +124,19 @@ fn entry_3c00_with_3_pages_faults_both_ways() {
 }
 
 #[test]
-fn px_255_passes() {
-    assert_eq!(last("px 255, load").special(ECA), 0);
-    assert_eq!(last("px 255, store").memory[2 * 1_024 + 1], 255 * 4_096);
-    assert_eq!(last("px 255, fetch").register(1), 7);
+fn px_1023_passes() {
+    assert_eq!(last("px 1,023, load").special(ECA), 0);
+    assert_eq!(last("px 1,023, store").memory[2 * 1_024 + 1], 1_023 * 4_096);
+    assert_eq!(last("px 1,023, fetch").register(1), 7);
 }
 
 #[test]
-fn px_256_never_passes() {
-    let load = last("px 256, load");
-    assert_eq!((load.special(ECA), load.special(EDATA)), (16, 256 * 4_096));
-    assert_eq!(last("px 256, store").special(ECA), 16);
-    let fetch = last("px 256, fetch");
-    assert_eq!((fetch.special(ECA), fetch.special(EDATA)), (8, 256 * 4_096));
+fn px_1024_never_passes() {
+    let load = last("px 1,024, load");
+    assert_eq!((load.special(ECA), load.special(EDATA)), (16, 1_024 * 4_096));
+    assert_eq!(last("px 1,024, store").special(ECA), 16);
+    let fetch = last("px 1,024, fetch");
+    assert_eq!((fetch.special(ECA), fetch.special(EDATA)), (8, 1_024 * 4_096 + 4));
 }
 
 #[test]

@@ -111,7 +111,7 @@ fn pokes_outside_the_lent_memory_are_ignored() {
         Command::Fill { index: 2_000, count: u32::MAX, value: 1 },
         Command::Fill { index: u32::MAX, count: u32::MAX, value: 1 },
         Command::Fill { index: 5, count: 0, value: 1 },
-        Command::Field { index: 4_749, value: 1 },
+        Command::Field { index: 10_893, value: 1 },
     ];
     assert_eq!(script(&outside), script(&[]));
     let inside = [Command::Fill { index: 1_999, count: u32::MAX, value: 1 }];
@@ -132,15 +132,30 @@ fn queues_stand_before_the_memory() {
         all.strip_suffix("memory 0 0\n").unwrap().to_string()
     };
     assert_eq!(lines(&[]), "");
-    assert_eq!(lines(&[(4_517, 7), (4_519, 9), (4_742, 3)]), "queue 1 3 7 0 9\n");
-    assert_eq!(lines(&[(4_742, 2)]), "queue 1 2\n");
-    assert_eq!(lines(&[(4_485, 5), (4_748, 33)]), "queue 0 0 5\nqueue 7 33\n");
+    assert_eq!(lines(&[(10_661, 7), (10_663, 9), (10_886, 3)]), "queue 1 3 7 0 9\n");
+    assert_eq!(lines(&[(10_886, 2)]), "queue 1 2\n");
+    assert_eq!(lines(&[(10_629, 5), (10_892, 33)]), "queue 0 0 5\nqueue 7 33\n");
     let last = format!("queue 7 0{} 4294967295\n", " 0".repeat(31));
-    assert_eq!(lines(&[(4_740, u32::MAX)]), last);
+    assert_eq!(lines(&[(10_884, u32::MAX)]), last);
     // A queue is not a number of its partition: the four lines come by themselves, before it.
-    let partition = lines(&[(134, 1), (4_741, 1)]);
+    let partition = lines(&[(134, 1), (10_885, 1)]);
     assert!(partition.starts_with("partition 0 0 "), "{partition}");
     assert!(partition.ends_with("frames\nshadow\nqueue 0 1\n"), "{partition}");
+}
+
+#[test]
+fn shadows_have_1024_entries() {
+    let look = Command::Run { steps: 0 };
+    let shadow = |index| {
+        let text = text(&write(&[Command::Field { index, value: 9 }, look.clone()]));
+        let lines: Vec<String> = text.lines().map(String::from).collect();
+        (lines[2].clone(), lines[5].clone())
+    };
+    let empty = |partition| format!("partition {partition}{}", " 0".repeat(14));
+    assert_eq!(shadow(2_437), (empty(0), "shadow 0:9".into()));
+    assert_eq!(shadow(2_437 + 1_023), (empty(0), "shadow 1023:9".into()));
+    assert_eq!(shadow(2_437 + 1_024), (empty(1), "shadow 0:9".into()));
+    assert_eq!(shadow(10_628), (empty(7), "shadow 1023:9".into()));
 }
 
 #[test]

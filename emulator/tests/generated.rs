@@ -38,9 +38,9 @@ fn the_default_run_reaches_every_rule() {
     for number in SCRIPT_NUMBERS {
         assert!(counts.answers[number] >= ANSWERS_EACH, "number {number}: {:?}", counts.answers);
     }
-    assert!(counts.fills >= 3_000);
+    assert!(counts.fills.all >= 3_000 && counts.fills.above >= 1_000, "{:?}", counts.fills);
     let emptied = [counts.emptied_by_store, counts.emptied_by_special, counts.emptied_by_call];
-    assert!(emptied.iter().all(|&count| count >= 300), "{emptied:?}");
+    assert!(emptied.iter().all(|count| count.all >= 300 && count.above >= 100), "{emptied:?}");
 }
 
 /// PC is not DPC + 4: in programs behind a jump or branch, and where rfe comes back to that; in
@@ -227,6 +227,33 @@ fn every_instruction_is_met_in_both_modes() {
     });
     // 13 operations in two forms, lhgi, lw, sw, 2 branches, 4 jumps, trap, send, take, rfe, 2 moves.
     assert_eq!(met.len(), 2 * (26 + 3 + 2 + 4 + 4 + 2), "{met:?}");
+}
+
+#[test]
+fn tables_have_every_length_and_stand_in_the_last_page() {
+    let mut met = BTreeMap::new();
+    before_each_run(|player| {
+        if player.house.damaged() || !current(player).user() {
+            return;
+        }
+        let (table, pages) = (current(player).table(), current(player).space.pages);
+        let length = match table.ptl {
+            0..=255 => "short",
+            256..=1_022 => "longer",
+            1_023 => "1,023",
+            1_024 => "1,024",
+            1_025 => "1,025",
+            u32::MAX => "2^32 - 1",
+            _ => "other",
+        };
+        let page = if table.pto == pages - 1 { "the last page" } else { "another page" };
+        *met.entry((length, page)).or_insert(0) += 1;
+    });
+    for length in ["short", "longer", "1,023", "1,024", "1,025", "2^32 - 1"] {
+        for page in ["the last page", "another page"] {
+            assert!(met.get(&(length, page)).is_some_and(|&times| times >= 10), "{met:?}");
+        }
+    }
 }
 
 #[test]

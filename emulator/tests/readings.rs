@@ -180,8 +180,9 @@ fn stores_into_the_table_empty_one_entry() {
     assert_eq!(last("a store of an equal value empties").shadow(2), 0);
     assert_eq!(last("a store in system mode empties").shadow(2), 0);
     assert_eq!(last("a store beyond PTL empties nothing").shadow(2), page(2));
-    let beyond = last("a store beyond entry 255 empties nothing");
-    assert_eq!((beyond.shadow(0), beyond.shadow(255)), (page(0), page(2)));
+    let beyond = last("a store beyond entry 1,023 empties nothing");
+    assert_eq!((beyond.shadow(0), beyond.shadow(1_023)), (page(0), page(2)));
+    assert_eq!(beyond.special(ECA), 0);
     let faulted = last("a store that faults empties nothing");
     assert_eq!((faulted.special(ECA), faulted.shadow(2)), (16, page(2)));
 }
@@ -314,7 +315,7 @@ fn read_outs() {
 fn every_damage_is_found_and_nothing_else() {
     let given = answers("damage");
     let (sound, damaged) = (given.len() - 2, &given[2..given.len() - 2]);
-    assert_eq!(damaged.len(), 39);
+    assert_eq!(damaged.len(), 46);
     assert!(damaged.iter().all(|&answer| answer == (8, 0)), "{damaged:?}");
     assert_eq!(given[sound..], [(0, 0), (0, 0)]);
 }

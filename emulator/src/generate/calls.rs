@@ -5,7 +5,7 @@ use crate::assemble::{nop, Code};
 use crate::dlx::special::{EMODE, MODE};
 use crate::fields::{self, COUNT, CURRENT, LEFT, Q, RUNNING, WAITING, WORDS};
 use crate::house::{House, HOUSE_FRAME};
-use crate::memory::{PROTECTED, VALID};
+use crate::memory::{ENTRIES, PROTECTED, VALID};
 use crate::rng::Rng;
 use crate::script::{Command, MOST_OUTPUT};
 
@@ -365,7 +365,13 @@ fn wrong_shadow(rng: &mut Rng, partition: u32, house: &House) -> Change {
         5 => bit,
         _ => 0xF_FFFF << 12 | VALID,
     };
-    (fields::shadow(partition, rng.below(256)), value)
+    (fields::shadow(partition, any_entry(rng)), value)
+}
+
+/// A shadow entry, often one at an edge.
+fn any_entry(rng: &mut Rng) -> u32 {
+    let any = rng.below(ENTRIES as u32);
+    rng.pick(&[any, any, any, 0, 255, 256, 1_023])
 }
 
 /// A number of waiting tickets or a ticket; some are no damage.
@@ -392,7 +398,7 @@ fn unused_partition(rng: &mut Rng, house: &House) -> Change {
         3 => fields::frame(partition, rng.below(256)),
         4 | 5 => fields::ticket(partition, rng.below(32)),
         6 | 7 => WAITING + partition,
-        _ => fields::shadow(partition, rng.below(256)),
+        _ => fields::shadow(partition, any_entry(rng)),
     };
     (index, rng.pick(&[1, 4, VALID, u32::MAX]))
 }

@@ -8,7 +8,7 @@ use crate::assemble::{
     addi, andi, function, i_type, jr, lw, movi2s, movs2i, nop, opcode, r_type, rfe, sw, trap, Code,
 };
 use crate::dlx::special::{ECA, EDATA, EDPC, EMODE, EPC, ESR, MODE, PTL, PTO, SR};
-use crate::memory::{PROTECTED, VALID};
+use crate::memory::{ENTRIES, PROTECTED, VALID};
 use crate::rng::Rng;
 use crate::tickets::{SEND, TAKE};
 
@@ -18,7 +18,8 @@ const DATA_WORD: u32 = 768;
 const LAST_DATA_WORD: u32 = 980;
 /// Where the handler counts interrupts, in page 0.
 const COUNTER: u32 = 4 * 760;
-/// First word of the code for user mode: behind the table, if both share a page.
+/// First word of the code for user mode. If the table is in the same page, no page of user addresses
+/// that the program has lies between it and the data: code and entries leave each other alone.
 const USER_WORD: u32 = 260;
 /// ill and mal in ECA: a handler that only returns would meet the same instruction again.
 const ABORTED: u32 = 2 | 4;
@@ -57,7 +58,7 @@ fn random_words(rng: &mut Rng, pages: u32) -> Program {
     let count = rng.between(20, 300).min(1_024 * pages);
     let mut words = vec![(0, words::compute(rng))];
     words.extend((1..count).map(|at| (at, words::instruction(rng))));
-    Program { words, pages: vec![0, 1, 255] }
+    Program { words, pages: vec![0, 1, 255, 256, 1_023] }
 }
 
 fn placed(start: u32, words: &[u32]) -> Vec<(u32, u32)> {
@@ -92,16 +93,17 @@ impl Plan {
     fn new(rng: &mut Rng, pages: u32, seat: Seat) -> Plan {
         let user = pages > 1 && rng.chance(94);
         let page = |rng: &mut Rng| if pages > 1 { rng.between(1, pages - 1) } else { 0 };
-        let data = data_pages(rng);
-        let others = other_pages(rng, &data);
+        let (table, code) = (page(rng), page(rng));
+        let data = data_pages(rng, table == code);
+        let others = other_pages(rng, &data, table == code);
         let mut plan = Plan {
             pages,
             seat,
             user,
             soup: rng.chance(20),
-            table: page(rng),
+            table,
             ptl: 0,
-            code: page(rng),
+            code,
             code_px: others[0],
             window: others[1],
             data,
@@ -110,7 +112,7 @@ impl Plan {
         };
         plan.entries = plan.choose_entries(rng);
         plan.ptl = plan.choose_ptl(rng);
-        plan.odd.extend([256, 257, 0xF_FFFF]);
+        plan.odd.extend([1_024, 1_025, 0xF_FFFF]);
         plan
     }
 
@@ -139,15 +141,14 @@ impl Plan {
         let last = self.entries.iter().map(|&(px, _)| px).max().unwrap_or(0);
         match rng.below(8) {
             0 => self.code_px + 1,
-            1 => rng.pick(&[257, 1_000, u32::MAX]),
-            2 => 256,
+            1 | 2 => rng.pick(&[257, 1_023, 1_024, 1_025, u32::MAX]),
             3 => self.code_px.max(self.window) + 1,
             _ => last + 1,
         }
     }
 
     fn touched(&self) -> Vec<u32> {
-        let below = self.odd.iter().filter(|&&px| px < 256);
+        let below = self.odd.iter().filter(|&&px| px < ENTRIES as u32);
         self.data.iter().chain(below).chain([&self.code_px, &self.window]).copied().collect()
     }
 
@@ -164,6 +165,17 @@ impl Plan {
     fn entry_address(&self, px: u32) -> u32 {
         4_096 * self.table + 4 * px
     }
+
+    /// A word of the table, and now and then one right behind it; not of the code in its page.
+    fn table_word(&self, rng: &mut Rng) -> u32 {
+        match rng.below(8) {
+            0 => rng.pick(&[255, 256, 257, 1_022, 1_023]),
+            1 => ENTRIES as u32 + rng.below(14),
+            2..=4 => rng.pick(&self.entries).0,
+            5 if self.table != self.code => rng.below(ENTRIES as u32),
+            _ => rng.below(USER_WORD),
+        }
+    }
 }
 
 /// A table entry for a guest page.
@@ -171,23 +183,26 @@ fn entry(page: u32, protected: bool) -> u32 {
     page << 12 | VALID | if protected { PROTECTED } else { 0 }
 }
 
-/// Pages of user addresses for data: some in a row, mostly low.
-fn data_pages(rng: &mut Rng) -> Vec<u32> {
+/// Pages of user addresses for data: some in a row, low, around 255 and 256, at the end or anywhere.
+fn data_pages(rng: &mut Rng, shared: bool) -> Vec<u32> {
     let count = rng.between(3, 5);
-    let first = match rng.below(5) {
-        0 => 256 - count,
+    let first = match rng.below(8) {
+        0 | 1 => ENTRIES as u32 - count,
+        2 => rng.between(253, 255),
+        3 if !shared => rng.below(ENTRIES as u32 - count),
         _ => rng.below(9),
     };
     (first..first + count).collect()
 }
 
-/// Five other pages: mostly low, some at the end.
-fn other_pages(rng: &mut Rng, data: &[u32]) -> Vec<u32> {
+/// Five other pages: mostly low, some around 255 and 256, at the end or anywhere.
+fn other_pages(rng: &mut Rng, data: &[u32], shared: bool) -> Vec<u32> {
     let mut chosen = Vec::new();
     while chosen.len() < 5 {
         let px = match rng.below(10) {
-            0 => rng.between(250, 255),
-            1 => rng.below(256),
+            0 | 1 => rng.between(1_016, 1_023),
+            2 => rng.between(252, 259),
+            3 if !shared => rng.below(ENTRIES as u32),
             _ => rng.below(14),
         };
         if !chosen.contains(&px) && !data.contains(&px) {
@@ -498,8 +513,8 @@ impl Writer<'_> {
         match self.rng.below(100) {
             0..=78 => 4_096 * self.rng.pick(&self.plan.data) + offset,
             79..=83 => 4_096 * self.rng.pick(&self.plan.odd) + offset,
-            84..=87 => 4_096 * self.plan.window + 4 * self.rng.below(260),
-            88..=90 => 4_096 * self.rng.pick(&[255, 256]) + offset,
+            84..=87 => 4_096 * self.plan.window + 4 * self.plan.table_word(self.rng),
+            88..=90 => 4_096 * self.rng.pick(&[255, 256, 1_023, 1_024]) + offset,
             91..=94 => 4_096 * self.plan.code_px + offset,
             95..=97 => 4_096 * self.rng.pick(&self.plan.data) + offset + self.rng.between(1, 3),
             _ => self.rng.word() & !3,
@@ -511,7 +526,7 @@ impl Writer<'_> {
         let end = 4_096 * self.plan.pages;
         match self.rng.below(100) {
             0..=84 => 4_096 * self.rng.below(self.plan.pages) + offset,
-            85..=90 if self.plan.user => self.plan.entry_address(self.rng.below(260)),
+            85..=90 if self.plan.user => self.plan.entry_address(self.plan.table_word(self.rng)),
             91..=94 => self.rng.pick(&[end - 4, end, end + 4]),
             95..=97 => offset + self.rng.between(1, 3),
             98 => self.rng.word() & !3,
@@ -696,7 +711,11 @@ impl Writer<'_> {
         match self.rng.below(3) {
             0 => code.special(PTO, 12, pto),
             1 => code.special(PTL, 12, ptl),
-            _ => code.special(PTL, 12, self.rng.pick(&[256, 257, self.plan.code_px + 1])),
+            _ => {
+                let own = self.plan.code_px + 1;
+                let ptl = self.rng.pick(&[own, own, 257, 1_023, 1_024, 1_025, u32::MAX]);
+                code.special(PTL, 12, ptl);
+            }
         }
     }
 
@@ -708,7 +727,7 @@ impl Writer<'_> {
         }
         let value = match number {
             PTO => self.rng.pick(&[self.plan.table, self.plan.table, 0, u32::MAX]),
-            PTL => self.rng.pick(&[self.plan.ptl, self.plan.ptl, self.plan.code_px, 0, 300]),
+            PTL => self.rng.pick(&[self.plan.ptl, self.plan.ptl, self.plan.code_px, 0, 1_024]),
             MODE => self.rng.word() & !1,
             _ => words::value(self.rng),
         };
@@ -753,7 +772,15 @@ mod tests {
             let pages = 1 + round % 8;
             for (place, _) in program(&mut rng, &[pages, 1], 0).words {
                 assert!(place < 1_024 * pages, "inside the pages");
-                assert!(place % 1_024 < COUNTER / 4, "before the data");
+                assert!(!(COUNTER / 4..1_024).contains(&place), "before the data");
+            }
+            if pages > 1 {
+                let plan = Plan::new(&mut rng, pages, Seat { own: 0, partitions: 2 });
+                let end = USER_WORD + user_code(&mut rng, &plan).len() as u32;
+                assert!(end < DATA_WORD, "before the data");
+                let inside = |&(px, _): &(u32, u32)| (USER_WORD..DATA_WORD).contains(&px);
+                let apart = plan.table != plan.code || !plan.entries.iter().any(inside);
+                assert!(apart, "beside the table");
             }
         }
     }

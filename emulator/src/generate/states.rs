@@ -6,11 +6,13 @@ use crate::counts::Counts;
 use crate::dlx::special::{EDPC, EMODE, EPC, ESR, MODE, PTL, PTO, SR};
 use crate::dlx::{decode, Instruction};
 use crate::fields;
-use crate::memory::{shadow_entry, Access, PROTECTED, VALID};
+use crate::memory::{shadow_entry, Access, ENTRIES, PROTECTED, VALID};
 use crate::script::Command;
 
-/// Pages of user addresses that the tables have.
+/// Low pages of user addresses that the tables have.
 const MAPPED: u32 = 12;
+/// Far pages of user addresses that the tables have.
+const FAR: [u32; 6] = [255, 256, 257, 600, 1_022, 1_023];
 
 /// A script of this kind.
 pub fn compose(draft: &mut Draft) {
@@ -28,7 +30,7 @@ pub fn compose(draft: &mut Draft) {
 /// A table with entries of all sorts; one of them maps the table itself.
 fn write_table(draft: &mut Draft, partition: u32, pages: u32, table: u32) {
     draft.field(fields::special(partition, PTO), table);
-    for px in (0..MAPPED).chain([255]) {
+    for px in (0..MAPPED).chain(FAR) {
         let page = if px == 1 { table } else { draft.rng.below(pages) };
         let entry = match draft.rng.below(10) {
             0 => page << 12,
@@ -89,7 +91,8 @@ fn set_specials(draft: &mut Draft, partition: u32) {
         changes.push((SR, rng.pick(&[0, 64, u32::MAX])));
     }
     if rng.chance(40) {
-        changes.push((PTL, rng.pick(&[MAPPED, 256, 257, 3, 0, u32::MAX])));
+        let edges = [3, MAPPED, 256, 257, 1_023, 1_024, 1_025, u32::MAX, 0];
+        changes.push((PTL, rng.pick(&edges)));
     }
     if rng.chance(6) {
         changes.push((PTO, rng.pick(&[0, 1, 2, 5, 0x10_0000, u32::MAX])));
@@ -133,16 +136,16 @@ fn set_pair(draft: &mut Draft, partition: u32) {
 fn any_page(draft: &mut Draft) -> u32 {
     let rng = &mut draft.rng;
     match rng.below(20) {
-        0 => 255,
-        1 => rng.pick(&[256, 257, 0xF_FFFF]),
-        2 => rng.below(256),
+        0..=3 => rng.pick(&FAR),
+        4 => rng.pick(&[1_024, 1_025, 0xF_FFFF]),
+        5 => rng.below(ENTRIES as u32),
         _ => rng.below(MAPPED - 4),
     }
 }
 
 fn set_shadow(draft: &mut Draft, partition: u32) {
     let list = draft.player.house.guests[partition as usize].space.list().to_vec();
-    let px = any_page(draft).min(255);
+    let px = any_page(draft).min(1_023);
     let entry = match draft.rng.below(4) {
         0 => 0,
         _ => shadow_entry(draft.rng.pick(&list), draft.rng.word()),
@@ -194,7 +197,11 @@ fn data_address(draft: &mut Draft, partition: u32) -> u32 {
     let (dpc, pto, user) = (guest.dpc, guest.specials[PTO], guest.user());
     let page = any_page(draft);
     let rng = &mut draft.rng;
-    let px = if rng.chance(50) { dpc >> 12 & 255 } else { rng.below(MAPPED + 2) };
+    let px = match rng.below(4) {
+        0 | 1 => dpc >> 12 & 1_023,
+        2 => rng.pick(&FAR),
+        _ => rng.below(MAPPED + 2),
+    };
     match rng.below(10) {
         0..=2 if user => 4_096 + 4 * px,
         0..=2 => pto.wrapping_mul(4_096).wrapping_add(4 * px),
