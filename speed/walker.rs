@@ -93,7 +93,7 @@ impl Guest {
         if self.mode == 0 {
             return self.place(px, offset);
         }
-        if px >= self.ptl || px > 255 {
+        if px >= self.ptl || px > 1023 {
             return None;
         }
         let entry = self.words[self.place(self.pto, px)?];
