@@ -4,7 +4,7 @@ use mathlib.Core.Path.{_≡_, sym, ap, subst, _∙_}
 use mathlib.Core.Bool.{Bool, true, false}
 use mathlib.Core.List.{List}
 use Prim.Native.Nat.{ℕ, suc, _+_, _-_, _<_, _≤_}
-use native.Mathlib.Numerals.{add-one}
+use native.Mathlib.Nat.{sub-zero}
 use native.Mathlib.Omega.{arith}
 use lib.ListN.{length}
 use Rattle.dlx.specs.Machine.{Ops, Core, Outcome, outcome, fetched, accessed, handed, settled, retabled, step, requestOf, asked, Desk, accessedAt, stepAt, stretchFrom, Places}
@@ -43,22 +43,32 @@ module _ (fr : List ℕ) (n size count i : ℕ) where
 
 -- ---- a stretch, step by step
 
-module _ {S T : Type 0} (O : Ops S) (D : Desk T) (k made : ℕ) (c : Core) (s : S) (q : T) where
-  pub stretch-done : k ≤ made → record { made = made; called = false; core = c; memory = s; desk = q } ≡ stretchFrom O D (k - made) made (c, s) q
+-- rest of k steps are still to make
+module _ {S T : Type 0} (O : Ops S) (D : Desk T) (k rest : ℕ) (c : Core) (s : S) (q : T) where
+  pub stretch-done : rest ≤ 0 → record { made = k; called = false; core = c; memory = s; desk = q } ≡ stretchFrom O D rest (k - rest) (c, s) q
   unfolding stretchFrom
-  stretch-done h = let e : k - made ≡ 0 = omega arith in simp e
+  stretch-done h = let e : rest ≡ 0 = omega arith in simp (e, sub-zero)
 
-  module _ (c′ : Core) (s′ : S) (q′ : T) (b : Bool) (less : made < k) (stepped : ((outcome c′ b, s′), q′) ≡ stepAt O D (c, s) q) where
+  module _ (c′ : Core) (s′ : S) (q′ : T) (b : Bool) (some : 0 < rest) (most : rest ≤ k) (stepped : ((outcome c′ b, s′), q′) ≡ stepAt O D (c, s) q) where
     st₀ : (outcome c′ b, s′) ≡ step O (D q (asked O (c, s)) .0) (c, s)
     st₀ = ap (λ (g : (Outcome × S) × T). g .0) stepped
 
     st₁ : q′ ≡ D q (asked O (c, s)) .1
     st₁ = ap (λ (g : (Outcome × S) × T). g .1) stepped
 
-    pub stretch-called : b ≡ true → record { made = made + 1; called = true; core = c′; memory = s′; desk = q′ } ≡ stretchFrom O D (k - made) made (c, s) q
-    unfolding stretchFrom
-    stretch-called h = let e : k - made ≡ suc (k - (made + 1)) = omega arith in simp (e, ← st₀, ← st₁, h, add-one)
+    one-less : rest ≡ suc (rest - 1)
+    one-less = omega arith
 
-    pub stretch-on : b ≡ false → stretchFrom O D (k - (made + 1)) (made + 1) (c′, s′) q′ ≡ stretchFrom O D (k - made) made (c, s) q
+    one-more : suc (k - rest) ≡ k - (rest - 1)
+    one-more = omega arith
+
+    stretched : stretchFrom O D rest (k - rest) (c, s) q ≡ stretchFrom O D (suc (rest - 1)) (k - rest) (c, s) q
+    stretched = ap (λ (n : ℕ). stretchFrom O D n (k - rest) (c, s) q) one-less
+
+    pub stretch-called : b ≡ true → record { made = k - (rest - 1); called = true; core = c′; memory = s′; desk = q′ } ≡ stretchFrom O D rest (k - rest) (c, s) q
     unfolding stretchFrom
-    stretch-on h = let e : k - made ≡ suc (k - (made + 1)) = omega arith in rw e (simp (← st₀, ← st₁, h, add-one))
+    stretch-called h = sym (stretched ∙ simp (← st₀, ← st₁, h, one-more))
+
+    pub stretch-on : b ≡ false → stretchFrom O D (rest - 1) (k - (rest - 1)) (c′, s′) q′ ≡ stretchFrom O D rest (k - rest) (c, s) q
+    unfolding stretchFrom
+    stretch-on h = sym (stretched ∙ simp (← st₀, ← st₁, h, one-more))

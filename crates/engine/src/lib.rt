@@ -193,8 +193,8 @@ pub fn stretch(
 {
     let mut processor = p;
     let mut table = t;
-    let mut made: u32 = 0;
-    while made < k {
+    let mut rest = k;
+    while rest > 0 {
         let s = step(
             processor,
             table,
@@ -210,8 +210,9 @@ pub fn stretch(
         );
         processor = s.processor;
         table = s.table;
-        made += 1;
+        rest -= 1;
         if s.calls {
+            let made = k - rest;
             return Stretched {
                 processor,
                 table,
@@ -223,7 +224,7 @@ pub fn stretch(
     Stretched {
         processor,
         table,
-        made,
+        made: k,
         called: false,
     }
 }

@@ -146,14 +146,14 @@ fn empty_entry(frames: &[u32], shadow: &mut [u32], pages: u32, t: Table, frame: 
     requires { ⌜ Listed (now frames) pages ⌝ ∗ ⌜ length (now shadow) ≡ entries ⌝ ∗ ⌜ off < entries ⌝ }
     ensures { λ r. ⌜ now (shadow .exit) ≡ emptied (now (frames .entry)) pages t frame off (now (shadow .entry)) ⌝ }
 {
-    if off >= t.ptl {
-        return;
-    }
     let pto = t.pto;
     if pto >= pages {
         return;
     }
     if frames[wide(pto)] != frame {
+        return;
+    }
+    if off >= t.ptl {
         return;
     }
     shadow[wide(off)] = 0;

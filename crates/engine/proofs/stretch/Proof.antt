@@ -5,17 +5,17 @@ use Rattle.translate.specs.Memory.{host, hostMemory}
 use Rattle.tickets.specs.Queues.{queues, desk, Seated}
 use Rattle.dlx.specs.Machine.{core, stretchFrom}
 use lib.ListN.{length}
-use native.Mathlib.Nat.{sub-zero}
-use Prim.Native.Nat.{_-_, _≤_, zero-le}
+use native.Mathlib.Nat.{sub-self, le-refl}
+use Prim.Native.Nat.{_-_, _≤_}
 use mathlib.Core.Path.{_≡_, refl, sym, subst, _∙_}
 use native.Mathlib.Omega.{arith}
 use Rattle.engine.proofs.stretch.Statement.{statement}
 use Rattle.engine.proofs.stretch.Tie as tie
 
 abbrev Inv-loop : tie.InvT-loop
-Inv-loop pages regs₀ frames shadow₀ words₀ count i tickets₀ waiting₀ k processor₀ table₀ made₀ regs shadow words tickets waiting processor table made =
-    (stretchFrom (hostMemory frames pages) (desk count i) (k - made) made (core processor regs, host table words shadow) (queues tickets waiting) ≡ stretchFrom (hostMemory frames pages) (desk count i) k 0 (core processor₀ regs₀, host table₀ words₀ shadow₀) (queues tickets₀ waiting₀))
-    × (made ≤ k)
+Inv-loop pages regs₀ frames shadow₀ words₀ count i tickets₀ waiting₀ k processor₀ table₀ rest₀ regs shadow words tickets waiting processor table rest =
+    (stretchFrom (hostMemory frames pages) (desk count i) rest (k - rest) (core processor regs, host table words shadow) (queues tickets waiting) ≡ stretchFrom (hostMemory frames pages) (desk count i) k 0 (core processor₀ regs₀, host table₀ words₀ shadow₀) (queues tickets₀ waiting₀))
+    × (rest ≤ k)
     × (length regs ≡ length regs₀)
     × (length shadow ≡ length shadow₀)
     × Whole frames pages (length words₀) (host table words shadow)
@@ -23,16 +23,19 @@ Inv-loop pages regs₀ frames shadow₀ words₀ count i tickets₀ waiting₀ k
     × Seated count i (queues tickets₀ waiting₀)
 
 abbrev μ-loop : tie.MeasureT-loop
-μ-loop pages regs₀ frames shadow₀ words₀ count i tickets₀ waiting₀ k processor₀ table₀ made₀ regs shadow words tickets waiting processor table made = k - made
+μ-loop pages regs₀ frames shadow₀ words₀ count i tickets₀ waiting₀ k processor₀ table₀ rest₀ regs shadow words tickets waiting processor table rest = rest
 
 loop-holds : tie.Need-loop-holds Inv-loop μ-loop
-loop-holds c = let s = c .before .before .before .before .before .before in (rw sub-zero, zero-le, refl, refl, record { long = refl; shadowed = s .pre .1 .1 .0 }, s .pre .1 .1 .1, s .pre .1 .1 .1)
+loop-holds c = let s = c .before .before .before .before .before .before in (simp sub-self, le-refl _, refl, refl, record { long = refl; shadowed = s .pre .1 .1 .0 }, s .pre .1 .1 .1, s .pre .1 .1 .1)
 
 step-requires : tie.Need-step-requires Inv-loop μ-loop
 step-requires c κs = let s = c .before .before .before .before .before .before .before .before .before .before .before .before .before in let i = c .before .before .before .before .before .before .loop .inv in (i .2 ∙ s .pre .0, (subst (λ z. Placed (s .args .frames .now) (s .args .pages) z) (sym (i .4 .long)) (s .pre .1 .0), (i .4 .shadowed, i .5)))
 
-add-made : tie.Need-add-made Inv-loop μ-loop
-add-made c = omega (arith, c .before .before .before .before .before .before .before .before .before .before .before .before .before .before .before .before .before .before .loop-test .taken, c .before .before .before .before .before .before .before .before .before .before .before .before .before .before .before .before .before .before .before .before .before .before .before .before .before .before .good)
+sub-rest : tie.Need-sub-rest Inv-loop μ-loop
+sub-rest c = omega (arith, c .before .before .before .before .before .before .before .before .before .before .before .before .before .before .before .before .before .before .loop-test .taken)
+
+sub-made : tie.Need-sub-made Inv-loop μ-loop
+sub-made c = omega (arith, c .before .before .before .before .before .before .before .before .before .before .before .before .before .before .before .before .before .before .before .before .loop .inv .1)
 
 same-length : tie.Need-same-length Inv-loop μ-loop
 same-length c = omega (arith, c .before .before .before .before .before .before .before .before .before .before .before .before .before .before .before .before .before .before .before .before .loop .inv .2)
@@ -50,13 +53,13 @@ same-length-5 : tie.Need-same-length-5 Inv-loop μ-loop
 same-length-5 c = omega (arith, c .before .before .before .before .before .before .before .before .before .before .before .before .before .before .before .before .before .before .before .before .loop .inv .5 .queued .waiting, c .before .before .before .before .before .before .before .before .before .before .before .before .before .before .before .before .before .before .before .before .loop .inv .6 .queued .waiting)
 
 returns : tie.Need-returns Inv-loop μ-loop
-returns c = stretch-called _ _ _ _ _ _ _ _ _ _ _ (c .before .before .before .before .before .before .before .before .before .before .before .before .before .before .before .before .before .before .before .loop-test .taken) (c .before .before .before .before .before .before .before .before .before .before .before .before .before .step .ensures) (c .if1 .taken) ∙ c .before .before .before .before .before .before .before .before .before .before .before .before .before .before .before .before .before .before .before .before .loop .inv .0
+returns c = stretch-called _ _ _ _ _ _ _ _ _ _ _ (c .before .before .before .before .before .before .before .before .before .before .before .before .before .before .before .before .before .before .before .loop-test .taken) (c .before .before .before .before .before .before .before .before .before .before .before .before .before .before .before .before .before .before .before .before .loop .inv .1) (c .before .before .before .before .before .before .before .before .before .before .before .before .before .step .ensures) (c .if1 .taken) ∙ c .before .before .before .before .before .before .before .before .before .before .before .before .before .before .before .before .before .before .before .before .loop .inv .0
 
 loop-less : tie.Need-loop-less Inv-loop μ-loop
 loop-less c = omega (arith, c .before .before .before .before .before .before .before .before .before .before .before .before .before .before .before .before .before .before .before .loop-test .taken)
 
 loop-again : tie.Need-loop-again Inv-loop μ-loop
-loop-again c = let i = c .before .before .before .before .before .before .before .before .before .before .before .before .before .before .before .before .before .before .before .before .loop .inv in let a = after-step _ _ _ _ _ _ _ _ _ _ _ (i .4) (i .5) (c .before .before .before .before .before .before .before .before .before .before .before .before .before .step .ensures) in (stretch-on _ _ _ _ _ _ _ _ _ _ _ (c .before .before .before .before .before .before .before .before .before .before .before .before .before .before .before .before .before .before .before .loop-test .taken) (c .before .before .before .before .before .before .before .before .before .before .before .before .before .step .ensures) (c .if1 .left) ∙ i .0, omega (arith, c .before .before .before .before .before .before .before .before .before .before .before .before .before .before .before .before .before .before .before .loop-test .taken), omega (arith, i .2), omega (arith, i .3), a .0, a .1, i .6)
+loop-again c = let i = c .before .before .before .before .before .before .before .before .before .before .before .before .before .before .before .before .before .before .before .before .loop .inv in let a = after-step _ _ _ _ _ _ _ _ _ _ _ (i .4) (i .5) (c .before .before .before .before .before .before .before .before .before .before .before .before .before .step .ensures) in (stretch-on _ _ _ _ _ _ _ _ _ _ _ (c .before .before .before .before .before .before .before .before .before .before .before .before .before .before .before .before .before .before .before .loop-test .taken) (i .1) (c .before .before .before .before .before .before .before .before .before .before .before .before .before .step .ensures) (c .if1 .left) ∙ i .0, omega (arith, i .1), omega (arith, i .2), omega (arith, i .3), a .0, a .1, i .6)
 
 same-length-6 : tie.Need-same-length-6 Inv-loop μ-loop
 same-length-6 c = omega (arith, c .before .loop .inv .2)
@@ -84,7 +87,8 @@ stretch-spec =
     μ-loop
     loop-holds
     step-requires
-    add-made
+    sub-rest
+    sub-made
     same-length
     same-length-2
     same-length-3
