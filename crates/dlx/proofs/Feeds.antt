@@ -21,8 +21,8 @@ Silent takes = ⊥
 unhanded : (a b : Reply) (e : Effect) (c : Core) → Silent (requestOf e) → handed e a c ≡ handed e b c
 unfolding handed requestOf
 unhanded a b (Done x) c h = refl
-unhanded a b (Load d x) c h = refl
-unhanded a b (Store x v) c h = refl
+unhanded a b (Load d x o) c h = refl
+unhanded a b (Store v o x) c h = refl
 unhanded a b (Send v to) c h = refl
 unhanded a b Take c h = absurd h
 
@@ -30,8 +30,8 @@ module _ {S : Type 0} (O : Ops S) where
   silent : (a b : Reply) (p : Processor) (e : Effect) (s : S) → Silent (requestOf e) → accessed O a p e s ≡ accessed O b p e s
   unfolding accessed requestOf
   silent a b p (Done c) s h = refl
-  silent a b p (Load d x) s h = refl
-  silent a b p (Store x v) s h = refl
+  silent a b p (Load d x o) s h = refl
+  silent a b p (Store v o x) s h = refl
   silent a b p (Send v to) s h = absurd h
   silent a b p Take s h = absurd h
 

@@ -12,10 +12,11 @@ use lib.Dec.{eqb, ltb, leb}
 use lib.ListN.{length, getD, set, length-set}
 use mir.Val.{boolByte}
 use Rattle.dlx.specs.Choice.{if_then_else_}
-use Rattle.dlx.specs.Words.{aligned, holds, readingOf, opcode, sa, function, extendedBy, extended}
+use Rattle.dlx.specs.Words.{holds, readingOf, opcode, sa, function, extendedBy, extended}
+use Rattle.dlx.specs.Fields.{place, field, aligned, width, signed, brought, placed}
 use Rattle.dlx.specs.Processor.{user, specialOf, withSpecial, wentTo}
 use Rattle.dlx.specs.Interrupts.{unmasked, levelOf, interrupted, returned, savesOld, bringsDatum}
-use Rattle.dlx.specs.Instructions.{instructionOf, registerType, Formed}
+use Rattle.dlx.specs.Instructions.{instructionOf, registerType, partType, Formed}
 use Rattle.dlx.specs.Execute.{reg, written, valueOf, overflowsOf, operated, reached, loads, stores, inSystem, movedTo, trapOf, effectOf}
 use Rattle.dlx.specs.Machine.{Ops, Core, executed, fetched, loaded, stored, accessed, received, handed, settled, retabled, step, Request, nothing, sends, takes, requestOf, asked}
 use Rattle.dlx.specs.declared.partition.Table.{Table}
@@ -23,7 +24,7 @@ use Rattle.dlx.specs.declared.partition.Processor.{Processor}
 use Rattle.dlx.specs.declared.instruction.Operation.{Operation}
 use Rattle.dlx.specs.declared.instruction.Operation.the-variants.{Add, Sub, And, Or, Xor, Test}
 use Rattle.dlx.specs.declared.instruction.Instruction.{Instruction}
-use Rattle.dlx.specs.declared.instruction.Instruction.the-variants.{Lw, Sw, Immediate, Lhgi, Beqz, Bnez, Jr, Jalr, J, Jal, Trap, Rfe, Register, Movs2i, Movi2s, Ill}
+use Rattle.dlx.specs.declared.instruction.Instruction.the-variants.{LoadBy, StoreBy, Immediate, Lhgi, Beqz, Bnez, Jr, Jalr, J, Jal, Trap, Rfe, Register, Movs2i, Movi2s, Ill}
 use Rattle.dlx.specs.declared.execute.Access.{Access}
 use Rattle.dlx.specs.declared.execute.Access.the-variants.{Fault, Word}
 use Rattle.dlx.specs.declared.execute.Change.{Change}
@@ -31,6 +32,7 @@ use Rattle.dlx.specs.declared.execute.Change.the-variants.{Plain, Specia
 use Rattle.dlx.specs.declared.execute.Effect.{Effect}
 use Rattle.dlx.specs.declared.execute.Effect.the-variants.{Done, Load, Store, Send, Take}
 use Rattle.dlx.specs.declared.execute.Reply.{Reply}
+use Rattle.dlx.proofs.Fields.{field-lt, either-width, placed-word}
 
 -- a word
 abbrev W : ℕ → Type 0
@@ -53,7 +55,7 @@ getD-set-elim P (x ∷ xs) (suc i) (suc j) a d f g = getD-set-elim P xs i j a d 
 
 -- ---- a word is read as an instruction that is formed
 
-extended-lt : (h x : ℕ) → 0 < h → h ≤ 2 ^ 30 → extendedBy h x < 2 ^ 32
+extended-lt : (h x : ℕ) → 0 < h → h ≤ 2 ^ 31 → extendedBy h x < 2 ^ 32
 unfolding extendedBy
 extended-lt h x p q =
     let m = mod-lt x {m = h * 2} (omega arith) in
@@ -81,11 +83,22 @@ register-formed w =
     either Formed (eqb (function w) 17) (λ _. special-formed w _ λ h. (h, omega arith)) λ _.
     tt
 
+part-formed : (w : ℕ) → Formed (partType w)
+unfolding partType
+part-formed w =
+    either Formed (eqb (opcode w) 32) (λ _. (refl, omega arith, omega arith, near w)) λ _.
+    either Formed (eqb (opcode w) 33) (λ _. (refl, omega arith, omega arith, near w)) λ _.
+    either Formed (eqb (opcode w) 36) (λ _. (refl, omega arith, omega arith, near w)) λ _.
+    either Formed (eqb (opcode w) 37) (λ _. (refl, omega arith, omega arith, near w)) λ _.
+    either Formed (eqb (opcode w) 40) (λ _. (refl, omega arith, omega arith, near w)) λ _.
+    either Formed (eqb (opcode w) 41) (λ _. (refl, omega arith, omega arith, near w)) λ _.
+    tt
+
 pub instruction-formed : (w : ℕ) → Formed (instructionOf w)
 unfolding instructionOf
 instruction-formed w =
-    either Formed (eqb (opcode w) 35) (λ _. (omega arith, omega arith, near w)) λ _.
-    either Formed (eqb (opcode w) 43) (λ _. (omega arith, omega arith, near w)) λ _.
+    either Formed (eqb (opcode w) 35) (λ _. (refl, omega arith, omega arith, near w)) λ _.
+    either Formed (eqb (opcode w) 43) (λ _. (refl, omega arith, omega arith, near w)) λ _.
     either Formed (eqb (opcode w) 8) (λ _. (omega arith, omega arith, near w)) λ _.
     either Formed (eqb (opcode w) 10) (λ _. (omega arith, omega arith, near w)) λ _.
     either Formed (eqb (opcode w) 12) (λ _. (omega arith, omega arith, near w)) λ _.
@@ -102,7 +115,7 @@ instruction-formed w =
     either Formed (eqb (opcode w) 62) (λ _. far w) λ _.
     either Formed (eqb (opcode w) 63) (λ _. tt) λ _.
     either Formed (eqb (opcode w) 0) (λ _. register-formed w) λ _.
-    tt
+    part-formed w
 
 -- ---- what a core and a change are made of
 
@@ -140,8 +153,8 @@ KeptChange Return = Unit
 
 abbrev pub KeptEffect : Effect → Type 0
 KeptEffect (Done c) = KeptChange c
-KeptEffect (Load d a) = (d < 32) × (a < 2 ^ 32)
-KeptEffect (Store a v) = (a < 2 ^ 32) × (v < 2 ^ 32)
+KeptEffect (Load d a o) = (d < 32) × (a < 2 ^ 32)
+KeptEffect (Store v o a) = (a < 2 ^ 32) × (aligned (width o) a ≡ true)
 KeptEffect (Send v to) = (v < 2 ^ 32) × (to < 2 ^ 32)
 KeptEffect Take = Unit
 
@@ -157,8 +170,8 @@ KeptRequest takes = Unit
 request-kept : (e : Effect) → KeptEffect e → KeptRequest (requestOf e)
 unfolding requestOf
 request-kept (Done c) h = tt
-request-kept (Load d a) h = tt
-request-kept (Store a v) h = tt
+request-kept (Load d a o) h = tt
+request-kept (Store v o a) h = tt
 request-kept (Send v to) h = h
 request-kept Take h = tt
 
@@ -275,17 +288,27 @@ operated-kept op d x y sr next l h k n =
     (λ _. (omega arith, omega arith))
     (λ _. (l, value-lt op x y h k, n))
 
-reached-kept : (a : ℕ) (e : Effect) → KeptEffect e → KeptEffect (reached a e)
+reached-kept : (o a : ℕ) (e : Effect) → (aligned (width o) a ≡ true → KeptEffect e) → KeptEffect (reached o a e)
 unfolding reached
-reached-kept a e h = either KeptEffect (aligned a) (λ _. h) (λ _. (omega arith, omega arith))
+reached-kept o a e h = either KeptEffect (aligned (width o) a) h (λ _. (omega arith, omega arith))
 
-loads-kept : (d x i : ℕ) → d < 32 → KeptEffect (loads d x i)
+loads-kept : (o d x i : ℕ) → d < 32 → KeptEffect (loads o d x i)
 unfolding loads
-loads-kept d x i l = reached-kept _ _ (l, omega arith)
+loads-kept o d x i l = reached-kept o _ _ λ _. (l, omega arith)
 
-stores-kept : (v x i : ℕ) → v < 2 ^ 32 → KeptEffect (stores v x i)
+stores-kept : (o v x i : ℕ) → KeptEffect (stores o v x i)
 unfolding stores
-stores-kept v x i l = reached-kept _ _ (omega arith, l)
+stores-kept o v x i = reached-kept o _ _ λ e. (omega arith, e)
+
+brought-word : (o a x : ℕ) → brought o a x < 2 ^ 32
+unfolding brought
+brought-word o a x =
+    let k = place a in
+    either W (signed o)
+    (λ _. either-width (λ w. extended w (field (width o) k x) < 2 ^ 32) o
+    (extended-lt (2 ^ 7) _ (omega arith) (omega arith)) (extended-lt (2 ^ 15) _ (omega arith) (omega arith)) (extended-lt (2 ^ 31) _ (omega arith) (omega arith)))
+    (λ _. either-width (λ w. field w k x < 2 ^ 32) o
+    (omega (arith, field-lt 8 k x)) (omega (arith, field-lt 16 k x)) (omega (arith, field-lt 32 k x)))
 
 moved-kept : (t : Table) (n v : ℕ) → KeptTable t → v < 2 ^ 32 → KeptChange (movedTo t n v)
 unfolding movedTo
@@ -308,8 +331,8 @@ module _ (p : Processor) (t : Table) (r : List ℕ) (h : Numbers p) (k : KeptTab
 
   pub effect-kept : (i : Instruction) → Formed i → KeptEffect (effectOf p t r i)
   unfolding effectOf
-  effect-kept (Lw d s i) f = loads-kept d _ i (f .0)
-  effect-kept (Sw d s i) f = stores-kept _ _ i (g .words d)
+  effect-kept (LoadBy o d s i) f = loads-kept o d _ i (f .1)
+  effect-kept (StoreBy o d s i) f = stores-kept o _ _ i
   effect-kept (Immediate op d s i) f = operated-kept op d _ _ _ _ (f .0) (g .words s) (f .2) (omega arith)
   effect-kept (Lhgi d i) f = (f .0, omega arith, omega arith)
   effect-kept (Beqz s i) f = (omega arith, omega arith, either W (eqb (reg r s) 0) (λ _. omega arith) (λ _. omega arith))
@@ -354,7 +377,7 @@ settled-kept c Return h k = record {
 pub record Keeps {S : Type 0} (I : S → Type 0) (O : Ops S) : Type 0 where
   pub tables : (s : S) → I s → KeptTable (O .table s)
   pub reads : (s : S) → I s → (u : Bool) (a : ℕ) → KeptAccess (O .read s u a .0) × I (O .read s u a .1)
-  pub writes : (s : S) → I s → (u : Bool) (a : ℕ) (f : ℕ → ℕ) → ((w : ℕ) → f w < 2 ^ 32) → I (O .write s u a f .1)
+  pub writes : (s : S) → I s → (u : Bool) (a : ℕ) (f : ℕ → ℕ) → ((w : ℕ) → w < 2 ^ 32 → f w < 2 ^ 32) → I (O .write s u a f .1)
   pub retables : (s : S) → I s → (t : Table) → KeptTable t → I (O .retable s t)
 
 module _ {S : Type 0} (I : S → Type 0) (O : Ops S) (K : Keeps I O) where
@@ -368,14 +391,14 @@ module _ {S : Type 0} (I : S → Type 0) (O : Ops S) (K : Keeps I O) where
   unfolding fetched
   fetched-kept c s h i =
       let g = K .reads s i (user (c .processor)) (c .processor .dpc) in
-      either (λ (x : Effect × S). KeptEffect (x .0) × I (x .1)) (aligned (c .processor .dpc))
+      either (λ (x : Effect × S). KeptEffect (x .0) × I (x .1)) (aligned 32 (c .processor .dpc))
       (λ _. (executed-kept c (O .table s) _ h (K .tables s i), g .1))
       (λ _. ((omega arith, omega arith), i))
 
-  loaded-kept : (p : Processor) (d a : ℕ) (x : Access) → d < 32 → a < 2 ^ 32 → KeptAccess x → KeptChange (loaded p d a x)
+  loaded-kept : (p : Processor) (d a o : ℕ) (x : Access) → d < 32 → a < 2 ^ 32 → KeptChange (loaded p d a o x)
   unfolding loaded
-  loaded-kept p d a Fault l h k = (omega arith, h)
-  loaded-kept p d a (Word w) l h k = (l, k, omega arith)
+  loaded-kept p d a o Fault l h = (omega arith, h)
+  loaded-kept p d a o (Word w) l h = (l, brought-word o a w, omega arith)
 
   stored-kept : (p : Processor) (a : ℕ) (made : Bool) → a < 2 ^ 32 → KeptChange (stored p a made)
   unfolding stored
@@ -385,8 +408,8 @@ module _ {S : Type 0} (I : S → Type 0) (O : Ops S) (K : Keeps I O) where
   handed-kept : (y : Reply) → KeptReply y → (e : Effect) (c : Core) → Kept c → Kept (handed e y c)
   unfolding handed received
   handed-kept y k (Done x) c h = h
-  handed-kept y k (Load d a) c h = h
-  handed-kept y k (Store a v) c h = h
+  handed-kept y k (Load d a o) c h = h
+  handed-kept y k (Store v o a) c h = h
   handed-kept y k (Send v to) c h = h
   handed-kept y k Take c h = record {
     processor = h .processor;
@@ -398,8 +421,8 @@ module _ {S : Type 0} (I : S → Type 0) (O : Ops S) (K : Keeps I O) where
   accessed-kept y k p (Done c) s h i = (h, i)
   accessed-kept y k p (Send v to) s h i = ((omega arith, k .code, omega arith), i)
   accessed-kept y k p Take s h i = ((omega arith, k .code, omega arith), i)
-  accessed-kept y k p (Load d a) s h i = let g = K .reads s i (user p) a in (loaded-kept p d a _ (h .0) (h .1) (g .0), g .1)
-  accessed-kept y k p (Store a v) s h i = (stored-kept p a _ (h .0), K .writes s i (user p) a (λ _. v) (λ _. h .1))
+  accessed-kept y k p (Load d a o) s h i = (loaded-kept p d a o _ (h .0) (h .1), K .reads s i (user p) a .1)
+  accessed-kept y k p (Store v o a) s h i = (stored-kept p a _ (h .0), K .writes s i (user p) a (placed o a v) (λ x. placed-word o a v x (h .1)))
 
   retabled-kept : (c : Change) (s : S) → KeptChange c → I s → I (retabled O c s)
   unfolding retabled

@@ -1,5 +1,6 @@
 pub mod Checked
 pub mod Feeds
+pub mod Fields
 pub mod Kept
 pub mod Like
 pub mod Parts

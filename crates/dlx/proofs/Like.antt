@@ -3,7 +3,7 @@ use mathlib.Core.Path.{_≡_, refl, ap, subst}
 use mathlib.Core.Bool.{Bool, true, false}
 use Prim.Native.Nat.{ℕ, zero, suc}
 use Rattle.dlx.specs.Choice.{if_then_else_}
-use Rattle.dlx.specs.Words.{aligned}
+use Rattle.dlx.specs.Fields.{aligned, placed}
 use Rattle.dlx.specs.Processor.{user}
 use Rattle.dlx.specs.Machine.{Ops, Core, fetched, accessed, handed, settled, retabled, step, steps, requestOf, asked}
 use Rattle.dlx.specs.declared.partition.Table.{Table}
@@ -36,7 +36,7 @@ module _ {S S′ : Type 0} (R : S → S′ → Type 0) (O : Ops S) (O′ : Ops S
   unfolding fetched
   fetched-like c s s′ r =
       let g = L .reads s s′ r (user (c .processor)) (c .processor .dpc) in
-      either-like (aligned (c .processor .dpc))
+      either-like (aligned 32 (c .processor .dpc))
       (record { same = rw (g .same, L .tables s s′ r); rest = g .rest })
       (record { same = refl; rest = r })
 
@@ -52,11 +52,11 @@ module _ {S S′ : Type 0} (R : S → S′ → Type 0) (O : Ops S) (O′ : Ops S
   accessed-like y p (Done c) s s′ r = record { same = refl; rest = r }
   accessed-like y p (Send v to) s s′ r = record { same = refl; rest = r }
   accessed-like y p Take s s′ r = record { same = refl; rest = r }
-  accessed-like y p (Load d a) s s′ r =
+  accessed-like y p (Load d a o) s s′ r =
       let g = L .reads s s′ r (user p) a in
       record { same = rw (g .same); rest = g .rest }
-  accessed-like y p (Store a v) s s′ r =
-      let g = L .writes s s′ r (user p) a (λ _. v) in
+  accessed-like y p (Store v o a) s s′ r =
+      let g = L .writes s s′ r (user p) a (placed o a v) in
       record { same = rw (g .same); rest = g .rest }
 
   retabled-like : (c : Change) (s : S) (s′ : S′) → R s s′ → R (retabled O c s) (retabled O′ c s′)

@@ -1,23 +1,23 @@
--- The register that a step's change names exists, and a step keeps the number of registers.
+-- What a step asks for and changes names registers that exist, and a step keeps the number of registers.
 use mathlib.Core.Path.{_≡_, refl, _∙_}
-use mathlib.Core.Bool.{_&&_}
+use mathlib.Core.Bool.{true, _&&_}
 use mathlib.Core.List.{List}
 use Prim.Native.Nat.{ℕ, _<_}
 use Prim.{Unit, tt}
 use native.Mathlib.Omega.{arith}
 use lib.Dec.{eqb}
 use lib.ListN.{length, set, length-set}
-use Rattle.dlx.specs.Words.{aligned}
+use Rattle.dlx.specs.Fields.{aligned, width, placed}
 use Rattle.dlx.specs.Instructions.{instructionOf, Formed}
 use Rattle.dlx.specs.Processor.{user}
 use Rattle.dlx.specs.Interrupts.{unmasked}
 use Rattle.dlx.specs.Execute.{written, overflowsOf, operated, reached, loads, stores, inSystem, movedTo, trapOf, effectOf}
-use Rattle.dlx.specs.Machine.{Ops, Core, executed, fetched, loaded, stored, accessed, received, handed, settled, step, Places}
+use Rattle.dlx.specs.Machine.{Ops, Core, executed, fetched, loaded, stored, accessed, received, handed, settled, step, Places, Asks}
 use Rattle.dlx.specs.declared.partition.Table.{Table}
 use Rattle.dlx.specs.declared.partition.Processor.{Processor}
 use Rattle.dlx.specs.declared.instruction.Operation.{Operation}
 use Rattle.dlx.specs.declared.instruction.Instruction.{Instruction}
-use Rattle.dlx.specs.declared.instruction.Instruction.the-variants.{Lw, Sw, Immediate, Lhgi, Beqz, Bnez, Jr, Jalr, J, Jal, Trap, Rfe, Register, Movs2i, Movi2s, Ill}
+use Rattle.dlx.specs.declared.instruction.Instruction.the-variants.{LoadBy, StoreBy, Immediate, Lhgi, Beqz, Bnez, Jr, Jalr, J, Jal, Trap, Rfe, Register, Movs2i, Movi2s, Ill}
 use Rattle.dlx.specs.declared.execute.Access.{Access}
 use Rattle.dlx.specs.declared.execute.Access.the-variants.{Fault, Word}
 use Rattle.dlx.specs.declared.execute.Change.{Change}
@@ -27,37 +27,30 @@ use Rattle.dlx.specs.declared.execute.Effect.the-variants.{Done, Load, S
 use Rattle.dlx.specs.declared.execute.Reply.{Reply}
 use Rattle.dlx.proofs.Kept.{either, instruction-formed}
 
-abbrev pub PlacesEffect : Effect → Type 0
-PlacesEffect (Done c) = Places c
-PlacesEffect (Load d a) = d < 32
-PlacesEffect (Store a v) = Unit
-PlacesEffect (Send v to) = Unit
-PlacesEffect Take = Unit
-
-operated-places : (op : Operation) (d x y sr next : ℕ) → d < 32 → PlacesEffect (operated op d x y sr next)
+operated-places : (op : Operation) (d x y sr next : ℕ) → d < 32 → Asks (operated op d x y sr next)
 unfolding operated
-operated-places op d x y sr next l = either PlacesEffect (unmasked sr && overflowsOf op x y) (λ _. tt) (λ _. l)
+operated-places op d x y sr next l = either Asks (unmasked sr && overflowsOf op x y) (λ _. tt) (λ _. l)
 
-reached-places : (a : ℕ) (e : Effect) → PlacesEffect e → PlacesEffect (reached a e)
+reached-places : (o a : ℕ) (e : Effect) → (aligned (width o) a ≡ true → Asks e) → Asks (reached o a e)
 unfolding reached
-reached-places a e h = either PlacesEffect (aligned a) (λ _. h) (λ _. tt)
+reached-places o a e h = either Asks (aligned (width o) a) h (λ _. tt)
 
 moved-places : (t : Table) (n v : ℕ) → Places (movedTo t n v)
 unfolding movedTo
 moved-places t n v = either Places (eqb n 7) (λ _. tt) λ _. either Places (eqb n 8) (λ _. tt) λ _. tt
 
-system-places : (p : Processor) (e : Effect) → PlacesEffect e → PlacesEffect (inSystem p e)
-system-places p e h = either PlacesEffect (user p) (λ _. tt) (λ _. h)
+system-places : (p : Processor) (e : Effect) → Asks e → Asks (inSystem p e)
+system-places p e h = either Asks (user p) (λ _. tt) (λ _. h)
 
-trap-places : (p : Processor) (v to i : ℕ) → PlacesEffect (trapOf p v to i)
+trap-places : (p : Processor) (v to i : ℕ) → Asks (trapOf p v to i)
 unfolding trapOf
 trap-places p v to i =
-    either PlacesEffect (user p) (λ _. tt) λ _. either PlacesEffect (eqb i 256) (λ _. tt) λ _. either PlacesEffect (eqb i 257) (λ _. tt) λ _. tt
+    either Asks (user p) (λ _. tt) λ _. either Asks (eqb i 256) (λ _. tt) λ _. either Asks (eqb i 257) (λ _. tt) λ _. tt
 
-effect-places : (p : Processor) (t : Table) (r : List ℕ) (i : Instruction) → Formed i → PlacesEffect (effectOf p t r i)
+effect-places : (p : Processor) (t : Table) (r : List ℕ) (i : Instruction) → Formed i → Asks (effectOf p t r i)
 unfolding effectOf loads stores
-effect-places p t r (Lw d s i) f = reached-places _ _ (f .0)
-effect-places p t r (Sw d s i) f = reached-places _ _ tt
+effect-places p t r (LoadBy o d s i) f = reached-places o _ _ λ e. (f .1, f .0, e)
+effect-places p t r (StoreBy o d s i) f = reached-places o _ _ λ e. (f .0, e)
 effect-places p t r (Immediate op d s i) f = operated-places op d _ _ _ _ (f .0)
 effect-places p t r (Lhgi d i) f = f .0
 effect-places p t r (Beqz s i) f = omega arith
@@ -73,28 +66,28 @@ effect-places p t r (Movs2i d n) f = system-places p _ (f .0)
 effect-places p t r (Movi2s n s) f = system-places p _ (moved-places t n _)
 effect-places p t r Ill f = tt
 
-executed-places : (c : Core) (t : Table) (x : Access) → PlacesEffect (executed c t x)
+executed-places : (c : Core) (t : Table) (x : Access) → Asks (executed c t x)
 unfolding executed
 executed-places c t Fault = tt
 executed-places c t (Word w) = effect-places _ t _ (instructionOf w) (instruction-formed w)
 
 module _ {S : Type 0} (O : Ops S) where
-  pub fetched-places : (c : Core) (s : S) → PlacesEffect (fetched O (c, s) .0)
+  pub fetched-places : (c : Core) (s : S) → Asks (fetched O (c, s) .0)
   unfolding fetched
   fetched-places c s =
-      either (λ (g : Effect × S). PlacesEffect (g .0)) (aligned (c .processor .dpc)) (λ _. executed-places c _ _) (λ _. tt)
+      either (λ (g : Effect × S). Asks (g .0)) (aligned 32 (c .processor .dpc)) (λ _. executed-places c _ _) (λ _. tt)
 
-  pub accessed-places : (y : Reply) (p : Processor) (e : Effect) (s : S) → PlacesEffect e → Places (accessed O y p e s .0)
+  pub accessed-places : (y : Reply) (p : Processor) (e : Effect) (s : S) → Asks e → Places (accessed O y p e s .0)
   unfolding accessed loaded stored
   accessed-places y p (Done c) s h = h
   accessed-places y p (Send v to) s h = omega arith
   accessed-places y p Take s h = omega arith
-  accessed-places y p (Load d a) s h = go (O .read s (user p) a .0)
+  accessed-places y p (Load d a o) s h = go (O .read s (user p) a .0)
     where
-      go : (x : Access) → Places (loaded p d a x)
+      go : (x : Access) → Places (loaded p d a o x)
       go Fault = tt
-      go (Word w) = h
-  accessed-places y p (Store a v) s h = either Places (O .write s (user p) a (λ _. v) .0) (λ _. omega arith) (λ _. tt)
+      go (Word w) = h .0
+  accessed-places y p (Store v o a) s h = either Places (O .write s (user p) a (placed o a v) .0) (λ _. omega arith) (λ _. tt)
 
 -- ---- how many registers there are
 
@@ -113,8 +106,8 @@ settled-count c Return = refl
 pub handed-count : (e : Effect) (y : Reply) (c : Core) → length (handed e y c .registers) ≡ length (c .registers)
 unfolding handed received
 handed-count (Done x) y c = refl
-handed-count (Load d a) y c = refl
-handed-count (Store a v) y c = refl
+handed-count (Load d a o) y c = refl
+handed-count (Store v o a) y c = refl
 handed-count (Send v to) y c = refl
 handed-count Take y c =
     either (λ (l : List ℕ). length l ≡ length (c .registers)) (eqb (y .code) 0) {x = written (c .registers) 1 (y .ticket)} {y = c .registers}

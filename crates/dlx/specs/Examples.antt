@@ -437,7 +437,7 @@ unfoldable pub ill-opcodes : List Bool
 ill-opcodes =
     -- [ill opcodes] every opcode that the table doesn't have
     each (λ op. refuses 0 (i-word op 0x1230))
-    (1 ∷ 6 ∷ 7 ∷ 9 ∷ 11 ∷ 16 ∷ 17 ∷ 18 ∷ 19 ∷ 20 ∷ 21 ∷ 32 ∷ 33 ∷ 34 ∷ 36 ∷ 37 ∷ 38 ∷ 39 ∷ 40 ∷ 41 ∷ 42 ∷ [])
+    (1 ∷ 6 ∷ 7 ∷ 9 ∷ 11 ∷ 16 ∷ 17 ∷ 18 ∷ 19 ∷ 20 ∷ 21 ∷ 34 ∷ 38 ∷ 39 ∷ 42 ∷ [])
     ∷ each (λ op. refuses 1 (i-word op 0x1230))
     (44 ∷ 45 ∷ 46 ∷ 47 ∷ 48 ∷ 49 ∷ 50 ∷ 51 ∷ 52 ∷ 53 ∷ 54 ∷ 55 ∷ 56 ∷ 57 ∷ 58 ∷ 59 ∷ 60 ∷ 61 ∷ [])
     ∷ []
@@ -612,6 +612,139 @@ overflowing =
     ∷ wraps (i-word 8 0xFFF8) 0x80000003 219 0x7FFFFFFB
     ∷ wraps (i-word 10 8) 0x80000003 219 0x7FFFFFFB
     ∷ wraps (i-word 10 0xFFFB) 0x7FFFFFFF 219 0x80000004
+    ∷ []
+
+-- ---- bytes and half words
+
+-- at 16 stand the bytes FE, 01, 80, 7F, at 20 7A, C5, 13, 80: at each place a positive one and a negative one
+abbrev packed : ℕ → List ℕ
+packed w = set (set (around w) 4 0x7F8001FE) 5 0x8013C57A
+
+-- one step of the word w at address 8, with those words
+unfoldable pub packing : Processor → List ℕ → ℕ → Outcome × Watched
+packing p rs w = step watched (reply 0 77) (core p rs, record { table = tables; words = packed w; seen = [] })
+
+-- RS1 is x, and RD a word whose bytes differ
+abbrev holding : ℕ → List ℕ
+holding x = set (given x 219) 27 0x89ABCDEF
+
+-- a load by an opcode, where RS1 is x, reaches the address a: RD becomes v
+unfoldable pub brings : ℕ → ℕ → ℕ → ℕ → ℕ → ℕ → Bool
+brings mode op x i a v =
+    leaves (packing (at 8 20 64 mode) (given x 219) (i-word op i)) (numbers (at 20 24 64 mode)) 97 98 0 ((a + mode) ∷ (8 + mode) ∷ [])
+    (set (given x 219) 27 v) (packed (i-word op i))
+
+-- a store likewise: word j becomes v
+unfoldable pub lays : ℕ → ℕ → ℕ → ℕ → ℕ → ℕ → ℕ → Bool
+lays mode op x i a j v =
+    leaves (packing (at 8 20 64 mode) (holding x) (i-word op i)) (numbers (at 20 24 64 mode)) 97 98 0 ((a + 2 + mode) ∷ (8 + mode) ∷ []) (holding x)
+    (set (packed (i-word op i)) j v)
+
+unfoldable pub bytes : List Bool
+bytes =
+    -- [lb] RD = the byte at RS1 + imm, its sign extended, at each place of a word, positive and negative; the offset may be negative, and the sum wraps
+    brings 0 32 16 0 16 0xFFFFFFFE
+    ∷ brings 1 32 16 1 17 0x00000001
+    ∷ brings 0 32 16 2 18 0xFFFFFF80
+    ∷ brings 1 32 16 3 19 0x0000007F
+    ∷ brings 0 32 16 4 20 0x0000007A
+    ∷ brings 1 32 16 5 21 0xFFFFFFC5
+    ∷ brings 0 32 16 6 22 0x00000013
+    ∷ brings 1 32 16 7 23 0xFFFFFF80
+    ∷ brings 0 32 64 0xFFD1 17 0x00000001
+    ∷ brings 1 32 0xFFFFFFFD 21 18 0xFFFFFF80
+    -- [lbu] likewise, with zeros
+    ∷ brings 0 36 16 0 16 0x000000FE
+    ∷ brings 1 36 16 1 17 0x00000001
+    ∷ brings 0 36 16 2 18 0x00000080
+    ∷ brings 1 36 16 3 19 0x0000007F
+    ∷ brings 0 36 16 4 20 0x0000007A
+    ∷ brings 1 36 16 5 21 0x000000C5
+    ∷ brings 0 36 16 6 22 0x00000013
+    ∷ brings 1 36 16 7 23 0x00000080
+    ∷ []
+
+unfoldable pub halves : List Bool
+halves =
+    -- [lh] RD = the half word at RS1 + imm, its sign extended from bit 15, at both places, positive with bit 7 set and negative with it clear
+    brings 0 33 16 0 16 0x000001FE
+    ∷ brings 1 33 16 2 18 0x00007F80
+    ∷ brings 0 33 16 4 20 0xFFFFC57A
+    ∷ brings 1 33 16 6 22 0xFFFF8013
+    ∷ brings 0 33 64 0xFFD2 18 0x00007F80
+    ∷ brings 1 33 0xFFFFFFFE 22 20 0xFFFFC57A
+    -- [lhu] likewise, with zeros
+    ∷ brings 0 37 16 0 16 0x000001FE
+    ∷ brings 1 37 16 2 18 0x00007F80
+    ∷ brings 0 37 16 4 20 0x0000C57A
+    ∷ brings 1 37 16 6 22 0x00008013
+    ∷ []
+
+unfoldable pub fields : List Bool
+fields =
+    -- [sb] the lowest 8 bits of RD to the byte at RS1 + imm, at each place; its neighbours stay
+    lays 0 40 16 0 16 4 0x7F8001EF
+    ∷ lays 1 40 16 1 17 4 0x7F80EFFE
+    ∷ lays 0 40 16 2 18 4 0x7FEF01FE
+    ∷ lays 1 40 16 3 19 4 0xEF8001FE
+    ∷ lays 0 40 16 4 20 5 0x8013C5EF
+    ∷ lays 1 40 16 5 21 5 0x8013EF7A
+    ∷ lays 0 40 16 6 22 5 0x80EFC57A
+    ∷ lays 1 40 16 7 23 5 0xEF13C57A
+    ∷ lays 0 40 64 0xFFD1 17 4 0x7F80EFFE
+    -- [sh] the lowest 16 bits of RD to the half word, likewise at both places
+    ∷ lays 0 41 16 0 16 4 0x7F80CDEF
+    ∷ lays 1 41 16 2 18 4 0xCDEF01FE
+    ∷ lays 0 41 16 4 20 5 0x8013CDEF
+    ∷ lays 1 41 16 6 22 5 0xCDEFC57A
+    ∷ lays 1 41 0xFFFFFFFE 20 18 4 0xCDEF01FE
+    -- [sw over a word] nothing of the old word stays, and lw brings the whole of it
+    ∷ lays 0 43 16 0 16 4 0x89ABCDEF
+    ∷ lays 1 43 16 4 20 5 0x89ABCDEF
+    ∷ brings 0 35 16 0 16 0x7F8001FE
+    ∷ brings 1 35 16 4 20 0x8013C57A
+    -- [field of register 0] a byte and a half word stored of it are 0; a load into it is made and vanishes
+    ∷ leaves (packing (at 8 20 64 0) known (40 * 2 ^ 26 + 17)) (numbers (at 20 24 64 0)) 97 98 0 (19 ∷ 8 ∷ []) known
+    (set (packed (40 * 2 ^ 26 + 17)) 4 0x7F8000FE)
+    ∷ leaves (packing (at 8 20 64 0) known (41 * 2 ^ 26 + 18)) (numbers (at 20 24 64 0)) 97 98 0 (20 ∷ 8 ∷ []) known
+    (set (packed (41 * 2 ^ 26 + 18)) 4 0x000001FE)
+    ∷ leaves (packing (at 8 20 64 0) known (32 * 2 ^ 26 + 17)) (numbers (at 20 24 64 0)) 97 98 0 (17 ∷ 8 ∷ []) known (packed (32 * 2 ^ 26 + 17))
+    ∷ leaves (packing (at 8 20 64 0) known (33 * 2 ^ 26 + 18)) (numbers (at 20 24 64 0)) 97 98 0 (18 ∷ 8 ∷ []) known (packed (33 * 2 ^ 26 + 18))
+    ∷ leaves (packing (at 8 20 64 0) known (36 * 2 ^ 26 + 19)) (numbers (at 20 24 64 0)) 97 98 0 (19 ∷ 8 ∷ []) known (packed (36 * 2 ^ 26 + 19))
+    ∷ leaves (packing (at 8 20 64 0) known (37 * 2 ^ 26 + 20)) (numbers (at 20 24 64 0)) 97 98 0 (20 ∷ 8 ∷ []) known (packed (37 * 2 ^ 26 + 20))
+    ∷ []
+
+unfoldable pub field-causes : List Bool
+field-causes =
+    -- [half word misaligned] at places 1 and 3 mal, with no access, EDATA kept; a byte never is
+    enters (at 8 20 masked 0) (given 16 219) (i-word 33 1) 4 8 20 95 0 (8 ∷ [])
+    ∷ enters (at 8 20 0 1) (given 16 219) (i-word 33 3) 4 8 20 95 0 (9 ∷ [])
+    ∷ enters (at 8 0xFFFFFFFC 64 0) (given 16 219) (i-word 37 1) 4 8 0xFFFFFFFC 95 0 (8 ∷ [])
+    ∷ enters (at 8 20 masked 0) (given 16 219) (i-word 37 3) 4 8 20 95 0 (8 ∷ [])
+    ∷ enters (at 8 20 0 1) (given 16 219) (i-word 41 1) 4 8 20 95 0 (9 ∷ [])
+    ∷ enters (at 8 0xFFFFFFFC 64 0) (given 16 219) (i-word 41 3) 4 8 0xFFFFFFFC 95 0 (8 ∷ [])
+    -- [pfls of a field] the old pair, EDATA = the byte address, odd ones too
+    ∷ enters (at 8 20 masked 0) (given 36 219) (i-word 32 13) 16 8 20 49 0 (49 ∷ 8 ∷ [])
+    ∷ enters (at 8 20 0 1) (given 36 219) (i-word 32 15) 16 8 20 51 0 (52 ∷ 9 ∷ [])
+    ∷ enters (at 8 0xFFFFFFFC 64 0) (given 36 219) (i-word 36 14) 16 8 0xFFFFFFFC 50 0 (50 ∷ 8 ∷ [])
+    ∷ enters (at 8 20 masked 0) (given 36 219) (i-word 36 17) 16 8 20 53 0 (53 ∷ 8 ∷ [])
+    ∷ enters (at 8 20 0 1) (given 36 219) (i-word 33 14) 16 8 20 50 0 (51 ∷ 9 ∷ [])
+    ∷ enters (at 8 0xFFFFFFFC 64 0) (given 36 219) (i-word 33 12) 16 8 0xFFFFFFFC 48 0 (48 ∷ 8 ∷ [])
+    ∷ enters (at 8 20 masked 0) (given 36 219) (i-word 37 18) 16 8 20 54 0 (54 ∷ 8 ∷ [])
+    ∷ enters (at 8 20 0 1) (given 36 219) (i-word 37 16) 16 8 20 52 0 (53 ∷ 9 ∷ [])
+    ∷ enters (at 8 0xFFFFFFFC 64 0) (given 36 219) (i-word 40 13) 16 8 0xFFFFFFFC 49 0 (51 ∷ 8 ∷ [])
+    ∷ enters (at 8 20 masked 0) (given 36 219) (i-word 40 15) 16 8 20 51 0 (53 ∷ 8 ∷ [])
+    ∷ enters (at 8 20 0 1) (given 36 219) (i-word 41 14) 16 8 20 50 0 (53 ∷ 9 ∷ [])
+    ∷ enters (at 8 0xFFFFFFFC 64 0) (given 36 219) (i-word 41 12) 16 8 0xFFFFFFFC 48 0 (50 ∷ 8 ∷ [])
+    -- [load of a field to register 0 that faults] likewise
+    ∷ enters (at 8 20 64 0) known (32 * 2 ^ 26 + 65) 16 8 20 65 0 (65 ∷ 8 ∷ [])
+    ∷ enters (at 8 20 64 1) known (33 * 2 ^ 26 + 66) 16 8 20 66 0 (67 ∷ 9 ∷ [])
+    ∷ enters (at 8 20 64 0) known (36 * 2 ^ 26 + 67) 16 8 20 67 0 (67 ∷ 8 ∷ [])
+    ∷ enters (at 8 20 64 1) known (37 * 2 ^ 26 + 70) 16 8 20 70 0 (71 ∷ 9 ∷ [])
+    -- [order of causes of a field] mal before pfls: a half word at an odd address outside
+    ∷ enters (at 8 20 64 0) (given 36 219) (i-word 33 13) 4 8 20 95 0 (8 ∷ [])
+    ∷ enters (at 8 20 64 1) (given 36 219) (i-word 37 13) 4 8 20 95 0 (9 ∷ [])
+    ∷ enters (at 8 20 64 0) (given 36 219) (i-word 41 13) 4 8 20 95 0 (8 ∷ [])
     ∷ []
 
 -- ---- tickets: trap 256 sends, trap 257 takes

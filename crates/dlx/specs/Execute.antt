@@ -6,7 +6,8 @@ use lib.Bits.{bitAnd, bitOr, bitXor}
 use lib.Dec.{eqb}
 use lib.ListN.{getD, set}
 use Rattle.dlx.specs.Choice.{if_then_else_}
-use Rattle.dlx.specs.Words.{plus, minus, aligned, testOf, sumOverflows, differenceOverflows}
+use Rattle.dlx.specs.Words.{plus, minus, testOf, sumOverflows, differenceOverflows}
+use Rattle.dlx.specs.Fields.{aligned, width}
 use Rattle.dlx.specs.Processor.{user, specialOf, behind}
 use Rattle.dlx.specs.Interrupts.{ill, mal, trap, ovf, unmasked}
 use Rattle.dlx.specs.declared.partition.Table.{Table}
@@ -14,7 +15,7 @@ use Rattle.dlx.specs.declared.partition.Processor.{Processor}
 use Rattle.dlx.specs.declared.instruction.Operation.{Operation}
 use Rattle.dlx.specs.declared.instruction.Operation.the-variants.{Add, Sub, And, Or, Xor, Test}
 use Rattle.dlx.specs.declared.instruction.Instruction.{Instruction}
-use Rattle.dlx.specs.declared.instruction.Instruction.the-variants.{Lw, Sw, Immediate, Lhgi, Beqz, Bnez, Jr, Jalr, J, Jal, Trap, Rfe, Register, Movs2i, Movi2s, Ill}
+use Rattle.dlx.specs.declared.instruction.Instruction.the-variants.{LoadBy, StoreBy, Immediate, Lhgi, Beqz, Bnez, Jr, Jalr, J, Jal, Trap, Rfe, Register, Movs2i, Movi2s, Ill}
 use Rattle.dlx.specs.declared.execute.Change.{Change}
 use Rattle.dlx.specs.declared.execute.Change.the-variants.{Plain, Special, Retable, Cause, Return}
 use Rattle.dlx.specs.declared.execute.Effect.{Effect}
@@ -54,16 +55,16 @@ operated op d x y sr next =
 
 -- ---- the table's lines
 
--- a data address misaligned is mal
-unfoldable pub reached : ℕ → Effect → Effect
-reached address e = if aligned address then e else Done (Cause mal 0)
+-- a data address misaligned for its width is mal
+unfoldable pub reached : ℕ → ℕ → Effect → Effect
+reached o address e = if aligned (width o) address then e else Done (Cause mal 0)
 
 -- a load or a store at the sum of a register and an immediate
-unfoldable pub loads : ℕ → ℕ → ℕ → Effect
-loads d x i = let a = plus x i in reached a (Load d a)
+unfoldable pub loads : ℕ → ℕ → ℕ → ℕ → Effect
+loads o d x i = let a = plus x i in reached o a (Load d a o)
 
-unfoldable pub stores : ℕ → ℕ → ℕ → Effect
-stores v x i = let a = plus x i in reached a (Store a v)
+unfoldable pub stores : ℕ → ℕ → ℕ → ℕ → Effect
+stores o v x i = let a = plus x i in reached o a (Store v o a)
 
 abbrev pub jumped : ℕ → Effect
 jumped target = Done (Plain 0 0 target)
@@ -92,8 +93,8 @@ trapOf p v to i =
     Done (Cause trap i)
 
 unfoldable pub effectOf : Processor → Table → List ℕ → Instruction → Effect
-effectOf p t r (Lw d s i) = loads d (reg r s) i
-effectOf p t r (Sw d s i) = stores (reg r d) (reg r s) i
+effectOf p t r (LoadBy o d s i) = loads o d (reg r s) i
+effectOf p t r (StoreBy o d s i) = stores o (reg r d) (reg r s) i
 effectOf p t r (Immediate op d s i) = operated op d (reg r s) i (p .sr) (behind p)
 effectOf p t r (Lhgi d i) = Done (Plain d (i % 2 ^ 16 * 2 ^ 16) (behind p))
 effectOf p t r (Beqz s i) = jumped (if eqb (reg r s) 0 then plus (p .pc) i else behind p)

@@ -1,14 +1,16 @@
 -- The instruction tables: every line of docs/RULES.md#instructions. Everything else is ill; unused fields are ignored.
-use mathlib.Core.Bool.{Bool, _&&_}
+use mathlib.Core.Path.{_≡_}
+use mathlib.Core.Bool.{Bool, true, _&&_}
 use Prim.Native.Nat.{ℕ, _-_, _^_, _<_, _≤_}
 use Prim.{Unit}
 use lib.Dec.{leb, eqb}
 use Rattle.dlx.specs.Choice.{if_then_else_}
 use Rattle.dlx.specs.Words.{opcode, rs1, rs2, rdImmediate, rdRegister, sa, function, extended}
+use Rattle.dlx.specs.Fields.{loading, storing}
 use Rattle.dlx.specs.declared.instruction.Operation.{Operation}
 use Rattle.dlx.specs.declared.instruction.Operation.the-variants.{Add, Sub, And, Or, Xor, Test}
 use Rattle.dlx.specs.declared.instruction.Instruction.{Instruction}
-use Rattle.dlx.specs.declared.instruction.Instruction.the-variants.{Lw, Sw, Immediate, Lhgi, Beqz, Bnez, Jr, Jalr, J, Jal, Trap, Rfe, Register, Movs2i, Movi2s, Ill}
+use Rattle.dlx.specs.declared.instruction.Instruction.the-variants.{LoadBy, StoreBy, Immediate, Lhgi, Beqz, Bnez, Jr, Jalr, J, Jal, Trap, Rfe, Register, Movs2i, Movi2s, Ill}
 
 abbrev between : ℕ → ℕ → ℕ → Bool
 between a n b = leb a n && leb n b
@@ -16,6 +18,12 @@ between a n b = leb a n && leb n b
 -- I-type: RD, RS1 and an immediate, extended from bit 15
 abbrev immediate : Operation → ℕ → Instruction
 immediate op w = Immediate op (rdImmediate w) (rs1 w) (extended 16 w)
+
+abbrev load : ℕ → ℕ → Instruction
+load o w = LoadBy o (rdImmediate w) (rs1 w) (extended 16 w)
+
+abbrev store : ℕ → ℕ → Instruction
+store o w = StoreBy o (rdImmediate w) (rs1 w) (extended 16 w)
 
 -- R-type: RD, RS1, RS2
 abbrev register : Operation → ℕ → Instruction
@@ -38,10 +46,21 @@ registerType w =
     if eqb (function w) 17 then special w (Movi2s (sa w) (rs1 w)) else
     Ill
 
+-- bytes and half words
+unfoldable pub partType : ℕ → Instruction
+partType w =
+    if eqb (opcode w) 32 then load 32 w else
+    if eqb (opcode w) 33 then load 33 w else
+    if eqb (opcode w) 36 then load 36 w else
+    if eqb (opcode w) 37 then load 37 w else
+    if eqb (opcode w) 40 then store 40 w else
+    if eqb (opcode w) 41 then store 41 w else
+    Ill
+
 unfoldable pub instructionOf : ℕ → Instruction
 instructionOf w =
-    if eqb (opcode w) 35 then Lw (rdImmediate w) (rs1 w) (extended 16 w) else
-    if eqb (opcode w) 43 then Sw (rdImmediate w) (rs1 w) (extended 16 w) else
+    if eqb (opcode w) 35 then load 35 w else
+    if eqb (opcode w) 43 then store 43 w else
     if eqb (opcode w) 8 then immediate Add w else
     if eqb (opcode w) 10 then immediate Sub w else
     if eqb (opcode w) 12 then immediate And w else
@@ -58,12 +77,12 @@ instructionOf w =
     if eqb (opcode w) 62 then Trap (extended 26 w) else
     if eqb (opcode w) 63 then Rfe else
     if eqb (opcode w) 0 then registerType w else
-    Ill
+    partType w
 
--- an instruction as a word can give it: the registers that it names exist, its special register too, and its immediate is a word
+-- an instruction as a word can give it: its opcode is a load's or a store's, the registers that it names exist, its special register too, and its immediate is a word
 abbrev pub Formed : Instruction → Type 0
-Formed (Lw d s i) = (d < 32) × (s < 32) × (i < 2 ^ 32)
-Formed (Sw d s i) = (d < 32) × (s < 32) × (i < 2 ^ 32)
+Formed (LoadBy o d s i) = (loading o ≡ true) × (d < 32) × (s < 32) × (i < 2 ^ 32)
+Formed (StoreBy o d s i) = (storing o ≡ true) × (d < 32) × (s < 32) × (i < 2 ^ 32)
 Formed (Immediate op d s i) = (d < 32) × (s < 32) × (i < 2 ^ 32)
 Formed (Lhgi d i) = (d < 32) × (i < 2 ^ 32)
 Formed (Beqz s i) = (s < 32) × (i < 2 ^ 32)

@@ -1,6 +1,7 @@
 pub mod Choice
 pub mod Parts
 pub mod Words
+pub mod Fields
 pub mod Instructions
 pub mod Processor
 pub mod Interrupts

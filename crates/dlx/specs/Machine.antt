@@ -1,11 +1,12 @@
 -- The memory that a guest sees, and one step over any such memory: fetch, execute, data access, then emptying.
+use mathlib.Core.Path.{_≡_}
 use mathlib.Core.Bool.{Bool, true, false, not, _&&_}
 use mathlib.Core.List.{List}
 use Prim.Native.Nat.{ℕ, zero, suc, _<_}
 use Prim.{Unit}
 use lib.Dec.{eqb}
 use Rattle.dlx.specs.Choice.{if_then_else_}
-use Rattle.dlx.specs.Words.{aligned}
+use Rattle.dlx.specs.Fields.{aligned, loading, storing, width, brought, placed}
 use Rattle.dlx.specs.Processor.{user, behind, withSpecial, wentTo}
 use Rattle.dlx.specs.Interrupts.{mal, pff, pfls, levelOf, interrupted, returned}
 use Rattle.dlx.specs.Instructions.{instructionOf}
@@ -58,11 +59,11 @@ unfoldable pub fetched : {S : Type 0} → Ops S → Core × S → Effect × S
 fetched O m =
     let p = m .0 .processor in
     let g = O .read (m .1) (user p) (p .dpc) in
-    if aligned (p .dpc) then (executed (m .0) (O .table (m .1)) (g .0), g .1) else (Done (Cause mal 0), m .1)
+    if aligned 32 (p .dpc) then (executed (m .0) (O .table (m .1)) (g .0), g .1) else (Done (Cause mal 0), m .1)
 
-unfoldable pub loaded : Processor → ℕ → ℕ → Access → Change
-loaded p d a Fault = Cause pfls a
-loaded p d a (Word w) = Plain d w (behind p)
+unfoldable pub loaded : Processor → ℕ → ℕ → ℕ → Access → Change
+loaded p d a o Fault = Cause pfls a
+loaded p d a o (Word w) = Plain d (brought o a w) (behind p)
 
 unfoldable pub stored : Processor → ℕ → Bool → Change
 stored p a made = if made then Plain 0 0 (behind p) else Cause pfls a
@@ -70,8 +71,8 @@ stored p a made = if made then Plain 0 0 (behind p) else Cause pfls a
 -- the data access; a, the answer, is used where a ticket is sent or taken, and nowhere else: register 3 becomes its code
 unfoldable pub accessed : {S : Type 0} → Ops S → Reply → Processor → Effect → S → Change × S
 accessed O a p (Done c) s = (c, s)
-accessed O a p (Load d x) s = let g = O .read s (user p) x in (loaded p d x (g .0), g .1)
-accessed O a p (Store x v) s = let g = O .write s (user p) x (λ _. v) in (stored p x (g .0), g .1)
+accessed O a p (Load d x o) s = let g = O .read s (user p) x in (loaded p d x o (g .0), g .1)
+accessed O a p (Store v o x) s = let g = O .write s (user p) x (placed o x v) in (stored p x (g .0), g .1)
 accessed O a p (Send v to) s = (Plain 3 (a .code) (behind p), s)
 accessed O a p Take s = (Plain 3 (a .code) (behind p), s)
 
@@ -82,8 +83,8 @@ received r a = if eqb (a .code) 0 then written r 1 (a .ticket) else r
 -- the core with what the data access brings it beside a change: a take's ticket
 unfoldable pub handed : Effect → Reply → Core → Core
 handed (Done x) a c = c
-handed (Load d x) a c = c
-handed (Store x v) a c = c
+handed (Load d x o) a c = c
+handed (Store v o x) a c = c
 handed (Send v to) a c = c
 handed Take a c = core (c .processor) (received (c .registers) a)
 
@@ -127,8 +128,8 @@ pub data Request : Type 0 where
 
 unfoldable pub requestOf : Effect → Request
 requestOf (Done c) = nothing
-requestOf (Load d a) = nothing
-requestOf (Store a v) = nothing
+requestOf (Load d a o) = nothing
+requestOf (Store v o a) = nothing
 requestOf (Send v to) = sends v to
 requestOf Take = takes
 
@@ -175,3 +176,11 @@ Places (Special n v) = Unit
 Places (Retable t) = Unit
 Places (Cause causes datum) = Unit
 Places Return = Unit
+
+-- so does the one that an effect names; a load and a store are asked for by an opcode of theirs, at an address that it may reach
+abbrev pub Asks : Effect → Type 0
+Asks (Done c) = Places c
+Asks (Load d a o) = (d < 32) × (loading o ≡ true) × (aligned (width o) a ≡ true)
+Asks (Store v o a) = (storing o ≡ true) × (aligned (width o) a ≡ true)
+Asks (Send v to) = Unit
+Asks Take = Unit

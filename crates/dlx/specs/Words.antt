@@ -15,10 +15,6 @@ plus x y = (x + y) % 2 ^ 32
 abbrev pub minus : ℕ → ℕ → ℕ
 minus x y = (x + 2 ^ 32 - y) % 2 ^ 32
 
--- an address that may be reached
-abbrev pub aligned : ℕ → Bool
-aligned a = eqb (a % 4) 0
-
 -- ---- fields: RS1 bits 25..21, RS2 20..16, SA 10..6; RD 20..16 in I-type, 15..11 in R-type
 
 abbrev pub opcode : ℕ → ℕ

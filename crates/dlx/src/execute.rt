@@ -16,11 +16,12 @@ pub enum Change {
     Return,
 }
 
-// What an instruction asks for: a change, or first a load of a register from an address, a store of a value there, a ticket sent to a partition, or one taken.
+// What an instruction asks for: a change, or first a load of a register from an address by an opcode, a store of a value by an opcode to an address, a ticket
+// sent to a partition, or one taken. The order of the fields decides what a step costs (docs/SPEED.md).
 pub enum Effect {
     Done(Change),
-    Load(usize, u32),
-    Store(u32, u32),
+    Load(usize, u32, u32),
+    Store(u32, u32, u32),
     Send(u32, u32),
     Take,
 }

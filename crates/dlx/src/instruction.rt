@@ -10,10 +10,10 @@ pub enum Operation {
     Test(u32),
 }
 
-// Register numbers are indices; their order is RD, RS1, RS2. Immediates are sign-extended already.
+// Register numbers are indices; their order is RD, RS1, RS2. Immediates are sign-extended already. A load and a store bring their opcode, which tells the width.
 pub enum Instruction {
-    Lw(usize, usize, u32),
-    Sw(usize, usize, u32),
+    LoadBy(u32, usize, usize, u32),
+    StoreBy(u32, usize, usize, u32),
     Immediate(Operation, usize, usize, u32),
     Lhgi(usize, u32),
     Beqz(usize, u32),
