@@ -21,8 +21,8 @@ use Rattle.translate.proofs.Shadow.{serving, served-state, served-shado
 pub zeros-words : (m i : ℕ) → getD (replicate m 0) i 0 < 2 ^ 32
 zeros-words m i = rw (getD-replicate-same m 0 i) (omega arith)
 
-updated-words : (ws : List ℕ) (i : ℕ) (f : ℕ → ℕ) → ((w : ℕ) → f w < 2 ^ 32) → ((j : ℕ) → getD ws j 0 < 2 ^ 32) → (j : ℕ) → getD (updated ws i f) j 0 < 2 ^ 32
-updated-words ws i f l k j = getD-set-elim (λ w. w < 2 ^ 32) ws i j _ 0 (λ _. l _) (k j)
+updated-words : (ws : List ℕ) (i : ℕ) (f : ℕ → ℕ) → ((w : ℕ) → w < 2 ^ 32 → f w < 2 ^ 32) → ((j : ℕ) → getD ws j 0 < 2 ^ 32) → (j : ℕ) → getD (updated ws i f) j 0 < 2 ^ 32
+updated-words ws i f l k j = getD-set-elim (λ w. w < 2 ^ 32) ws i j _ 0 (λ _. l _ (k i)) (k j)
 
 -- ---- the lone memory
 
@@ -37,7 +37,7 @@ module _ {n : ℕ} {s : Lone} (k : KeptLone n s) where
   lone-read-kept a fault = tt
   lone-read-kept a (found p q) = k .words _
 
-  lone-written-kept : (a : ℕ) (f : ℕ → ℕ) → ((w : ℕ) → f w < 2 ^ 32) → (g : Found) → KeptLone n (loneWritten s a f g .1)
+  lone-written-kept : (a : ℕ) (f : ℕ → ℕ) → ((w : ℕ) → w < 2 ^ 32 → f w < 2 ^ 32) → (g : Found) → KeptLone n (loneWritten s a f g .1)
   unfolding loneWritten
   lone-written-kept a f l fault = k
   lone-written-kept a f l (found p q) =
@@ -112,7 +112,7 @@ module _ {fr : List ℕ} {n size : ℕ} {h : Host} (k : KeptHost fr n size h) wh
   unfolding hostRead
   read-kept a e = either KeptAccess (valid e) (λ _. k .words _) (λ _. tt)
 
-  written-kept : (a : ℕ) (f : ℕ → ℕ) (e : ℕ) → ((w : ℕ) → f w < 2 ^ 32) → KeptHost fr n size (hostWritten fr n h a f e .1)
+  written-kept : (a : ℕ) (f : ℕ → ℕ) (e : ℕ) → ((w : ℕ) → w < 2 ^ 32 → f w < 2 ^ 32) → KeptHost fr n size (hostWritten fr n h a f e .1)
   written-kept a f e l =
       let off = a / 4 % 1024 in
       written fr n (KeptHost fr n size) h a f e k (record {

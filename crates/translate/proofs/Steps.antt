@@ -3,7 +3,7 @@ use mathlib.Core.Path.{_≡_, _∙_}
 use mathlib.Core.List.{List}
 use Prim.Native.Nat.{ℕ}
 use lib.ListN.{length}
-use Rattle.dlx.specs.Words.{aligned}
+use Rattle.dlx.specs.Fields.{aligned, placed}
 use Rattle.dlx.specs.Machine.{Core, fetched, accessed, retabled, step}
 use Rattle.dlx.specs.declared.partition.Processor.{Processor}
 use Rattle.dlx.specs.declared.execute.Change.{Change}
@@ -26,7 +26,7 @@ module _ (fr : List ℕ) (n size : ℕ) where
   pub fetched-whole : (c : Core) (h : Host) → Whole fr n size h → Whole fr n size (fetched (hostMemory fr n) (c, h) .1)
   unfolding fetched
   fetched-whole c h w =
-      either (λ (g : Effect × Host). Whole fr n size (g .1)) (aligned (c .processor .dpc))
+      either (λ (g : Effect × Host). Whole fr n size (g .1)) (aligned 32 (c .processor .dpc))
       (λ _. record { long = rw (reads-words fr n) (w .long); shadowed = reads-shadowed fr n h (w .shadowed) _ _ })
       (λ _. w)
 
@@ -35,10 +35,10 @@ module _ (fr : List ℕ) (n size : ℕ) where
   accessed-whole y p (Done c) h w = w
   accessed-whole y p (Send v to) h w = w
   accessed-whole y p Take h w = w
-  accessed-whole y p (Load d a) h w =
+  accessed-whole y p (Load d a o) h w =
       record { long = rw (reads-words fr n) (w .long); shadowed = reads-shadowed fr n h (w .shadowed) _ _ }
-  accessed-whole y p (Store a v) h w =
-      record { long = writes-length fr n h _ a (λ _. v) ∙ w .long; shadowed = writes-shadowed fr n h (w .shadowed) _ a (λ _. v) }
+  accessed-whole y p (Store v o a) h w =
+      record { long = writes-length fr n h _ a (placed o a v) ∙ w .long; shadowed = writes-shadowed fr n h (w .shadowed) _ a (placed o a v) }
 
   retabled-whole : (c : Change) (h : Host) → Whole fr n size h → Whole fr n size (retabled (hostMemory fr n) c h)
   unfolding retabled
