@@ -10,7 +10,7 @@ use lib.Dec.{eqb}
 use lib.Pow as pow
 use lib.Pow.{pow-pos, pow-mono, pow-add, shr-lt, shr-shr, split, high, low, mod-mod-pow}
 use Rattle.dlx.specs.Choice.{if_then_else_}
-use Rattle.dlx.specs.Fields.{field, put, place, aligned, width, signed, brought, placed}
+use Rattle.dlx.specs.Fields.{field, put, place, aligned, loading, storing, width, placed}
 
 cancel : (p q r l : ℕ) → p + q + l - q + r ≡ p + r + l
 cancel p q r l = omega arith
@@ -125,6 +125,27 @@ unfolding put field
 put-whole v x h l = omega arith
 
 -- ---- loads and stores
+
+-- an opcode of a load's is one of five, one of a store's one of three
+module _ (P : ℕ → Type 0) (o : ℕ) where
+  one : (k : ℕ) → P k → eqb o k ≡ true → P o
+  one k p e = subst P (sym (eqb-true o k e)) p
+
+  or-either : (a b : Bool) → (a || b) ≡ true → (a ≡ true → P o) → (b ≡ true → P o) → P o
+  or-either true b h f g = f refl
+  or-either false b h f g = g h
+
+  pub by-load : loading o ≡ true → P 32 → P 33 → P 35 → P 36 → P 37 → P o
+  by-load h a b c d e =
+      or-either (eqb o 32 || eqb o 33 || eqb o 35 || eqb o 36) (eqb o 37) h
+      (λ h. or-either (eqb o 32 || eqb o 33 || eqb o 35) (eqb o 36) h
+      (λ h. or-either (eqb o 32 || eqb o 33) (eqb o 35) h (λ h. or-either (eqb o 32) (eqb o 33) h (one 32 a) (one 33 b)) (one 35 c))
+      (one 36 d))
+      (one 37 e)
+
+  pub by-store : storing o ≡ true → P 40 → P 41 → P 43 → P o
+  by-store h a b c =
+      or-either (eqb o 40 || eqb o 41) (eqb o 43) h (λ h. or-either (eqb o 40) (eqb o 41) h (one 40 a) (one 41 b)) (one 43 c)
 
 -- by cases over the three widths
 pub either-width : (P : ℕ → Type 0) (o : ℕ) → P 8 → P 16 → P 32 → P (width o)

@@ -3,7 +3,7 @@ ghost use mathlib.Core.Path.{_≡_};
 ghost use mathlib.Core.List.{List};
 ghost use Prim.Native.Nat.{ℕ, _<_};
 ghost use lib.ListN.{length};
-ghost use Rattle.dlx.specs.Machine.{core, fetched, accessedAt, retabled, stepAt, stretchFrom};
+ghost use Rattle.dlx.specs.Machine.{core, fetched, Asks, accessedAt, retabled, stepAt, stretchFrom};
 ghost use Rattle.tickets.specs.Queues.{queues, taking, desk, Queued, Seated};
 ghost use Rattle.translate.specs.Walk.{entries};
 ghost use Rattle.translate.specs.Memory.{host, hostMemory};
@@ -87,18 +87,26 @@ fn access(
     waiting: &mut [u32],
     e: Effect,
 ) -> Change
-    requires { ⌜ length (now regs) ≡ 32 ⌝ ∗ ⌜ Placed (now frames) pages (length (now words)) ⌝ ∗ ⌜ Shadowed (now frames) pages (now shadow) ⌝ ∗ ⌜ Seated count i (queues (now tickets) (now waiting)) ⌝ }
+    requires { ⌜ length (now regs) ≡ 32 ⌝ ∗ ⌜ Placed (now frames) pages (length (now words)) ⌝ ∗ ⌜ Shadowed (now frames) pages (now shadow) ⌝ ∗ ⌜ Seated count i (queues (now tickets) (now waiting)) ⌝ ∗ ⌜ Asks e ⌝ }
     ensures { λ r. ⌜ ((core p (now (regs .exit)), (r, host t (now (words .exit)) (now (shadow .exit)))), queues (now (tickets .exit)) (now (waiting .exit))) ≡ accessedAt (hostMemory (now (frames .entry)) pages) (desk count i) (core p (now (regs .entry))) e (host t (now (words .entry)) (now (shadow .entry))) (queues (now (tickets .entry)) (now (waiting .entry))) ⌝ }
 {
     let next = std::num::wrapping_add_u32(p.pc, 4);
     match e {
         Effect::Done(c) => c,
-        Effect::Load(rd, a) => match shadow::load(words, frames, shadow, pages, t, p.mode == 1, a) {
+        Effect::Load(rd, a, o) => match shadow::load(
+            words,
+            frames,
+            shadow,
+            pages,
+            t,
+            p.mode == 1,
+            a,
+        ) {
             Access::Fault => Change::Cause(Partition::PFLS, a),
-            Access::Word(w) => Change::Plain(rd, w, next),
+            Access::Word(w) => Change::Plain(rd, processor::fields::bring(o, a, w), next),
         },
-        Effect::Store(a, v) => {
-            if shadow::store(words, frames, shadow, pages, t, p.mode == 1, a, v) {
+        Effect::Store(v, o, a) => {
+            if shadow::store(words, frames, shadow, pages, t, p.mode == 1, o, a, v) {
                 return Change::Plain(0, 0, next);
             }
             Change::Cause(Partition::PFLS, a)

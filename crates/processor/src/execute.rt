@@ -3,7 +3,9 @@ ghost use mathlib.Core.Path.{_≡_};
 ghost use lib.ListN.{length};
 ghost use Prim.Native.Nat.{_<_};
 ghost use Rattle.dlx.specs.Instructions.{Formed};
+ghost use mathlib.Core.Bool.{true, _||_};
 ghost use Rattle.dlx.specs.Choice.{if_then_else_};
+ghost use Rattle.dlx.specs.Fields.{loading, storing};
 ghost use Rattle.dlx.specs.declared.execute.Change.the-variants.{Plain};
 ghost use Rattle.dlx.specs.declared.execute.Effect.the-variants.{Done};
 ghost use Rattle.dlx.specs.Execute.{valueOf, overflowsOf, operated, reached, loads, stores, jumped, inSystem, movedTo, trapOf, effectOf, written};
@@ -66,11 +68,12 @@ fn operate(op: Operation, rd: usize, x: u32, y: u32, sr: u32, next: u32) -> Effe
     Effect::Done(Change::Plain(rd, v, next))
 }
 
-// An effect that reaches memory at an address, if that is aligned.
-fn reach(address: u32, e: Effect) -> Effect
-    ensures { λ r. ⌜ r ≡ reached address e ⌝ }
+// An effect that reaches memory at an address by an opcode, if that is aligned: the opcode's lowest two bits are how many bytes it reaches, less one.
+fn reach(o: u32, address: u32, e: Effect) -> Effect
+    requires { ⌜ loading o || storing o ≡ true ⌝ }
+    ensures { λ r. ⌜ r ≡ reached o address e ⌝ }
 {
-    if address % 4 == 0 {
+    if address & o % 4 == 0 {
         return e;
     }
     Effect::Done(Change::Cause(Partition::MAL, 0))
@@ -95,18 +98,20 @@ fn plain(rd: usize, v: u32, target: u32) -> Effect
 }
 
 // A load or a store at the sum of a register and an immediate.
-fn load(rd: usize, x: u32, imm: u32) -> Effect
-    ensures { λ r. ⌜ r ≡ loads rd x imm ⌝ }
+fn load(o: u32, rd: usize, x: u32, imm: u32) -> Effect
+    requires { ⌜ loading o ≡ true ⌝ }
+    ensures { λ r. ⌜ r ≡ loads o rd x imm ⌝ }
 {
     let a = std::num::wrapping_add_u32(x, imm);
-    reach(a, Effect::Load(rd, a))
+    reach(o, a, Effect::Load(rd, a, o))
 }
 
-fn store(v: u32, x: u32, imm: u32) -> Effect
-    ensures { λ r. ⌜ r ≡ stores v x imm ⌝ }
+fn store(o: u32, v: u32, x: u32, imm: u32) -> Effect
+    requires { ⌜ storing o ≡ true ⌝ }
+    ensures { λ r. ⌜ r ≡ stores o v x imm ⌝ }
 {
     let a = std::num::wrapping_add_u32(x, imm);
-    reach(a, Effect::Store(a, v))
+    reach(o, a, Effect::Store(v, o, a))
 }
 
 // To one target or the other.
@@ -152,8 +157,8 @@ pub fn execute(p: Processor, t: Table, regs: &[u32], i: Instruction) -> Effect
     let pc = p.pc;
     let next = std::num::wrapping_add_u32(pc, 4);
     match i {
-        Instruction::Lw(rd, rs1, imm) => load(rd, regs[rs1], imm),
-        Instruction::Sw(rd, rs1, imm) => store(regs[rd], regs[rs1], imm),
+        Instruction::LoadBy(o, rd, rs1, imm) => load(o, rd, regs[rs1], imm),
+        Instruction::StoreBy(o, rd, rs1, imm) => store(o, regs[rd], regs[rs1], imm),
         Instruction::Immediate(op, rd, rs1, imm) => operate(op, rd, regs[rs1], imm, p.sr, next),
         Instruction::Lhgi(rd, imm) => plain(rd, imm % 65536 * 65536, next),
         Instruction::Beqz(rs1, imm) => branch(

@@ -1,6 +1,6 @@
 // The instruction tables: a word is first read as an instruction.
 ghost use mathlib.Core.Path.{_≡_};
-ghost use Rattle.dlx.specs.Instructions.{instructionOf, registerType};
+ghost use Rattle.dlx.specs.Instructions.{instructionOf, registerType, partType};
 use crate::words::extend;
 use dlx::instruction::Instruction;
 use dlx::instruction::Operation;
@@ -38,6 +38,21 @@ fn read_register_type(w: u32) -> Instruction
     }
 }
 
+// Bytes and half words.
+fn read_part_type(w: u32) -> Instruction
+    ensures { λ r. ⌜ r ≡ partType w ⌝ }
+{
+    let opcode = w / 67108864;
+    let rs1 = wide(w / 2097152 % 32);
+    let rd = wide(w / 65536 % 32);
+    let imm = extend(0x8000, w);
+    match opcode {
+        32 | 33 | 36 | 37 => Instruction::LoadBy(opcode, rd, rs1, imm),
+        40 | 41 => Instruction::StoreBy(opcode, rd, rs1, imm),
+        _ => Instruction::Ill,
+    }
+}
+
 pub fn read_instruction(w: u32) -> Instruction
     ensures { λ r. ⌜ r ≡ instructionOf w ⌝ }
 {
@@ -46,8 +61,8 @@ pub fn read_instruction(w: u32) -> Instruction
     let rd = wide(w / 65536 % 32);
     let imm = extend(0x8000, w);
     match opcode {
-        35 => Instruction::Lw(rd, rs1, imm),
-        43 => Instruction::Sw(rd, rs1, imm),
+        35 => Instruction::LoadBy(35, rd, rs1, imm),
+        43 => Instruction::StoreBy(43, rd, rs1, imm),
         8 => Instruction::Immediate(Operation::Add, rd, rs1, imm),
         10 => Instruction::Immediate(Operation::Sub, rd, rs1, imm),
         12 => Instruction::Immediate(Operation::And, rd, rs1, imm),
@@ -64,6 +79,6 @@ pub fn read_instruction(w: u32) -> Instruction
         62 => Instruction::Trap(extend(0x200_0000, w)),
         63 => Instruction::Rfe,
         0 => read_register_type(w),
-        _ => Instruction::Ill,
+        _ => read_part_type(w),
     }
 }

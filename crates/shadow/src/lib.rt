@@ -1,11 +1,13 @@
 // Address translation and shadow tables, by the definitions of `translate`. The arrays are lent: a partition's frame list, its shadow table, and the host's words.
 ghost use mathlib.Core.Path.{_≡_};
 ghost use Prim.Native.Nat.{_+_, _*_, _/_, _%_, _<_};
-ghost use lib.ListN.{length, set};
+ghost use lib.ListN.{length};
+ghost use mathlib.Core.Bool.{true};
+ghost use Rattle.dlx.specs.Fields.{aligned, storing, width, placed};
 ghost use Rattle.dlx.specs.declared.partition.Table.{Table};
 ghost use Rattle.translate.specs.Entries.{compositionOf};
 ghost use Rattle.translate.specs.Walk.{entries, direct};
-ghost use Rattle.translate.specs.Memory.{host, hosted, given, looked, served, hostReads, hostWrites, emptied, freshShadow};
+ghost use Rattle.translate.specs.Memory.{updated, host, hosted, given, looked, served, hostReads, hostWrites, emptied, freshShadow};
 ghost use Rattle.translate.specs.Premises.{Listed, Placed, Shadowed};
 use dlx::execute::Access;
 use dlx::partition::Table;
@@ -133,12 +135,27 @@ pub fn load(
     Access::Fault
 }
 
-// One word of a frame.
-fn put(frame: &mut [u32], off: usize, v: u32)
-    requires { ⌜ off < length (now frame) ⌝ }
-    ensures { λ r. ⌜ now (frame .exit) ≡ set (now (frame .entry)) off v ⌝ }
+// The word x after a store of v by an opcode at address a. The opcode's bit 1 tells a word, bit 0 a half word.
+fn place(o: u32, a: u32, v: u32, x: u32) -> u32
+    requires { ⌜ storing o ≡ true ⌝ ∗ ⌜ aligned (width o) a ≡ true ⌝ }
+    ensures { λ r. ⌜ r ≡ placed o a v x ⌝ }
 {
-    frame[off] = v;
+    if o / 2 % 2 == 1 {
+        return v;
+    }
+    let k = a % 4 * 8;
+    if o % 2 == 1 {
+        return x - ((x >> k) % 65536 << k) + (v % 65536 << k);
+    }
+    x - ((x >> k) % 256 << k) + (v % 256 << k)
+}
+
+// One word of a frame, after such a store.
+fn put(frame: &mut [u32], off: usize, o: u32, a: u32, v: u32)
+    requires { ⌜ off < length (now frame) ⌝ ∗ ⌜ storing o ≡ true ⌝ ∗ ⌜ aligned (width o) a ≡ true ⌝ }
+    ensures { λ r. ⌜ now (frame .exit) ≡ updated (now (frame .entry)) off (placed o a v) ⌝ }
+{
+    frame[off] = place(o, a, v, frame[off]);
 }
 
 // What a store into a frame empties: entry `off`, where the frame holds the table. The table fills one page, so that every word of the frame below PTL is an entry.
@@ -159,7 +176,7 @@ fn empty_entry(frames: &[u32], shadow: &mut [u32], pages: u32, t: Table, frame: 
     shadow[wide(off)] = 0;
 }
 
-// The word at address a becomes v. Answers whether the store was made.
+// The word at address a after a store of v by an opcode. Answers whether the store was made.
 pub fn store(
     words: &mut [u32],
     frames: &[u32],
@@ -167,11 +184,12 @@ pub fn store(
     pages: u32,
     t: Table,
     user: bool,
+    o: u32,
     a: u32,
     v: u32,
 ) -> bool
-    requires { ⌜ Placed (now frames) pages (length (now words)) ⌝ ∗ ⌜ Shadowed (now frames) pages (now shadow) ⌝ }
-    ensures { λ r. ⌜ (r, host t (now (words .exit)) (now (shadow .exit))) ≡ hostWrites (now (frames .entry)) pages (host t (now (words .entry)) (now (shadow .entry))) user a (λ _. v) ⌝ }
+    requires { ⌜ Placed (now frames) pages (length (now words)) ⌝ ∗ ⌜ Shadowed (now frames) pages (now shadow) ⌝ ∗ ⌜ storing o ≡ true ⌝ ∗ ⌜ aligned (width o) a ≡ true ⌝ }
+    ensures { λ r. ⌜ (r, host t (now (words .exit)) (now (shadow .exit))) ≡ hostWrites (now (frames .entry)) pages (host t (now (words .entry)) (now (shadow .entry))) user a (placed o a v) ⌝ }
 {
     let e = serve(words, frames, shadow, pages, t, user, a);
     if e / 2048 % 2 != 1 {
@@ -183,7 +201,7 @@ pub fn store(
     let off = a / 4 % 1024;
     let base = wide(e / 4096) * 1024;
     let end = base + 1024;
-    put(&mut words[base..end], wide(off), v);
+    put(&mut words[base..end], wide(off), o, a, v);
     empty_entry(frames, shadow, pages, t, e / 4096, off);
     true
 }

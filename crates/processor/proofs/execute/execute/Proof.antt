@@ -17,7 +17,7 @@ shared-slice-read-load : tie.Need-shared-slice-read-load
 shared-slice-read-load c = let n = rw (c .before .before .i .given .1) at (c .before .before .before .before .before .before .pre .1) in omega (arith, c .before .before .before .before .before .before .pre .0)
 
 load-requires : tie.Need-load-requires
-load-requires c κs = search needs
+load-requires c κs = let n = rw (c .before .before .i .given .1) at (c .before .before .before .before .before .before .pre .1) in n .0
 
 enum-known-i-2 : tie.Need-enum-known-i-2
 enum-known-i-2 c = search needs
@@ -35,7 +35,7 @@ shared-slice-read-store-2 : tie.Need-shared-slice-read-store-2
 shared-slice-read-store-2 c = let n = rw (c .before .before .before .i2 .given .1) at (c .before .before .before .before .before .before .before .pre .1) in omega (arith, c .before .before .before .before .before .before .before .pre .0)
 
 store-requires : tie.Need-store-requires
-store-requires c κs = search needs
+store-requires c κs = let n = rw (c .before .before .before .i2 .given .1) at (c .before .before .before .before .before .before .before .pre .1) in n .0
 
 enum-known-i-3 : tie.Need-enum-known-i-3
 enum-known-i-3 c = search needs

@@ -1,4 +1,5 @@
 use Rattle.dlx.specs.Execute.{loads}
+use Rattle.processor.proofs.Opcodes.{or-left}
 use borrow.Author.Needs.{needs}
 use Rattle.processor.proofs.execute.load.Statement.{statement}
 use Rattle.processor.proofs.execute.load.Tie as tie
@@ -7,7 +8,7 @@ wrapping-add-u32-requires : tie.Need-wrapping-add-u32-requires
 wrapping-add-u32-requires c κs = search needs
 
 reach-requires : tie.Need-reach-requires
-reach-requires c κs = search needs
+reach-requires c κs = or-left _ _ (c .before .pre)
 
 returns : tie.Need-returns
 unfolding loads
