@@ -1,9 +1,9 @@
-use Rattle.shadow.proofs.Served.{served-inside, written-is}
+use Rattle.shadow.proofs.Served.{served-inside, update-mid, written-is}
 use Rattle.translate.proofs.Entries.{placed-listed}
 use mathlib.Core.Path.{_∙_}
 use Prim.Native.Nat.{_+_, _-_, _*_}
 use lib.ListN.{length-take, length-drop}
-use borrow.Rule.Slice.PartMut.{set-mid-at}
+use Rattle.dlx.specs.Fields.{placed}
 use Rattle.translate.specs.Memory.{hostWrites, hostWritten}
 use native.Mathlib.Omega.{arith}
 use borrow.Author.Tests.{eq-eqb, ne-eqb}
@@ -54,17 +54,17 @@ part-put-start c = search needs
 
 part-put-end : tie.Need-part-put-end
 part-put-end c = let s = c .before .before .before .before .before .before .before .before .before .before .before in
-    let i = served-inside _ _ _ _ _ _ (s .pre .0) (s .pre .1) (c .before .before .before .before .before .serve .ensures) (eq-eqb _ _ (c .before .before .if1 .left)) in
+    let i = served-inside _ _ _ _ _ _ (s .pre .0) (s .pre .1 .0) (c .before .before .before .before .before .serve .ensures) (eq-eqb _ _ (c .before .before .if1 .left)) in
     omega (arith, c .wide .ensures)
 
 wide-requires-2 : tie.Need-wide-requires-2
 wide-requires-2 c κs = search needs
 
 put-requires : tie.Need-put-requires
-put-requires c κs = omega arith
+put-requires c κs = let s = c .before .before .before .before .before .before .before .before .before .before .before .before .before in (omega arith, (s .pre .1 .1 .0, s .pre .1 .1 .1))
 
 empty-entry-requires : tie.Need-empty-entry-requires
-empty-entry-requires c κs = (placed-listed (c .before .before .before .before .before .before .before .before .before .before .before .before .before .before .before .before .before .pre .0), (omega (arith, c .before .before .before .before .before .before .before .before .before .before .before .before .before .before .before .before .before .pre .1 .count), omega arith))
+empty-entry-requires c κs = (placed-listed (c .before .before .before .before .before .before .before .before .before .before .before .before .before .before .before .before .before .pre .0), (omega (arith, c .before .before .before .before .before .before .before .before .before .before .before .before .before .before .before .before .before .pre .1 .0 .count), omega arith))
 
 same-length-5 : tie.Need-same-length-5
 same-length-5 c = search needs
@@ -78,13 +78,13 @@ returns-3 c = let s = c .before .before .before .before .before .before .before 
     let f = c .before .before .before .before .before .before .before .before .before .wide in
     let b = f .result * 1024 in
     let m = s .args .words .now in
-    let i = served-inside _ _ _ _ _ _ (s .pre .0) (s .pre .1) (c .before .before .before .before .before .before .before .before .before .before .before .before .before .before .serve .ensures) (eq-eqb _ _ (c .before .before .before .before .before .before .before .before .before .before .before .if1 .left)) in
+    let i = served-inside _ _ _ _ _ _ (s .pre .0) (s .pre .1 .0) (c .before .before .before .before .before .before .before .before .before .before .before .before .before .before .serve .ensures) (eq-eqb _ _ (c .before .before .before .before .before .before .before .before .before .before .before .if1 .left)) in
     simp (← c .before .before .before .before .before .before .before .before .before .before .before .before .before .before .serve .ensures)
-    (written-is _ _ _ _ _ _ _ _ _ _
+    (written-is _ _ _ _ _ _ _ _ _ (placed (s .args .o) (s .args .a) (s .args .v))
     (eq-eqb _ _ (c .before .before .before .before .before .before .before .before .before .before .before .if1 .left))
     (ne-eqb _ _ (c .before .before .before .before .before .before .before .before .before .before .if2 .left))
     (rw (c .before .before .before .before .before .before .put .ensures)
-    (set-mid-at b (b + 1024 - b) (c .before .before .before .before .before .before .before .wide2 .result) m (s .args .v) (simp (length-take, length-drop) (omega (arith, f .ensures, c .before .before .before .before .before .before .before .wide2 .ensures)))
+    (update-mid b (b + 1024 - b) (c .before .before .before .before .before .before .before .wide2 .result) m (placed (s .args .o) (s .args .a) (s .args .v)) (omega (arith, c .before .before .before .before .before .before .before .wide2 .ensures)) (simp (length-take, length-drop) (omega (arith, f .ensures, c .before .before .before .before .before .before .before .wide2 .ensures)))
     ∙ simp (f .ensures, c .before .before .before .before .before .before .before .wide2 .ensures)))
     (c .before .before .empty-entry .ensures))
 
