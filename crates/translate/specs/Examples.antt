@@ -403,18 +403,18 @@ single =
 unfoldable pub parts : List Bool
 parts =
     -- [emptying: a byte of an entry] sb into the lowest and the highest byte of entry 2, in either mode, of an equal value too
-    goesOn (system 0xA0011008 full) 0 nine 0xA0011008 2 0x00002C09 (set full 2 0)
-    ∷ goesOn (system 0xA001100B full) 0 nine 0xA001100B 2 0x09002C00 (set full 2 0)
-    ∷ goesOn (system 0xA000100B full) 0 nine 0xA000100B 2 0x00002C00 (set full 2 0)
-    ∷ goesOn (user 0xA0011008 (set freshShadow 2 0x00001C00)) 1 nine 0xA0011008 2 0x00002C09 (set (only 0 0x00002800) 1 0x00000800)
-    ∷ goesOn (user 0xA001100B (set freshShadow 2 0x00001C00)) 1 nine 0xA001100B 2 0x09002C00 (set (only 0 0x00002800) 1 0x00000800)
+    goesOn (system 0xA0011008 full) 0 nine 0xA0011008 3074 0x00002C09 (set full 2 0)
+    ∷ goesOn (system 0xA001100B full) 0 nine 0xA001100B 3074 0x09002C00 (set full 2 0)
+    ∷ goesOn (system 0xA000100B full) 0 nine 0xA000100B 3074 0x00002C00 (set full 2 0)
+    ∷ goesOn (user 0xA0011008 (set freshShadow 2 0x00001C00)) 1 nine 0xA0011008 3074 0x00002C09 (set (only 0 0x00002800) 1 0x00003800)
+    ∷ goesOn (user 0xA001100B (set freshShadow 2 0x00001C00)) 1 nine 0xA001100B 3074 0x09002C00 (set (only 0 0x00002800) 1 0x00003800)
     -- [emptying: a half word of an entry] its low and its high one
-    ∷ goesOn (system 0xA4011008 full) 0 nine 0xA4011008 2 0x00000009 (set full 2 0)
-    ∷ goesOn (user 0xA401100A (set freshShadow 2 0x00001C00)) 1 nine 0xA401100A 2 0x00092C00 (set (only 0 0x00002800) 1 0x00000800)
+    ∷ goesOn (system 0xA4011008 full) 0 nine 0xA4011008 3074 0x00000009 (set full 2 0)
+    ∷ goesOn (user 0xA401100A (set freshShadow 2 0x00001C00)) 1 nine 0xA401100A 3074 0x00092C00 (set (only 0 0x00002800) 1 0x00003800)
     -- [emptying: the bytes beside an entry] empty their own entry's shadow: 1 and 3; none at or above PTL
-    ∷ goesOn (system 0xA0011007 full) 0 nine 0xA0011007 1 0x09001800 (set full 1 0)
-    ∷ goesOn (system 0xA001100C full) 0 nine 0xA001100C 3 0x00003B09 (set full 3 0)
-    ∷ goesOn (system 0xA001101B full) 0 nine 0xA001101B 6 0x09002800 full
+    ∷ goesOn (system 0xA0011007 full) 0 nine 0xA0011007 3073 0x09001800 (set full 1 0)
+    ∷ goesOn (system 0xA001100C full) 0 nine 0xA001100C 3075 0x00003B09 (set full 3 0)
+    ∷ goesOn (system 0xA001101B full) 0 nine 0xA001101B 3078 0x09002800 full
     -- [fill: by a byte] lbu at an odd address, through the protected entry 2
     ∷ goesOn (user 0x90022ABD freshShadow) 1 (set nine 2 0x06) 0x90022ABD 2048 0x90022ABD (set (only 0 0x00002800) 2 0x00001C00)
     -- [fill: protected store of a byte] pfls with the byte's address
