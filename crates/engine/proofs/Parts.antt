@@ -7,13 +7,19 @@ use Prim.Native.Nat.{ℕ, suc, _+_, _-_, _<_, _≤_}
 use native.Mathlib.Nat.{sub-zero}
 use native.Mathlib.Omega.{arith}
 use lib.ListN.{length}
-use Rattle.dlx.specs.Machine.{Ops, Core, Outcome, outcome, fetched, accessed, handed, settled, retabled, step, requestOf, asked, Desk, accessedAt, stepAt, stretchFrom, Places}
+use Rattle.dlx.specs.Fields.{brought}
+use Rattle.dlx.specs.Processor.{user, behind}
+use Rattle.dlx.specs.Machine.{Ops, Core, Outcome, outcome, fetched, accessed, loaded, handed, settled, retabled, step, requestOf, asked, Desk, accessedAt, stepAt, stretchFrom, Places, Asks}
+use Rattle.dlx.specs.declared.execute.Access.{Access}
+use Rattle.dlx.specs.declared.execute.Access.the-variants.{Word}
 use Rattle.dlx.specs.declared.execute.Change.{Change}
+use Rattle.dlx.specs.declared.execute.Change.the-variants.{Plain}
 use Rattle.dlx.specs.declared.execute.Effect.{Effect}
-use Rattle.dlx.proofs.Places.{PlacesEffect, fetched-places, accessed-places, handed-count}
+use Rattle.dlx.specs.declared.execute.Effect.the-variants.{Load}
+use Rattle.dlx.proofs.Places.{fetched-places, accessed-places, handed-count}
 use Rattle.tickets.specs.Queues.{Queues, Seated, desk}
 use Rattle.tickets.proofs.Queues.{desk-queued}
-use Rattle.translate.specs.Memory.{Host, hostMemory}
+use Rattle.translate.specs.Memory.{Host, hostReads, hostMemory}
 use Rattle.translate.proofs.Steps.{Whole, fetched-whole, step-whole}
 
 module _ {S T : Type 0} (O : Ops S) (D : Desk T) where
@@ -25,13 +31,18 @@ module _ {S T : Type 0} (O : Ops S) (D : Desk T) where
       let a₂ : c₁ ≡ handed e (D q (requestOf e) .0) c = ap (λ (g : (Core × (Change × S)) × T). g .0 .0) a in
       simp (← f, ← a₀, ← a₁, ← a₂, t, r)
 
+-- a load that finds a word
+pub load-is : (fr : List ℕ) (n count i : ℕ) (c : Core) (h h₁ : Host) (q : Queues) (e : Effect) (x : Access) (d a o w v next : ℕ) → e ≡ Load d a o → (x, h₁) ≡ hostReads fr n h (user (c .processor)) a → x ≡ Word w → v ≡ brought o a w → next ≡ behind (c .processor) → ((c, (Plain d v next, h₁)), q) ≡ accessedAt (hostMemory fr n) (desk count i) c e h q
+unfolding accessed loaded handed requestOf desk
+load-is fr n count i c h h₁ q e x d a o w v next f r k b t = simp (f, ← r, k, b, t)
+
 module _ (fr : List ℕ) (n size count i : ℕ) where
-  pub after-fetch : (c : Core) (h h₁ : Host) (e : Effect) → Whole fr n size h → (e, h₁) ≡ fetched (hostMemory fr n) (c, h) → Whole fr n size h₁ × PlacesEffect e
+  pub after-fetch : (c : Core) (h h₁ : Host) (e : Effect) → Whole fr n size h → (e, h₁) ≡ fetched (hostMemory fr n) (c, h) → Whole fr n size h₁ × Asks e
   after-fetch c h h₁ e w f =
-      subst (λ (g : Effect × Host). Whole fr n size (g .1) × PlacesEffect (g .0)) (sym f)
+      subst (λ (g : Effect × Host). Whole fr n size (g .1) × Asks (g .0)) (sym f)
       (fetched-whole fr n size c h w, fetched-places (hostMemory fr n) c h)
 
-  pub after-access : (c c₁ : Core) (h h₂ : Host) (q q₁ : Queues) (e : Effect) (x : Change) → length (c .registers) ≡ 32 → Whole fr n size h × PlacesEffect e → ((c₁, (x, h₂)), q₁) ≡ accessedAt (hostMemory fr n) (desk count i) c e h q → (length (c₁ .registers) ≡ 32) × Places x
+  pub after-access : (c c₁ : Core) (h h₂ : Host) (q q₁ : Queues) (e : Effect) (x : Change) → length (c .registers) ≡ 32 → Whole fr n size h × Asks e → ((c₁, (x, h₂)), q₁) ≡ accessedAt (hostMemory fr n) (desk count i) c e h q → (length (c₁ .registers) ≡ 32) × Places x
   after-access c c₁ h h₂ q q₁ e x l w a =
       subst (λ (g : (Core × (Change × Host)) × Queues). (length (g .0 .0 .registers) ≡ 32) × Places (g .0 .1 .0)) (sym a)
       (handed-count e _ c ∙ l, accessed-places (hostMemory fr n) _ (c .processor) e h (w .1))

@@ -3,6 +3,7 @@ use mathlib.Core.List.{List}
 use Prim.Native.Nat.{ℕ}
 use Rattle.dlx.specs.Machine.{accessed, loaded, stored, handed, requestOf}
 use Rattle.tickets.specs.Queues.{Queues, desk}
+use Rattle.engine.proofs.Parts.{load-is}
 use borrow.Author.Needs.{needs}
 use Rattle.engine.proofs.access.Statement.{statement}
 use Rattle.engine.proofs.access.Tie as tie
@@ -25,11 +26,14 @@ enum-told c = search needs
 enum-known-w : tie.Need-enum-known-w
 enum-known-w c = search needs
 
+bring-requires : tie.Need-bring-requires
+bring-requires c κs = let n = rw (c .before .before .before .before .before .before .before .before .before .before .e2 .given .1) at (c .before .before .before .before .before .before .before .before .before .before .before .before .before .before .before .before .before .before .before .pre .1 .1 .1 .1) in (n .1, n .2)
+
 enum-known-e-3 : tie.Need-enum-known-e-3
 enum-known-e-3 c = search needs
 
 store-requires : tie.Need-store-requires
-store-requires c κs = search needs
+store-requires c κs = let n = rw (c .before .before .before .before .e3 .given .1) at (c .before .before .before .before .before .before .before .before .before .before .before .before .before .pre .1 .1 .1 .1) in (c .before .before .before .before .before .before .before .before .before .before .before .before .before .pre .1 .0, (c .before .before .before .before .before .before .before .before .before .before .before .before .before .pre .1 .1 .0, (n .0, n .1)))
 
 same-length : tie.Need-same-length
 same-length c = search needs
@@ -45,13 +49,13 @@ enum-known-e-4 : tie.Need-enum-known-e-4
 enum-known-e-4 c = search needs
 
 send-requires : tie.Need-send-requires
-send-requires c κs = (c .before .before .before .before .before .before .before .before .before .before .before .before .pre .1 .1 .1 .queued, c .before .before .before .before .before .before .before .before .before .before .before .before .pre .1 .1 .1 .few)
+send-requires c κs = (c .before .before .before .before .before .before .before .before .before .before .before .before .pre .1 .1 .1 .0 .queued, c .before .before .before .before .before .before .before .before .before .before .before .before .pre .1 .1 .1 .0 .few)
 
 enum-told-2 : tie.Need-enum-told-2
 enum-told-2 c = search needs
 
 receive-requires : tie.Need-receive-requires
-receive-requires c κs = (c .before .before .before .before .before .before .before .before .before .before .before .before .pre .0, (c .before .before .before .before .before .before .before .before .before .before .before .before .pre .1 .1 .1 .queued, c .before .before .before .before .before .before .before .before .before .before .before .before .pre .1 .1 .1 .small))
+receive-requires c κs = (c .before .before .before .before .before .before .before .before .before .before .before .before .pre .0, (c .before .before .before .before .before .before .before .before .before .before .before .before .pre .1 .1 .1 .0 .queued, c .before .before .before .before .before .before .before .before .before .before .before .before .pre .1 .1 .1 .0 .small))
 
 returns-2 : tie.Need-returns-2
 unfolding accessed stored loaded handed requestOf desk
@@ -74,8 +78,8 @@ same-length-6 : tie.Need-same-length-6
 same-length-6 c = search needs
 
 returns-4 : tie.Need-returns-4
-unfolding accessed stored loaded handed requestOf desk
-returns-4 c = simp (c .before .before .before .before .before .before .before .before .before .before .e2 .given .1, ← c .before .before .before .before .before .load .ensures, c .before .w .given .1, c .before .before .before .before .before .before .before .before .before .before .before .before .wrapping-add-u32 .ensures)
+returns-4 c = let s = c .before .before .before .before .before .before .before .before .before .before .before .before .before .before .before .before .before .before .before .before in
+    load-is _ _ (s .args .count) (s .args .i) _ _ _ _ _ _ _ _ _ _ _ _ (c .before .before .before .before .before .before .before .before .before .before .before .e2 .given .1) (c .before .before .before .before .before .before .load .ensures) (c .before .before .w .given .1) (c .bring .ensures) (c .before .before .before .before .before .before .before .before .before .before .before .before .before .wrapping-add-u32 .ensures)
 
 same-length-7 : tie.Need-same-length-7
 same-length-7 c = search needs
@@ -120,6 +124,7 @@ access-spec =
     load-requires
     enum-told
     enum-known-w
+    bring-requires
     enum-known-e-3
     store-requires
     same-length

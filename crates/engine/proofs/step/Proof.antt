@@ -10,7 +10,9 @@ fetch-requires : tie.Need-fetch-requires
 fetch-requires c κs = search needs
 
 access-requires : tie.Need-access-requires
-access-requires c κs = let s = c .before .before .before .before .before .before .before .before .before .before .before .before .before .before .before .before .before in (s .pre .0, (s .pre .1 .0, (after-fetch _ _ _ (s .args .count) (s .args .i) _ _ _ _ (record { long = refl; shadowed = s .pre .1 .1 .0 }) (c .before .before .before .before .before .before .before .fetch .ensures) .0 .shadowed, s .pre .1 .1 .1)))
+access-requires c κs = let s = c .before .before .before .before .before .before .before .before .before .before .before .before .before .before .before .before .before in
+    let w = after-fetch _ _ _ (s .args .count) (s .args .i) _ _ _ _ (record { long = refl; shadowed = s .pre .1 .1 .0 }) (c .before .before .before .before .before .before .before .fetch .ensures) in
+    (s .pre .0, (s .pre .1 .0, (w .0 .shadowed, (s .pre .1 .1 .1, w .1))))
 
 settle-requires : tie.Need-settle-requires
 settle-requires c κs = let s = c .before .before .before .before .before .before .before .before .before .before .before .before .before .before .before .before .before .before .before .before .before .before .before .before .before .before .before .before .before in after-access _ _ _ (s .args .count) (s .args .i) _ _ _ _ _ _ _ _ (s .pre .0) (after-fetch _ _ _ (s .args .count) (s .args .i) _ _ _ _ (record { long = refl; shadowed = s .pre .1 .1 .0 }) (c .before .before .before .before .before .before .before .before .before .before .before .before .before .before .before .before .before .before .before .fetch .ensures)) (c .before .before .before .before .before .before .before .before .before .before .before .access .ensures)
