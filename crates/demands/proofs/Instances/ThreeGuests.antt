@@ -6,7 +6,8 @@ use native.Mathlib.Omega.{arith}
 use lib.Count.{trailingZeros}
 use lib.ListN.{length, getD, replicate}
 use Rattle.dlx.specs.Words.{extendedBy, readIn, holds}
-use Rattle.dlx.specs.Instructions.{registerType, instructionOf}
+use Rattle.dlx.specs.Instructions.{registerType, partType, instructionOf}
+use Rattle.dlx.specs.Fields.{field, put, width, brought, placed}
 use Rattle.dlx.specs.Processor.{specialOf, withSpecial}
 use Rattle.dlx.specs.Interrupts.{levelOf, interrupted}
 use Rattle.dlx.specs.Execute.{written, valueOf, overflowsOf, operated, reached, loads, stores, movedTo, trapOf, effectOf}
@@ -66,7 +67,7 @@ abbrev calls : List Call
 calls = run 1 ∷ stop 1 ∷ start 1 ∷ run 4 ∷ []
 
 computing : ℕ
-unfolding freshShadows three-guests called every-boot inner outer listFrom any laid offset bootedHouse nextFrom turnOf requestNow replyNow queuesNext desk sending taking asked effectRequest guestStep settledHouse stepWith hostStep hostSteps started stopped judged walked direct hosted given filled looked served hostRead emptied hostWritten hostReads hostWrites step fetched executed loaded stored accessed received handed settled retabled instructionOf registerType effectOf written valueOf overflowsOf operated reached loads stores movedTo trapOf specialOf withSpecial interrupted levelOf trailingZeros extendedBy readIn holds turnsIn
+unfolding freshShadows three-guests called every-boot inner outer listFrom any laid offset bootedHouse nextFrom turnOf requestNow replyNow queuesNext desk sending taking asked effectRequest guestStep settledHouse stepWith hostStep hostSteps started stopped judged walked direct hosted given filled looked served hostRead emptied hostWritten hostReads hostWrites step fetched executed loaded stored accessed received handed settled retabled instructionOf registerType effectOf written valueOf overflowsOf operated reached loads stores movedTo trapOf specialOf withSpecial interrupted levelOf trailingZeros extendedBy readIn holds turnsIn partType field put width brought placed
 computing = 0
 
 some : {n : ℕ} (k : ℕ) → n ≡ suc k → n ≡ 0 → ⊥

@@ -7,7 +7,8 @@ use borrow.Author.Tests.{eq-eqb, ne-eqb}
 use lib.Count.{trailingZeros}
 use lib.ListN.{length, replicate}
 use Rattle.dlx.specs.Words.{extendedBy, readIn, holds}
-use Rattle.dlx.specs.Instructions.{registerType, instructionOf}
+use Rattle.dlx.specs.Instructions.{registerType, partType, instructionOf}
+use Rattle.dlx.specs.Fields.{field, put, width, brought, placed}
 use Rattle.dlx.specs.Processor.{specialOf, withSpecial}
 use Rattle.dlx.specs.Interrupts.{levelOf, interrupted}
 use Rattle.dlx.specs.Execute.{written, valueOf, overflowsOf, operated, reached, loads, stores, movedTo, trapOf, effectOf}
@@ -49,7 +50,7 @@ abbrev calls : List Call
 calls = run 13 ∷ []
 
 computing : ℕ
-unfolding freshShadows ticket-guests inner outer listFrom any laid offset bootedHouse nextFrom turnOf requestNow replyNow queuesNext desk sending taking asked effectRequest guestStep settledHouse stepWith hostStep hostSteps judged walked direct hosted given filled looked served hostRead emptied hostWritten hostReads hostWrites step fetched executed loaded stored accessed received handed settled retabled instructionOf registerType effectOf written valueOf overflowsOf operated reached loads stores movedTo trapOf specialOf withSpecial interrupted levelOf trailingZeros extendedBy readIn holds
+unfolding freshShadows ticket-guests inner outer listFrom any laid offset bootedHouse nextFrom turnOf requestNow replyNow queuesNext desk sending taking asked effectRequest guestStep settledHouse stepWith hostStep hostSteps judged walked direct hosted given filled looked served hostRead emptied hostWritten hostReads hostWrites step fetched executed loaded stored accessed received handed settled retabled instructionOf registerType effectOf written valueOf overflowsOf operated reached loads stores movedTo trapOf specialOf withSpecial interrupted levelOf trailingZeros extendedBy readIn holds partType field put width brought placed
 computing = 0
 
 logging : ℕ

@@ -10,7 +10,8 @@ use lib.Count.{trailingZeros}
 use lib.ListN.{length, getD, set, replicate, length-set}
 use lib.Seq.{getD-set-other}
 use Rattle.dlx.specs.Words.{extendedBy, readIn, holds}
-use Rattle.dlx.specs.Instructions.{registerType, instructionOf}
+use Rattle.dlx.specs.Instructions.{registerType, partType, instructionOf}
+use Rattle.dlx.specs.Fields.{field, put, width, brought, placed}
 use Rattle.dlx.specs.Processor.{specialOf, withSpecial}
 use Rattle.dlx.specs.Interrupts.{levelOf, interrupted}
 use Rattle.dlx.specs.Execute.{written, valueOf, overflowsOf, operated, reached, loads, stores, movedTo, trapOf, effectOf}
@@ -113,7 +114,7 @@ ended = hostSteps 4 cleared
 
 -- all that a step computes with
 computing : ℕ
-unfolding freshShadows two-guests inner outer listFrom any laid offset bootedHouse nextFrom turnOf requestNow replyNow queuesNext desk sending taking asked effectRequest guestStep settledHouse stepWith hostStep hostSteps started stopped emptiedHouse judged walked direct hosted given filled looked served hostRead emptied hostWritten hostReads hostWrites step fetched executed loaded stored accessed received handed settled retabled instructionOf registerType effectOf written valueOf overflowsOf operated reached loads stores movedTo trapOf specialOf withSpecial interrupted levelOf trailingZeros extendedBy readIn holds turnsIn
+unfolding freshShadows two-guests inner outer listFrom any laid offset bootedHouse nextFrom turnOf requestNow replyNow queuesNext desk sending taking asked effectRequest guestStep settledHouse stepWith hostStep hostSteps started stopped emptiedHouse judged walked direct hosted given filled looked served hostRead emptied hostWritten hostReads hostWrites step fetched executed loaded stored accessed received handed settled retabled instructionOf registerType effectOf written valueOf overflowsOf operated reached loads stores movedTo trapOf specialOf withSpecial interrupted levelOf trailingZeros extendedBy readIn holds turnsIn partType field put width brought placed
 computing = 0
 
 -- entry px of partition 0's shadow
