@@ -113,6 +113,19 @@ impl Guest {
         Some(())
     }
 
+    /// The field of a word at address a, at its lowest bits, what is above it not yet cut off.
+    fn load_field(&self, a: u32) -> Result<u32, Cause> {
+        Ok(self.load(a).ok_or(Cause::DataFault(a))? >> (a % 4 * 8))
+    }
+
+    /// A store of the bits of the mask at address a.
+    fn store_field(&mut self, a: u32, v: u32, mask: u32) -> Result<(), Cause> {
+        let i = self.translate(a, true).ok_or(Cause::DataFault(a))?;
+        let k = a % 4 * 8;
+        self.words[i] = self.words[i] & !(mask << k) | (v & mask) << k;
+        Ok(())
+    }
+
     fn set(&mut self, rd: usize, v: u32) {
         if rd != 0 {
             self.regs[rd] = v;
@@ -153,9 +166,9 @@ impl Guest {
         }
     }
 
-    fn address(&self, rs1: usize, imm: u32) -> Result<u32, Cause> {
+    fn address(&self, rs1: usize, imm: u32, bytes: u32) -> Result<u32, Cause> {
         let a = self.regs[rs1].wrapping_add(imm);
-        if a % 4 != 0 {
+        if a % bytes != 0 {
             return Err(Cause::Misaligned);
         }
         Ok(a)
@@ -196,13 +209,19 @@ impl Guest {
                 return Ok(target);
             }
             24..=31 => self.set(rd, test(opcode - 24, self.regs[rs1], imm)),
+            32 => self.set(rd, sign_extend(self.load_field(self.address(rs1, imm, 1)?)?, 8)),
+            33 => self.set(rd, sign_extend(self.load_field(self.address(rs1, imm, 2)?)?, 16)),
+            36 => self.set(rd, self.load_field(self.address(rs1, imm, 1)?)? & 0xFF),
+            37 => self.set(rd, self.load_field(self.address(rs1, imm, 2)?)? & 0xFFFF),
+            40 => self.store_field(self.address(rs1, imm, 1)?, self.regs[rd], 0xFF)?,
+            41 => self.store_field(self.address(rs1, imm, 2)?, self.regs[rd], 0xFFFF)?,
             35 => {
-                let a = self.address(rs1, imm)?;
+                let a = self.address(rs1, imm, 4)?;
                 let v = self.load(a).ok_or(Cause::DataFault(a))?;
                 self.set(rd, v);
             }
             43 => {
-                let a = self.address(rs1, imm)?;
+                let a = self.address(rs1, imm, 4)?;
                 self.store(a, self.regs[rd]).ok_or(Cause::DataFault(a))?;
             }
             62 => return Err(Cause::Trap(far)),
@@ -306,7 +325,7 @@ const PAGES: u32 = 67;
 
 /// Guest page 0 has the start, page 1 the page table, page 2 the loop, pages 3 to 66 the data. The user's page 0 is the
 /// loop, its pages 1 to 64 the data. The frames are a permutation of the frames 1 to 67.
-fn guest() -> Guest {
+fn guest(bytes: bool) -> Guest {
     let frames: Vec<u32> = (0..PAGES).map(|k| (k * 13 + 5) % PAGES + 1).collect();
     let mut words = vec![0; (PAGES as usize + 1) * 1024];
     let mut fill = |page: u32, list: &[u32]| {
@@ -328,26 +347,40 @@ fn guest() -> Guest {
             0xFC00_0000, // rfe
         ],
     );
-    fill(
-        2,
-        &[
-            0x20A5_0001, // addi r5, r5, 1
-            0x30A1_03FF, // andi r1, r5, 1023
-            0x0021_0820, // add r1, r1, r1
-            0x0021_0820, // add r1, r1, r1
-            0x2021_1000, // addi r1, r1, 4096: the first data page
-            0x2002_0040, // addi r2, r0, 64
-            0x8C23_0000, // lw r3, 0(r1): the inner loop's first
-            0x2063_0001, // addi r3, r3, 1
-            0xAC23_0000, // sw r3, 0(r1)
-            0x2021_1000, // addi r1, r1, 4096
-            0x2042_FFFF, // addi r2, r2, -1
-            0x1440_FFE8, // bnez r2, -24
-            0x2084_0001, // addi r4, r4, 1: its delay slot
-            0x0BFF_FFC8, // j -56
-            0x00E3_3826, // xor r7, r7, r3: its delay slot
-        ],
-    );
+    let byte_loop = [
+        0x20A5_0002, // addi r5, r5, 2
+        0x30A1_0FFE, // andi r1, r5, 4094
+        0x2021_1000, // addi r1, r1, 4096: the first data page
+        0x2002_0040, // addi r2, r0, 64
+        0x9023_0000, // lbu r3, 0(r1): the inner loop's first
+        0x2063_0001, // addi r3, r3, 1
+        0xA023_0000, // sb r3, 0(r1)
+        0x8426_0000, // lh r6, 0(r1)
+        0x2021_1000, // addi r1, r1, 4096
+        0x2042_FFFF, // addi r2, r2, -1
+        0x1440_FFE4, // bnez r2, -28
+        0x2084_0001, // addi r4, r4, 1: its delay slot
+        0x0BFF_FFCC, // j -52
+        0x00E6_3826, // xor r7, r7, r6: its delay slot
+    ];
+    let word_loop = [
+        0x20A5_0001, // addi r5, r5, 1
+        0x30A1_03FF, // andi r1, r5, 1023
+        0x0021_0820, // add r1, r1, r1
+        0x0021_0820, // add r1, r1, r1
+        0x2021_1000, // addi r1, r1, 4096: the first data page
+        0x2002_0040, // addi r2, r0, 64
+        0x8C23_0000, // lw r3, 0(r1): the inner loop's first
+        0x2063_0001, // addi r3, r3, 1
+        0xAC23_0000, // sw r3, 0(r1)
+        0x2021_1000, // addi r1, r1, 4096
+        0x2042_FFFF, // addi r2, r2, -1
+        0x1440_FFE8, // bnez r2, -24
+        0x2084_0001, // addi r4, r4, 1: its delay slot
+        0x0BFF_FFC8, // j -56
+        0x00E3_3826, // xor r7, r7, r3: its delay slot
+    ];
+    fill(2, if bytes { &byte_loop } else { &word_loop });
     Guest::new(frames, words)
 }
 
@@ -355,8 +388,9 @@ fn guest() -> Guest {
 pub extern "C" fn main() -> i32 {
     let mut line = String::new();
     std::io::stdin().read_to_string(&mut line).unwrap();
-    let steps: u32 = line.split_whitespace().next().unwrap().parse().unwrap();
-    let mut guest = guest();
+    let mut numbers = line.split_whitespace();
+    let steps: u32 = numbers.next().unwrap().parse().unwrap();
+    let mut guest = guest(numbers.nth(1) == Some("1"));
     let mut done = 0;
     while done < steps {
         done += guest.run(steps - done);

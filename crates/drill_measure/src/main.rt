@@ -1,5 +1,6 @@
 // The measured run: the guest of speed/walker.rs in the house, booted and run by the house's calls.
-// Standard input has two decimal numbers: steps, at most 1,000,000, and the turn's length, 1..10,000. Standard output is the
+// Standard input has decimal numbers: steps, at most 1,000,000, the turn's length, 1..10,000, and 1 for the loop of bytes, where it
+// is not that of words. Standard output is the
 // number of steps done and a digest of the registers, the special registers and the whole memory; or a refusal's number.
 use boot::boot;
 use dlx::partition::Partition;
@@ -73,6 +74,24 @@ fn put_loop(words: &mut [u32; 69632]) {
     put(words, 2, 12, 0x2084_0001); // addi r4, r4, 1: its delay slot
     put(words, 2, 13, 0x0BFF_FFC8); // j -56
     put(words, 2, 14, 0x00E3_3826); // xor r7, r7, r3: its delay slot
+}
+
+// The loop of bytes and half words, in page 2.
+fn put_byte_loop(words: &mut [u32; 69632]) {
+    put(words, 2, 0, 0x20A5_0002); // addi r5, r5, 2
+    put(words, 2, 1, 0x30A1_0FFE); // andi r1, r5, 4094
+    put(words, 2, 2, 0x2021_1000); // addi r1, r1, 4096
+    put(words, 2, 3, 0x2002_0040); // addi r2, r0, 64
+    put(words, 2, 4, 0x9023_0000); // lbu r3, 0(r1): the inner loop's first
+    put(words, 2, 5, 0x2063_0001); // addi r3, r3, 1
+    put(words, 2, 6, 0xA023_0000); // sb r3, 0(r1)
+    put(words, 2, 7, 0x8426_0000); // lh r6, 0(r1)
+    put(words, 2, 8, 0x2021_1000); // addi r1, r1, 4096
+    put(words, 2, 9, 0x2042_FFFF); // addi r2, r2, -1
+    put(words, 2, 10, 0x1440_FFE4); // bnez r2, -28
+    put(words, 2, 11, 0x2084_0001); // addi r4, r4, 1: its delay slot
+    put(words, 2, 12, 0x0BFF_FFCC); // j -52
+    put(words, 2, 13, 0x00E6_3826); // xor r7, r7, r6: its delay slot
 }
 
 fn mixed(h: u64, w: u32) -> u64 {
@@ -158,6 +177,15 @@ fn number(line: &[u8], from: usize) -> Numeral {
     Numeral { value, end: i }
 }
 
+// The number behind the one that ends there; 0 where there is none.
+fn after(line: &[u8], end: usize) -> u32 {
+    if end < 64 {
+        let n = number(line, end + 1);
+        return n.value;
+    }
+    0
+}
+
 fn refused(a: Answer) {
     io::write_all(STDOUT_FILENO, b"refused ");
     io::print_decimal(STDOUT_FILENO, a.number as u64);
@@ -174,13 +202,17 @@ fn ran(house: House, words: &mut [u32; 69632], steps: u32) -> Answer {
     run(house, words, steps)
 }
 
-fn measure(steps: u32, q: u32) {
+fn measure(steps: u32, q: u32, kind: u32) {
     let mut words = [0u32; 69632];
     let mut frames = [0u32; 67];
     list_frames(&mut frames);
     put_table(&mut words);
     put_start(&mut words);
-    put_loop(&mut words);
+    if kind == 1 {
+        put_byte_loop(&mut words);
+    } else {
+        put_loop(&mut words);
+    }
     let b = booted(q, &frames, &words);
     if b.number != 0 {
         refused(b);
@@ -206,6 +238,6 @@ fn main() {
     let end = steps.end;
     if end < 64 {
         let q = number(&line, end + 1);
-        measure(steps.value, q.value);
+        measure(steps.value, q.value, after(&line, q.end));
     }
 }
