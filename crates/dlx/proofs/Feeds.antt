@@ -22,7 +22,7 @@ unhanded : (a b : Reply) (e : Effect) (c : Core) → Silent (requestOf e) → ha
 unfolding handed requestOf
 unhanded a b (Done x) c h = refl
 unhanded a b (Load d x o) c h = refl
-unhanded a b (Store v o x) c h = refl
+unhanded a b (Store o x v) c h = refl
 unhanded a b (Send v to) c h = refl
 unhanded a b Take c h = absurd h
 
@@ -31,7 +31,7 @@ module _ {S : Type 0} (O : Ops S) where
   unfolding accessed requestOf
   silent a b p (Done c) s h = refl
   silent a b p (Load d x o) s h = refl
-  silent a b p (Store v o x) s h = refl
+  silent a b p (Store o x v) s h = refl
   silent a b p (Send v to) s h = absurd h
   silent a b p Take s h = absurd h
 

@@ -154,7 +154,7 @@ KeptChange Return = Unit
 abbrev pub KeptEffect : Effect → Type 0
 KeptEffect (Done c) = KeptChange c
 KeptEffect (Load d a o) = (d < 32) × (a < 2 ^ 32)
-KeptEffect (Store v o a) = (a < 2 ^ 32) × (aligned (width o) a ≡ true)
+KeptEffect (Store o a v) = (a < 2 ^ 32) × (aligned (width o) a ≡ true)
 KeptEffect (Send v to) = (v < 2 ^ 32) × (to < 2 ^ 32)
 KeptEffect Take = Unit
 
@@ -171,7 +171,7 @@ request-kept : (e : Effect) → KeptEffect e → KeptRequest (requestOf e)
 unfolding requestOf
 request-kept (Done c) h = tt
 request-kept (Load d a o) h = tt
-request-kept (Store v o a) h = tt
+request-kept (Store o a v) h = tt
 request-kept (Send v to) h = h
 request-kept Take h = tt
 
@@ -331,8 +331,8 @@ module _ (p : Processor) (t : Table) (r : List ℕ) (h : Numbers p) (k : KeptTab
 
   pub effect-kept : (i : Instruction) → Formed i → KeptEffect (effectOf p t r i)
   unfolding effectOf
-  effect-kept (LoadBy o d s i) f = loads-kept o d _ i (f .1)
-  effect-kept (StoreBy o d s i) f = stores-kept o _ _ i
+  effect-kept (LoadBy o s i d) f = loads-kept o d _ i (f .1)
+  effect-kept (StoreBy o s i d) f = stores-kept o _ _ i
   effect-kept (Immediate op d s i) f = operated-kept op d _ _ _ _ (f .0) (g .words s) (f .2) (omega arith)
   effect-kept (Lhgi d i) f = (f .0, omega arith, omega arith)
   effect-kept (Beqz s i) f = (omega arith, omega arith, either W (eqb (reg r s) 0) (λ _. omega arith) (λ _. omega arith))
@@ -409,7 +409,7 @@ module _ {S : Type 0} (I : S → Type 0) (O : Ops S) (K : Keeps I O) where
   unfolding handed received
   handed-kept y k (Done x) c h = h
   handed-kept y k (Load d a o) c h = h
-  handed-kept y k (Store v o a) c h = h
+  handed-kept y k (Store o a v) c h = h
   handed-kept y k (Send v to) c h = h
   handed-kept y k Take c h = record {
     processor = h .processor;
@@ -422,7 +422,7 @@ module _ {S : Type 0} (I : S → Type 0) (O : Ops S) (K : Keeps I O) where
   accessed-kept y k p (Send v to) s h i = ((omega arith, k .code, omega arith), i)
   accessed-kept y k p Take s h i = ((omega arith, k .code, omega arith), i)
   accessed-kept y k p (Load d a o) s h i = (loaded-kept p d a o _ (h .0) (h .1), K .reads s i (user p) a .1)
-  accessed-kept y k p (Store v o a) s h i = (stored-kept p a _ (h .0), K .writes s i (user p) a (placed o a v) (λ x. placed-word o a v x (h .1)))
+  accessed-kept y k p (Store o a v) s h i = (stored-kept p a _ (h .0), K .writes s i (user p) a (placed o a v) (λ x. placed-word o a v x (h .1)))
 
   retabled-kept : (c : Change) (s : S) → KeptChange c → I s → I (retabled O c s)
   unfolding retabled

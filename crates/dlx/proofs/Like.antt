@@ -55,7 +55,7 @@ module _ {S S′ : Type 0} (R : S → S′ → Type 0) (O : Ops S) (O′ : Ops S
   accessed-like y p (Load d a o) s s′ r =
       let g = L .reads s s′ r (user p) a in
       record { same = rw (g .same); rest = g .rest }
-  accessed-like y p (Store v o a) s s′ r =
+  accessed-like y p (Store o a v) s s′ r =
       let g = L .writes s s′ r (user p) a (placed o a v) in
       record { same = rw (g .same); rest = g .rest }
 

@@ -49,8 +49,8 @@ trap-places p v to i =
 
 effect-places : (p : Processor) (t : Table) (r : List ℕ) (i : Instruction) → Formed i → Asks (effectOf p t r i)
 unfolding effectOf loads stores
-effect-places p t r (LoadBy o d s i) f = reached-places o _ _ λ e. (f .1, f .0, e)
-effect-places p t r (StoreBy o d s i) f = reached-places o _ _ λ e. (f .0, e)
+effect-places p t r (LoadBy o s i d) f = reached-places o _ _ λ e. (f .1, f .0, e)
+effect-places p t r (StoreBy o s i d) f = reached-places o _ _ λ e. (f .0, e)
 effect-places p t r (Immediate op d s i) f = operated-places op d _ _ _ _ (f .0)
 effect-places p t r (Lhgi d i) f = f .0
 effect-places p t r (Beqz s i) f = omega arith
@@ -87,7 +87,7 @@ module _ {S : Type 0} (O : Ops S) where
       go : (x : Access) → Places (loaded p d a o x)
       go Fault = tt
       go (Word w) = h .0
-  accessed-places y p (Store v o a) s h = either Places (O .write s (user p) a (placed o a v) .0) (λ _. omega arith) (λ _. tt)
+  accessed-places y p (Store o a v) s h = either Places (O .write s (user p) a (placed o a v) .0) (λ _. omega arith) (λ _. tt)
 
 -- ---- how many registers there are
 
@@ -107,7 +107,7 @@ pub handed-count : (e : Effect) (y : Reply) (c : Core) → length (handed e y c 
 unfolding handed received
 handed-count (Done x) y c = refl
 handed-count (Load d a o) y c = refl
-handed-count (Store v o a) y c = refl
+handed-count (Store o a v) y c = refl
 handed-count (Send v to) y c = refl
 handed-count Take y c =
     either (λ (l : List ℕ). length l ≡ length (c .registers)) (eqb (y .code) 0) {x = written (c .registers) 1 (y .ticket)} {y = c .registers}

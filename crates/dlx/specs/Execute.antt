@@ -64,7 +64,7 @@ unfoldable pub loads : ℕ → ℕ → ℕ → ℕ → Effect
 loads o d x i = let a = plus x i in reached o a (Load d a o)
 
 unfoldable pub stores : ℕ → ℕ → ℕ → ℕ → Effect
-stores o v x i = let a = plus x i in reached o a (Store v o a)
+stores o v x i = let a = plus x i in reached o a (Store o a v)
 
 abbrev pub jumped : ℕ → Effect
 jumped target = Done (Plain 0 0 target)
@@ -93,8 +93,8 @@ trapOf p v to i =
     Done (Cause trap i)
 
 unfoldable pub effectOf : Processor → Table → List ℕ → Instruction → Effect
-effectOf p t r (LoadBy o d s i) = loads o d (reg r s) i
-effectOf p t r (StoreBy o d s i) = stores o (reg r d) (reg r s) i
+effectOf p t r (LoadBy o s i d) = loads o d (reg r s) i
+effectOf p t r (StoreBy o s i d) = stores o (reg r d) (reg r s) i
 effectOf p t r (Immediate op d s i) = operated op d (reg r s) i (p .sr) (behind p)
 effectOf p t r (Lhgi d i) = Done (Plain d (i % 2 ^ 16 * 2 ^ 16) (behind p))
 effectOf p t r (Beqz s i) = jumped (if eqb (reg r s) 0 then plus (p .pc) i else behind p)

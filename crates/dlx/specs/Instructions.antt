@@ -20,10 +20,10 @@ abbrev immediate : Operation → ℕ → Instruction
 immediate op w = Immediate op (rdImmediate w) (rs1 w) (extended 16 w)
 
 abbrev load : ℕ → ℕ → Instruction
-load o w = LoadBy o (rdImmediate w) (rs1 w) (extended 16 w)
+load o w = LoadBy o (rs1 w) (extended 16 w) (rdImmediate w)
 
 abbrev store : ℕ → ℕ → Instruction
-store o w = StoreBy o (rdImmediate w) (rs1 w) (extended 16 w)
+store o w = StoreBy o (rs1 w) (extended 16 w) (rdImmediate w)
 
 -- R-type: RD, RS1, RS2
 abbrev register : Operation → ℕ → Instruction
@@ -81,8 +81,8 @@ instructionOf w =
 
 -- an instruction as a word can give it: its opcode is a load's or a store's, the registers that it names exist, its special register too, and its immediate is a word
 abbrev pub Formed : Instruction → Type 0
-Formed (LoadBy o d s i) = (loading o ≡ true) × (d < 32) × (s < 32) × (i < 2 ^ 32)
-Formed (StoreBy o d s i) = (storing o ≡ true) × (d < 32) × (s < 32) × (i < 2 ^ 32)
+Formed (LoadBy o s i d) = (loading o ≡ true) × (d < 32) × (s < 32) × (i < 2 ^ 32)
+Formed (StoreBy o s i d) = (storing o ≡ true) × (d < 32) × (s < 32) × (i < 2 ^ 32)
 Formed (Immediate op d s i) = (d < 32) × (s < 32) × (i < 2 ^ 32)
 Formed (Lhgi d i) = (d < 32) × (i < 2 ^ 32)
 Formed (Beqz s i) = (s < 32) × (i < 2 ^ 32)

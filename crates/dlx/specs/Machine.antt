@@ -72,7 +72,7 @@ stored p a made = if made then Plain 0 0 (behind p) else Cause pfls a
 unfoldable pub accessed : {S : Type 0} → Ops S → Reply → Processor → Effect → S → Change × S
 accessed O a p (Done c) s = (c, s)
 accessed O a p (Load d x o) s = let g = O .read s (user p) x in (loaded p d x o (g .0), g .1)
-accessed O a p (Store v o x) s = let g = O .write s (user p) x (placed o x v) in (stored p x (g .0), g .1)
+accessed O a p (Store o x v) s = let g = O .write s (user p) x (placed o x v) in (stored p x (g .0), g .1)
 accessed O a p (Send v to) s = (Plain 3 (a .code) (behind p), s)
 accessed O a p Take s = (Plain 3 (a .code) (behind p), s)
 
@@ -84,7 +84,7 @@ received r a = if eqb (a .code) 0 then written r 1 (a .ticket) else r
 unfoldable pub handed : Effect → Reply → Core → Core
 handed (Done x) a c = c
 handed (Load d x o) a c = c
-handed (Store v o x) a c = c
+handed (Store o x v) a c = c
 handed (Send v to) a c = c
 handed Take a c = core (c .processor) (received (c .registers) a)
 
@@ -129,7 +129,7 @@ pub data Request : Type 0 where
 unfoldable pub requestOf : Effect → Request
 requestOf (Done c) = nothing
 requestOf (Load d a o) = nothing
-requestOf (Store v o a) = nothing
+requestOf (Store o a v) = nothing
 requestOf (Send v to) = sends v to
 requestOf Take = takes
 
@@ -181,6 +181,6 @@ Places Return = Unit
 abbrev pub Asks : Effect → Type 0
 Asks (Done c) = Places c
 Asks (Load d a o) = (d < 32) × (loading o ≡ true) × (aligned (width o) a ≡ true)
-Asks (Store v o a) = (storing o ≡ true) × (aligned (width o) a ≡ true)
+Asks (Store o a v) = (storing o ≡ true) × (aligned (width o) a ≡ true)
 Asks (Send v to) = Unit
 Asks Take = Unit

@@ -16,7 +16,7 @@ pub enum Change {
     Return,
 }
 
-// What an instruction asks for: a change, or first a load of a register from an address by an opcode, a store of a value by an opcode to an address, a ticket
+// What an instruction asks for: a change, or first a load of a register from an address by an opcode, a store by an opcode to an address of a value, a ticket
 // sent to a partition, or one taken. The order of the fields decides what a step costs (docs/SPEED.md).
 pub enum Effect {
     Done(Change),

@@ -10,10 +10,11 @@ pub enum Operation {
     Test(u32),
 }
 
-// Register numbers are indices; their order is RD, RS1, RS2. Immediates are sign-extended already. A load and a store bring their opcode, which tells the width.
+// Register numbers are indices; their order is RD, RS1, RS2. Immediates are sign-extended already. A load and a store bring their opcode, which tells the width,
+// and RD last: the order of their fields decides what a step costs (docs/SPEED.md).
 pub enum Instruction {
-    LoadBy(u32, usize, usize, u32),
-    StoreBy(u32, usize, usize, u32),
+    LoadBy(u32, usize, u32, usize),
+    StoreBy(u32, usize, u32, usize),
     Immediate(Operation, usize, usize, u32),
     Lhgi(usize, u32),
     Beqz(usize, u32),

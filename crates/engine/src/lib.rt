@@ -105,7 +105,7 @@ fn access(
             Access::Fault => Change::Cause(Partition::PFLS, a),
             Access::Word(w) => Change::Plain(rd, processor::fields::bring(o, a, w), next),
         },
-        Effect::Store(v, o, a) => {
+        Effect::Store(o, a, v) => {
             if shadow::store(words, frames, shadow, pages, t, p.mode == 1, o, a, v) {
                 return Change::Plain(0, 0, next);
             }

@@ -91,10 +91,10 @@ module _ (a x k : ℕ) (at : k ≡ place a) where
 
 module _ (w : ℕ) where
   abbrev loadOf : Instruction
-  loadOf = LoadBy (opcode w) (rdImmediate w) (rs1 w) (extended 16 w)
+  loadOf = LoadBy (opcode w) (rs1 w) (extended 16 w) (rdImmediate w)
 
   abbrev storeOf : Instruction
-  storeOf = StoreBy (opcode w) (rdImmediate w) (rs1 w) (extended 16 w)
+  storeOf = StoreBy (opcode w) (rs1 w) (extended 16 w) (rdImmediate w)
 
   pub part-32 : 32 ≤ opcode w → opcode w < 34 → loadOf ≡ partType w
   unfolding partType

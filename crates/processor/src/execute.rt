@@ -111,7 +111,7 @@ fn store(o: u32, v: u32, x: u32, imm: u32) -> Effect
     ensures { λ r. ⌜ r ≡ stores o v x imm ⌝ }
 {
     let a = std::num::wrapping_add_u32(x, imm);
-    reach(o, a, Effect::Store(v, o, a))
+    reach(o, a, Effect::Store(o, a, v))
 }
 
 // To one target or the other.
@@ -157,8 +157,8 @@ pub fn execute(p: Processor, t: Table, regs: &[u32], i: Instruction) -> Effect
     let pc = p.pc;
     let next = std::num::wrapping_add_u32(pc, 4);
     match i {
-        Instruction::LoadBy(o, rd, rs1, imm) => load(o, rd, regs[rs1], imm),
-        Instruction::StoreBy(o, rd, rs1, imm) => store(o, regs[rd], regs[rs1], imm),
+        Instruction::LoadBy(o, rs1, imm, rd) => load(o, rd, regs[rs1], imm),
+        Instruction::StoreBy(o, rs1, imm, rd) => store(o, regs[rd], regs[rs1], imm),
         Instruction::Immediate(op, rd, rs1, imm) => operate(op, rd, regs[rs1], imm, p.sr, next),
         Instruction::Lhgi(rd, imm) => plain(rd, imm % 65536 * 65536, next),
         Instruction::Beqz(rs1, imm) => branch(

@@ -47,8 +47,8 @@ fn read_part_type(w: u32) -> Instruction
     let rd = wide(w / 65536 % 32);
     let imm = extend(0x8000, w);
     match opcode {
-        32 | 33 | 36 | 37 => Instruction::LoadBy(opcode, rd, rs1, imm),
-        40 | 41 => Instruction::StoreBy(opcode, rd, rs1, imm),
+        32 | 33 | 36 | 37 => Instruction::LoadBy(opcode, rs1, imm, rd),
+        40 | 41 => Instruction::StoreBy(opcode, rs1, imm, rd),
         _ => Instruction::Ill,
     }
 }
@@ -61,8 +61,8 @@ pub fn read_instruction(w: u32) -> Instruction
     let rd = wide(w / 65536 % 32);
     let imm = extend(0x8000, w);
     match opcode {
-        35 => Instruction::LoadBy(35, rd, rs1, imm),
-        43 => Instruction::StoreBy(43, rd, rs1, imm),
+        35 => Instruction::LoadBy(35, rs1, imm, rd),
+        43 => Instruction::StoreBy(43, rs1, imm, rd),
         8 => Instruction::Immediate(Operation::Add, rd, rs1, imm),
         10 => Instruction::Immediate(Operation::Sub, rd, rs1, imm),
         12 => Instruction::Immediate(Operation::And, rd, rs1, imm),

@@ -37,7 +37,7 @@ module _ (fr : List ℕ) (n size : ℕ) where
   accessed-whole y p Take h w = w
   accessed-whole y p (Load d a o) h w =
       record { long = rw (reads-words fr n) (w .long); shadowed = reads-shadowed fr n h (w .shadowed) _ _ }
-  accessed-whole y p (Store v o a) h w =
+  accessed-whole y p (Store o a v) h w =
       record { long = writes-length fr n h _ a (placed o a v) ∙ w .long; shadowed = writes-shadowed fr n h (w .shadowed) _ a (placed o a v) }
 
   retabled-whole : (c : Change) (h : Host) → Whole fr n size h → Whole fr n size (retabled (hostMemory fr n) c h)
