@@ -21,7 +21,13 @@ pub mod opcode {
     pub const SGRI: u32 = 25;
     pub const SLSI: u32 = 28;
     pub const SETI: u32 = 31;
+    pub const LB: u32 = 32;
+    pub const LH: u32 = 33;
     pub const LW: u32 = 35;
+    pub const LBU: u32 = 36;
+    pub const LHU: u32 = 37;
+    pub const SB: u32 = 40;
+    pub const SH: u32 = 41;
     pub const SW: u32 = 43;
     pub const TRAP: u32 = 62;
     pub const RFE: u32 = 63;
@@ -75,6 +81,36 @@ pub fn lw(rd: u32, rs1: u32, imm: u32) -> u32 {
 /// sw RD, imm(RS1).
 pub fn sw(rd: u32, rs1: u32, imm: u32) -> u32 {
     i_type(opcode::SW, rd, rs1, imm)
+}
+
+/// lb RD, imm(RS1).
+pub fn lb(rd: u32, rs1: u32, imm: u32) -> u32 {
+    i_type(opcode::LB, rd, rs1, imm)
+}
+
+/// lbu RD, imm(RS1).
+pub fn lbu(rd: u32, rs1: u32, imm: u32) -> u32 {
+    i_type(opcode::LBU, rd, rs1, imm)
+}
+
+/// lh RD, imm(RS1).
+pub fn lh(rd: u32, rs1: u32, imm: u32) -> u32 {
+    i_type(opcode::LH, rd, rs1, imm)
+}
+
+/// lhu RD, imm(RS1).
+pub fn lhu(rd: u32, rs1: u32, imm: u32) -> u32 {
+    i_type(opcode::LHU, rd, rs1, imm)
+}
+
+/// sb RD, imm(RS1).
+pub fn sb(rd: u32, rs1: u32, imm: u32) -> u32 {
+    i_type(opcode::SB, rd, rs1, imm)
+}
+
+/// sh RD, imm(RS1).
+pub fn sh(rd: u32, rs1: u32, imm: u32) -> u32 {
+    i_type(opcode::SH, rd, rs1, imm)
 }
 
 /// jr RS1.
@@ -206,6 +242,9 @@ mod tests {
     fn words_of_the_examples() {
         assert_eq!(addi(1, 0, 5), 0x2001_0005);
         assert_eq!(sw(1, 0, 8), 0xAC01_0008);
+        assert_eq!((lb(1, 2, 3), lh(1, 2, 3)), (0x8041_0003, 0x8441_0003));
+        assert_eq!((lbu(1, 2, 3), lhu(1, 2, 3)), (0x9041_0003, 0x9441_0003));
+        assert_eq!((sb(1, 2, 3), sh(1, 2, 3)), (0xA041_0003, 0xA441_0003));
         assert_eq!(trap(7), 0xF800_0007);
         assert_eq!((send(), take()), (0xF800_0100, 0xF800_0101));
         assert_eq!(r_type(function::ADD, 3, 1, 2), 0x0022_1820);

@@ -4,6 +4,7 @@ use std::fmt;
 use std::ops::AddAssign;
 
 use crate::dlx::Cause;
+use crate::memory::Width;
 
 /// Shadow entries: how many in all, and how many above entry 255.
 #[derive(Clone, Copy, Debug, Default, PartialEq, Eq)]
@@ -28,7 +29,36 @@ impl AddAssign for Entries {
     }
 }
 
-/// Counts of steps, interrupts, shadow changes, tickets and answers.
+/// Loads and stores that were done, by width.
+#[derive(Clone, Copy, Debug, Default, PartialEq, Eq)]
+pub struct Widths {
+    /// Bytes.
+    pub bytes: u64,
+    /// Half words.
+    pub halves: u64,
+    /// Words.
+    pub words: u64,
+}
+
+impl Widths {
+    fn add(&mut self, width: Width) {
+        match width {
+            Width::Byte => self.bytes += 1,
+            Width::Half => self.halves += 1,
+            Width::Word => self.words += 1,
+        }
+    }
+}
+
+impl AddAssign for Widths {
+    fn add_assign(&mut self, other: Widths) {
+        self.bytes += other.bytes;
+        self.halves += other.halves;
+        self.words += other.words;
+    }
+}
+
+/// Counts of steps, interrupts, loads and stores, shadow changes, tickets and answers.
 #[derive(Clone, Debug, Default, PartialEq, Eq)]
 pub struct Counts {
     /// Guest steps, by MODE before the step.
@@ -39,10 +69,22 @@ pub struct Counts {
     pub slots: [u64; 7],
     /// Interrupts raised by the first word of the handler: a guest in an interrupt loop.
     pub loops: u64,
+    /// Loads that were done and extend the sign, and lw.
+    pub signed_loads: Widths,
+    /// Loads that were done and extend with zeros.
+    pub unsigned_loads: Widths,
+    /// Stores that were done.
+    pub stores: Widths,
+    /// Half words at odd addresses: mal.
+    pub odd_halves: u64,
+    /// Data faults at odd addresses: pfls.
+    pub odd_faults: u64,
     /// Shadow entries filled.
     pub fills: Entries,
     /// Valid shadow entries emptied by a store into the table.
     pub emptied_by_store: Entries,
+    /// Those of them that a store of a byte or half word emptied.
+    pub emptied_by_part: u64,
     /// Valid shadow entries emptied by movi2s to PTO or PTL.
     pub emptied_by_special: Entries,
     /// Valid shadow entries emptied by the call.
@@ -65,6 +107,29 @@ impl Counts {
     /// All guest steps.
     pub fn all_steps(&self) -> u64 {
         self.steps.iter().sum()
+    }
+
+    /// A load was done.
+    pub fn load(&mut self, width: Width, signed: bool) {
+        let loads = if signed { &mut self.signed_loads } else { &mut self.unsigned_loads };
+        loads.add(width);
+    }
+
+    /// A store was done.
+    pub fn store(&mut self, width: Width) {
+        self.stores.add(width);
+    }
+
+    /// Loads and stores of bytes and half words that were done, by name.
+    pub fn parts(&self) -> [(&'static str, u64); 6] {
+        [
+            ("lb", self.signed_loads.bytes),
+            ("lh", self.signed_loads.halves),
+            ("lbu", self.unsigned_loads.bytes),
+            ("lhu", self.unsigned_loads.halves),
+            ("sb", self.stores.bytes),
+            ("sh", self.stores.halves),
+        ]
     }
 
     /// All answers.
@@ -106,6 +171,14 @@ impl fmt::Display for Counts {
         writeln!(f, "interrupts by cause: {}", causes_text(&self.interrupts))?;
         writeln!(f, "interrupts with PC not DPC + 4, by cause: {}", causes_text(&self.slots))?;
         writeln!(f, "interrupts from the handler's first word: {}", self.loops)?;
+        let parts = self.parts().map(|(name, count)| format!("{name}:{count}")).join(" ");
+        let (lw, sw) = (self.signed_loads.words, self.stores.words);
+        writeln!(f, "loads and stores done: {parts} lw:{lw} sw:{sw}")?;
+        writeln!(
+            f,
+            "half words at odd addresses:{} pfls at odd addresses:{} entries emptied by sb or sh:{}",
+            self.odd_halves, self.odd_faults, self.emptied_by_part
+        )?;
         let entries =
             [self.fills, self.emptied_by_store, self.emptied_by_special, self.emptied_by_call];
         entries_text(f, "shadow entries", entries.map(|entries| entries.all))?;
@@ -132,6 +205,12 @@ impl AddAssign<&Counts> for Counts {
         add_all(&mut self.takes, &other.takes);
         add_all(&mut self.answers, &other.answers);
         self.loops += other.loops;
+        self.signed_loads += other.signed_loads;
+        self.unsigned_loads += other.unsigned_loads;
+        self.stores += other.stores;
+        self.odd_halves += other.odd_halves;
+        self.odd_faults += other.odd_faults;
+        self.emptied_by_part += other.emptied_by_part;
         self.fills += other.fills;
         self.emptied_by_store += other.emptied_by_store;
         self.emptied_by_special += other.emptied_by_special;

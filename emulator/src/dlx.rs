@@ -1,7 +1,7 @@
 //! The guest machine: registers, decoding, one step, interrupts.
 
 use crate::counts::Counts;
-use crate::memory::{Access, Place, Space, Table};
+use crate::memory::{Access, Place, Space, Table, Width};
 use crate::tickets::{number, Tickets, SEND, TAKE};
 
 /// Numbers of the special registers.
@@ -193,8 +193,8 @@ pub enum Target {
 #[derive(Clone, Copy, Debug, PartialEq, Eq)]
 #[allow(missing_docs)]
 pub enum Instruction {
-    Lw { rd: usize, rs1: usize, imm: u32 },
-    Sw { rd: usize, rs1: usize, imm: u32 },
+    Load { width: Width, signed: bool, rd: usize, rs1: usize, imm: u32 },
+    Store { width: Width, rd: usize, rs1: usize, imm: u32 },
     Compute { operation: Operation, rd: usize, rs1: usize, right: Operand },
     Lhgi { rd: usize, value: u32 },
     Branch { on_zero: bool, rs1: usize, imm: u32 },
@@ -232,6 +232,8 @@ pub fn decode(word: u32) -> Option<Instruction> {
         let right = Operand::Immediate(imm);
         Some(Instruction::Compute { operation, rd, rs1, right })
     };
+    let load = |width, signed| Some(Instruction::Load { width, signed, rd, rs1, imm });
+    let store = |width| Some(Instruction::Store { width, rd, rs1, imm });
     match word >> 26 {
         0 => decode_r_type(word),
         2 => Some(Instruction::Jump { target: Target::Relative(long_imm), link: false }),
@@ -247,8 +249,14 @@ pub fn decode(word: u32) -> Option<Instruction> {
         22 => Some(Instruction::Jump { target: Target::Register(rs1), link: false }),
         23 => Some(Instruction::Jump { target: Target::Register(rs1), link: true }),
         opcode @ 24..=31 => immediate(Operation::comparison(opcode)),
-        35 => Some(Instruction::Lw { rd, rs1, imm }),
-        43 => Some(Instruction::Sw { rd, rs1, imm }),
+        32 => load(Width::Byte, true),
+        33 => load(Width::Half, true),
+        35 => load(Width::Word, true),
+        36 => load(Width::Byte, false),
+        37 => load(Width::Half, false),
+        40 => store(Width::Byte),
+        41 => store(Width::Half),
+        43 => store(Width::Word),
         62 => Some(Instruction::Trap { imm: long_imm }),
         63 => Some(Instruction::Rfe),
         _ => None,
@@ -359,22 +367,26 @@ impl Guest {
         let place = self
             .locate(memory, self.dpc, Access::Load, counts)
             .ok_or(Interrupt::with_data(Cause::Pff, self.dpc))?;
-        Ok(self.space.load(memory, place))
+        Ok(self.space.word(memory, place))
     }
 
-    /// The place of a data access: misaligned is mal, a fault pfls.
+    /// The place of a data access: an address that is no multiple of the width is mal, a fault pfls.
     fn data(
         &mut self,
         memory: &[u32],
         address: u32,
+        width: Width,
         access: Access,
         counts: &mut Counts,
     ) -> Result<Place, Interrupt> {
-        if !address.is_multiple_of(4) {
+        if !address.is_multiple_of(width.bytes()) {
+            counts.odd_halves += u64::from(width == Width::Half);
             return Err(Interrupt::plain(Cause::Mal));
         }
-        self.locate(memory, address, access, counts)
-            .ok_or(Interrupt::with_data(Cause::Pfls, address))
+        self.locate(memory, address, access, counts).ok_or_else(|| {
+            counts.odd_faults += u64::from(address % 2 == 1);
+            Interrupt::with_data(Cause::Pfls, address)
+        })
     }
 
     fn locate(
@@ -397,15 +409,20 @@ impl Guest {
     ) -> Result<(), Interrupt> {
         let mut next = self.pc.wrapping_add(4);
         match instruction {
-            Instruction::Lw { rd, rs1, imm } => {
+            Instruction::Load { width, signed, rd, rs1, imm } => {
                 let address = self.registers[rs1].wrapping_add(imm);
-                let place = self.data(memory, address, Access::Load, counts)?;
-                self.write(rd, self.space.load(memory, place));
+                let place = self.data(memory, address, width, Access::Load, counts)?;
+                let value = self.space.load(memory, place, width);
+                let bits = 8 * width.bytes();
+                self.write(rd, if signed { sign_extended(value, bits) } else { value });
+                counts.load(width, signed);
             }
-            Instruction::Sw { rd, rs1, imm } => {
+            Instruction::Store { width, rd, rs1, imm } => {
                 let address = self.registers[rs1].wrapping_add(imm);
-                let place = self.data(memory, address, Access::Store, counts)?;
-                self.space.store(memory, self.table(), place, self.registers[rd], counts);
+                let place = self.data(memory, address, width, Access::Store, counts)?;
+                let value = self.registers[rd];
+                self.space.store(memory, self.table(), place, width, value, counts);
+                counts.store(width);
             }
             Instruction::Compute { operation, rd, rs1, right } => {
                 let value = self.compute(operation, rs1, right)?;

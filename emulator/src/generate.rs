@@ -39,16 +39,17 @@ pub struct File {
 
 /// How often each house number must be answered in a million steps.
 pub const ANSWERS_EACH: u64 = 50;
+/// How often each load and store of a byte or half word must be done in a million steps.
+pub const PARTS_EACH: u64 = 5_000;
 /// The numbers that scripts give: all but 15, which is the house file's.
 pub const SCRIPT_NUMBERS: [usize; 16] = [0, 1, 2, 3, 4, 5, 6, 7, 8, 9, 10, 11, 12, 13, 14, 16];
 
-/// Random scripts, until their guests have done `steps` steps and every house number of theirs was
-/// answered often enough.
+/// Random scripts, until their guests have done `steps` steps, every house number of theirs was
+/// answered often enough, and bytes and half words were loaded and stored often enough.
 pub fn scripts(seed: u64, steps: u64) -> Vec<Script> {
     let mut scripts = Vec::new();
     let mut total = Counts::default();
-    let answers = steps * ANSWERS_EACH / 1_000_000;
-    while total.all_steps() < steps || few_answers(&total, answers) {
+    while total.all_steps() < steps || too_few(&total, steps) {
         let number = scripts.len() as u64;
         let mut draft = Draft::new(Rng::new(seed ^ number << 32));
         let kind = compose(&mut draft, number);
@@ -59,8 +60,11 @@ pub fn scripts(seed: u64, steps: u64) -> Vec<Script> {
     scripts
 }
 
-fn few_answers(counts: &Counts, answers: u64) -> bool {
+fn too_few(counts: &Counts, steps: u64) -> bool {
+    let answers = steps * ANSWERS_EACH / 1_000_000;
+    let parts = steps * PARTS_EACH / 1_000_000;
     SCRIPT_NUMBERS.iter().any(|&number| counts.answers[number] < answers)
+        || counts.parts().iter().any(|&(_, done)| done < parts)
 }
 
 /// Writes one script of the kind whose turn it is; tells the kind.

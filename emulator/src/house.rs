@@ -248,7 +248,7 @@ impl House {
             return Err(Refusal::Output);
         }
         for (at, word) in output[..count as usize].iter_mut().enumerate() {
-            *word = space.load(memory, Place::of(address + 4 * at as u32));
+            *word = space.word(memory, Place::of(address + 4 * at as u32));
         }
         Ok(count)
     }

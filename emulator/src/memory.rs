@@ -1,4 +1,7 @@
-//! Addresses and shadows: how a guest byte address becomes one word of the lent host memory.
+//! Addresses and shadows: how a guest byte address becomes one word of the lent host memory, and its
+//! bytes there.
+
+use std::ops::Range;
 
 use crate::counts::{Counts, Entries};
 
@@ -34,13 +37,31 @@ pub fn shadow_entry(frame: u32, guest_entry: u32) -> u32 {
     frame << 12 | VALID | guest_entry & PROTECTED
 }
 
-/// What an access does with its word; a fetch loads.
+/// What an access does with its bytes; a fetch loads.
 #[derive(Clone, Copy, Debug, PartialEq, Eq)]
 pub enum Access {
-    /// The word is read.
+    /// They are read.
     Load,
-    /// The word is written.
+    /// They are written.
     Store,
+}
+
+/// How many bytes an access has; they never span two words.
+#[derive(Clone, Copy, Debug, PartialEq, Eq)]
+pub enum Width {
+    /// One byte, at any address.
+    Byte = 1,
+    /// Two bytes, at an even address.
+    Half = 2,
+    /// Four bytes, at a multiple of 4.
+    Word = 4,
+}
+
+impl Width {
+    /// The bytes.
+    pub fn bytes(self) -> u32 {
+        self as u32
+    }
 }
 
 /// The guest's page table: its origin in pages and its length in entries.
@@ -52,29 +73,32 @@ pub struct Table {
     pub ptl: u32,
 }
 
-/// A word of guest memory.
+/// A byte of guest memory, and the word that it stands in.
 #[derive(Clone, Copy, Debug, PartialEq, Eq)]
 pub struct Place {
     /// The guest page.
     pub page: u32,
     /// The word inside the page.
     pub word: u32,
+    /// The byte inside the word.
+    pub byte: u32,
 }
 
 impl Place {
     /// The place of a guest byte address that is not translated.
     pub fn of(address: u32) -> Self {
-        Place { page: address >> 12, word: word_in_page(address) }
+        Place { page: address >> 12, word: (address & 0xFFF) / 4, byte: address % 4 }
     }
 
-    /// The guest byte address.
-    fn address(self) -> u64 {
+    /// The guest byte address of the word.
+    fn word_address(self) -> u64 {
         PAGE_BYTES * u64::from(self.page) + 4 * u64::from(self.word)
     }
-}
 
-fn word_in_page(address: u32) -> u32 {
-    (address & 0xFFF) / 4
+    /// The bytes of an access in the word, the lowest first.
+    fn bytes(self, width: Width) -> Range<usize> {
+        self.byte as usize..(self.byte + width.bytes()) as usize
+    }
 }
 
 /// A partition's pages and its shadow table.
@@ -111,7 +135,7 @@ impl Space {
             None => self.untranslated(address),
             Some(table) => {
                 let page = self.translated(memory, table, address >> 12, access, counts)?;
-                Some(Place { page, word: word_in_page(address) })
+                Some(Place { page, ..Place::of(address) })
             }
         }
     }
@@ -166,7 +190,7 @@ impl Space {
         }
         let address = PAGE_BYTES * u64::from(table.pto) + 4 * u64::from(px);
         let inside = address < PAGE_BYTES * u64::from(self.pages);
-        inside.then(|| self.load(memory, Place::of(address as u32)))
+        inside.then(|| self.word(memory, Place::of(address as u32)))
     }
 
     /// The guest page of a frame is the frame's place in the list.
@@ -175,24 +199,39 @@ impl Space {
         place.expect("a valid shadow entry of an undamaged house has an own frame") as u32
     }
 
-    /// The word at a place.
-    pub fn load(&self, memory: &[u32], place: Place) -> u32 {
+    /// The whole word of a place.
+    pub fn word(&self, memory: &[u32], place: Place) -> u32 {
         memory[self.host_word(place)]
     }
 
-    /// Writes the word at a place; a store into entry px of the table empties shadow px.
+    /// The bytes at a place, little-endian, with zeros above them.
+    pub fn load(&self, memory: &[u32], place: Place, width: Width) -> u32 {
+        let word = self.word(memory, place).to_le_bytes();
+        let mut value = [0; 4];
+        value[..width.bytes() as usize].copy_from_slice(&word[place.bytes(width)]);
+        u32::from_le_bytes(value)
+    }
+
+    /// Writes the lowest bytes of a value at a place and leaves the word's others alone; a store
+    /// into entry px of the table, into any byte of it, empties shadow px.
     pub fn store(
         &mut self,
         memory: &mut [u32],
         table: Table,
         place: Place,
+        width: Width,
         value: u32,
         counts: &mut Counts,
     ) {
-        memory[self.host_word(place)] = value;
+        let host = &mut memory[self.host_word(place)];
+        let mut word = host.to_le_bytes();
+        let lowest = &value.to_le_bytes()[..width.bytes() as usize];
+        word[place.bytes(width)].copy_from_slice(lowest);
+        *host = u32::from_le_bytes(word);
         if let Some(px) = entry_at(table, place) {
             if self.shadow[px] != 0 {
                 counts.emptied_by_store.add(px);
+                counts.emptied_by_part += u64::from(width != Width::Word);
             }
             self.shadow[px] = 0;
         }
@@ -214,7 +253,7 @@ impl Space {
 
 /// The px whose table entry stands at a place, px below PTL and 1,024.
 fn entry_at(table: Table, place: Place) -> Option<usize> {
-    let offset = place.address().checked_sub(PAGE_BYTES * u64::from(table.pto))?;
+    let offset = place.word_address().checked_sub(PAGE_BYTES * u64::from(table.pto))?;
     let px = offset / 4;
     let inside = px < u64::from(table.ptl) && px < ENTRIES as u64;
     inside.then_some(px as usize)

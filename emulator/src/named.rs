@@ -1,14 +1,15 @@
 //! Scripts and house files with a name: the examples of 01, and what follows from the rules and is
 //! easy to miss.
 
+mod bytes;
 mod far_pages;
 mod house_frame;
 mod pairs;
 mod tickets;
 
 use crate::assemble::{
-    addi, function, i_type, j_type, jr, lw, movi2s, movs2i, nop, opcode, r_type, rfe, send, sw,
-    take, trap,
+    addi, function, i_type, j_type, jr, lhu, lw, movi2s, movs2i, nop, opcode, r_type, rfe, sb,
+    send, sw, take, trap,
 };
 use crate::dlx::special::{EDPC, EMODE, EPC, ESR, MODE, PTL, PTO, SR};
 use crate::fields::{self, CURRENT, LEFT, Q, RUNNING, WAITING, WORDS};
@@ -143,6 +144,7 @@ impl Story {
 pub fn scripts() -> Vec<Script> {
     let groups = [
         instructions(),
+        bytes::group(),
         interrupts(),
         pairs::group(),
         translation(),
@@ -218,6 +220,12 @@ fn ill_words() -> Story {
         i_type(9, 1, 1, 1),
         i_type(11, 1, 1, 1),
         i_type(1, 0, 0, 0),
+        i_type(34, 1, 1, 4),
+        i_type(38, 1, 1, 4),
+        i_type(39, 1, 1, 4),
+        i_type(42, 1, 1, 4),
+        i_type(44, 1, 1, 4),
+        i_type(45, 1, 1, 4),
         r_type(33, 1, 1, 1),
         r_type(35, 1, 1, 1),
         r_type(39, 1, 1, 1),
@@ -699,6 +707,12 @@ pub fn files() -> Vec<File> {
             };
             let (sender, taker) = (load(1, &until(send())), load(2, &until(take())));
             [turn(101, 202), list(&[1]), list(&[2]), sender, taker, end()].concat()
+        }),
+        ("bytes make an address", {
+            // 0x38 and 0x12 are stored as bytes and loaded as the half word 0x1238.
+            let bytes = [addi(1, 0, 0x38), sb(1, 0, 64), addi(1, 0, 0x12), sb(1, 0, 65)];
+            let words = [&bytes[..], &[lhu(2, 0, 64), jr(2), nop()]].concat();
+            [turn(9, 7), list(&[1]), load(1, &words), end()].concat()
         }),
         ("above 64 KiB", long(16)),
         ("above 128 KiB", long(32)),

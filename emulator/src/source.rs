@@ -13,7 +13,7 @@ hexadecimal after 0x.
   turns Q run N      kind 1: turns of Q steps, a run of N
   partition F F ..   kind 2: a partition's frames
   frame F            kind 3: frame F; the lines behind it are its words, from its first on:
-    addi r1 r0 5       an instruction by 01's name: RD RS1 IMM, RD RS1 RS2, RS1 IMM (branches),
+    addi r1 r0 5       an instruction by its name: RD RS1 IMM, RD RS1 RS2, RS1 IMM (branches),
                        RS1 (jr, jalr), IMM (j, jal, trap), RD SPECIAL (movs2i),
                        SPECIAL RS1 (movi2s), nothing (rfe); opcodes 24 to 31 end in i: slsi
     word N             a word
@@ -181,7 +181,13 @@ fn instruction(name: &str, rest: &[&str]) -> Result<u32, String> {
         "lhgi" => Some(opcode::LHGI),
         "jr" => Some(opcode::JR),
         "jalr" => Some(opcode::JALR),
+        "lb" => Some(opcode::LB),
+        "lh" => Some(opcode::LH),
         "lw" => Some(opcode::LW),
+        "lbu" => Some(opcode::LBU),
+        "lhu" => Some(opcode::LHU),
+        "sb" => Some(opcode::SB),
+        "sh" => Some(opcode::SH),
         "sw" => Some(opcode::SW),
         "trap" => Some(opcode::TRAP),
         "rfe" => Some(opcode::RFE),
@@ -211,8 +217,7 @@ fn instruction(name: &str, rest: &[&str]) -> Result<u32, String> {
             Some(
                 op @ (opcode::ADDI..=opcode::XORI
                 | opcode::CLRI..=opcode::SETI
-                | opcode::LW
-                | opcode::SW),
+                | opcode::LB..=opcode::SW),
             ),
             _,
             [rd, rs1, imm],
@@ -301,6 +306,12 @@ mod tests {
         assert_eq!(word("trap -1"), Ok(0xFBFF_FFFF));
         assert_eq!(word("rfe"), Ok(0xFC00_0000));
         assert_eq!(word("movi2s 7 r1"), Ok(0x0020_01D1));
+        assert_eq!(word("lb r1 r2 3"), Ok(0x8041_0003));
+        assert_eq!(word("lh r1 r2 2"), Ok(0x8441_0002));
+        assert_eq!(word("lbu r1 r2 -1"), Ok(0x9041_FFFF));
+        assert_eq!(word("lhu r1 r2 2"), Ok(0x9441_0002));
+        assert_eq!(word("sb r1 r2 3"), Ok(0xA041_0003));
+        assert_eq!(word("sh r1 r2 2"), Ok(0xA441_0002));
         assert_eq!(word("slsi r1 r2 -1"), Ok(28 << 26 | 2 << 21 | 1 << 16 | 0xFFFF));
         assert_eq!(word("sls r1 r2 r3"), Ok(2 << 21 | 3 << 16 | 1 << 11 | 44));
         assert!(word("addi r1 r32 5").unwrap_err().contains("r32"));

@@ -210,6 +210,7 @@ fn house_files() {
         ("run of 0 steps", "partition pages steps mode dpc pc\n0 1 0 0 0 4\n".into()),
         ("run of 1,000,001 steps", "refused 14 0\n".into()),
         ("wrong q and too long a run", "refused 3 0\n".into()),
+        ("bytes make an address", "partition pages steps mode dpc pc\n0 1 7 0 4664 4668\n".into()),
         (
             "tickets until one is refused",
             "partition pages steps mode dpc pc\n0 1 101 0 20 16\n1 1 101 0 20 16\n".into(),

@@ -5,7 +5,7 @@ use std::collections::{BTreeMap, BTreeSet};
 use emulator::counts::Counts;
 use emulator::dlx::{decode, Guest, Instruction};
 use emulator::fields;
-use emulator::generate::{files, scripts, Script, ANSWERS_EACH, SCRIPT_NUMBERS};
+use emulator::generate::{files, scripts, Script, ANSWERS_EACH, PARTS_EACH, SCRIPT_NUMBERS};
 
 use emulator::house::{numbers, House, HOUSE_FRAME};
 use emulator::housefile::night;
@@ -41,6 +41,16 @@ fn the_default_run_reaches_every_rule() {
     assert!(counts.fills.all >= 3_000 && counts.fills.above >= 1_000, "{:?}", counts.fills);
     let emptied = [counts.emptied_by_store, counts.emptied_by_special, counts.emptied_by_call];
     assert!(emptied.iter().all(|count| count.all >= 300 && count.above >= 100), "{emptied:?}");
+}
+
+#[test]
+fn the_default_run_has_bytes_and_half_words() {
+    let counts = counts_of(&scripts(SEED, STEPS));
+    assert_eq!(PARTS_EACH, 5_000);
+    assert!(counts.parts().iter().all(|&(_, done)| done >= PARTS_EACH), "{:?}", counts.parts());
+    assert!(counts.odd_halves >= 300, "{}", counts.odd_halves);
+    assert!(counts.odd_faults >= 300, "{}", counts.odd_faults);
+    assert!(counts.emptied_by_part >= 1_000, "{}", counts.emptied_by_part);
 }
 
 /// PC is not DPC + 4: in programs behind a jump or branch, and where rfe comes back to that; in
@@ -192,6 +202,8 @@ fn row(instruction: Instruction) -> String {
             format!("jump {} {link}", kind.split('(').next().unwrap_or_default())
         }
         Instruction::Branch { on_zero, .. } => format!("branch {on_zero}"),
+        Instruction::Load { width, signed, .. } => format!("load {width:?} {signed}"),
+        Instruction::Store { width, .. } => format!("store {width:?}"),
         Instruction::Trap { imm: SEND } => "send".into(),
         Instruction::Trap { imm: TAKE } => "take".into(),
         other => format!("{other:?}").split(' ').next().unwrap_or_default().to_string(),
@@ -225,8 +237,9 @@ fn every_instruction_is_met_in_both_modes() {
         let next = next_instruction(player);
         met.extend(next.map(|instruction| (current(player).user(), row(instruction))));
     });
-    // 13 operations in two forms, lhgi, lw, sw, 2 branches, 4 jumps, trap, send, take, rfe, 2 moves.
-    assert_eq!(met.len(), 2 * (26 + 3 + 2 + 4 + 4 + 2), "{met:?}");
+    // 13 operations in two forms, lhgi, 5 loads, 3 stores, 2 branches, 4 jumps, trap, send, take,
+    // rfe, 2 moves.
+    assert_eq!(met.len(), 2 * (26 + 1 + 5 + 3 + 2 + 4 + 4 + 2), "{met:?}");
 }
 
 #[test]
@@ -321,5 +334,5 @@ fn next_instruction(player: &Player) -> Option<Instruction> {
     }
     let counts = &mut Counts::default();
     let place = space.locate(player.lent(), table, guest.dpc, Access::Load, counts)?;
-    decode(space.load(player.lent(), place))
+    decode(space.word(player.lent(), place))
 }

@@ -14,8 +14,8 @@ use crate::tickets::{SEND, TAKE};
 
 /// Code ends before this word of a page; from here on pages hold data.
 const DATA_WORD: u32 = 768;
-/// Accesses begin no later, so that short loops over words stay in the page.
-const LAST_DATA_WORD: u32 = 980;
+/// Accesses begin no later, so that short loops stay in the page.
+const LAST_DATA_WORD: u32 = 970;
 /// Where the handler counts interrupts, in page 0.
 const COUNTER: u32 = 4 * 760;
 /// First word of the code for user mode. If the table is in the same page, no page of user addresses
@@ -428,8 +428,8 @@ impl Writer<'_> {
             18..=25 => self.overflow(code),
             26..=42 => self.access(code),
             43..=48 => self.change_in_a_loop(code),
-            49..=61 => self.sweep(code),
-            62..=67 => self.counted(code),
+            49..=65 => self.sweep(code),
+            66..=67 => self.counted(code),
             68..=73 => self.forward(code),
             74..=78 => self.subroutine(code),
             79..=81 => code.push(&[trap(self.rng.word())]),
@@ -490,8 +490,9 @@ impl Writer<'_> {
         let imm = (4 * self.rng.below(16)).wrapping_sub(32);
         code.constant(pointer, self.address().wrapping_sub(imm));
         for _ in 0..self.rng.between(1, 3) {
-            let op = self.rng.pick(&[opcode::LW, opcode::SW]);
-            code.push(&[i_type(op, self.rng.below(13), pointer, imm)]);
+            let op = self.rng.pick(&words::ACCESS);
+            let byte = words::byte(self.rng, op);
+            code.push(&[i_type(op, self.rng.below(13), pointer, imm.wrapping_add(byte))]);
         }
     }
 
@@ -534,17 +535,27 @@ impl Writer<'_> {
         }
     }
 
-    /// A loop that loads, changes and stores a word on each of several pages.
+    /// A loop that loads, changes and stores a word, half word or byte on each of several pages, or
+    /// several of them in a row.
     fn sweep(&mut self, code: &mut Code) {
         let (count, pointer, stride) = self.loop_registers();
-        code.constant(pointer, self.sweep_start());
-        let (step, most) = self.rng.pick(&[(4_096, 5), (4_096, 5), (4, 30), (8, 20)]);
+        let (load, store) = self.rng.pick(&[
+            (opcode::LW, opcode::SW),
+            (opcode::LB, opcode::SB),
+            (opcode::LBU, opcode::SB),
+            (opcode::LH, opcode::SH),
+            (opcode::LHU, opcode::SH),
+        ]);
+        let width = words::width(load);
+        code.constant(pointer, self.sweep_start() + width * self.rng.below(4 / width));
+        let row = if width == 4 { 30 } else { 90 };
+        let (step, most) = self.rng.pick(&[(4_096, 5), (4_096, 5), (width, row), (3 * width, 12)]);
         code.constant(stride, step);
         code.constant(count, self.rng.between(2, most));
         let (value, top) = (self.rng.between(1, 12), code.here());
-        code.push(&[lw(value, pointer, 0), addi(value, value, self.rng.below(9))]);
+        code.push(&[i_type(load, value, pointer, 0), addi(value, value, self.rng.below(99))]);
         self.maybe_compute(code);
-        code.push(&[sw(value, pointer, 0), i_type(opcode::SUBI, count, count, 1)]);
+        code.push(&[i_type(store, value, pointer, 0), i_type(opcode::SUBI, count, count, 1)]);
         let slot = r_type(function::ADD, pointer, pointer, stride);
         code.branch_back(opcode::BNEZ, count, top, slot);
     }
@@ -607,17 +618,20 @@ impl Writer<'_> {
     /// can have; its registers are set before it.
     fn interrupted(&mut self, code: &mut Code) -> u32 {
         let pointer = self.loop_registers().1;
-        let access = i_type(self.rng.pick(&[opcode::LW, opcode::SW]), 9, pointer, 0);
         match self.rng.below(10) {
             0 if self.user => self.rng.pick(&[rfe(), movs2i(9, ECA), movi2s(EPC, 9)]),
             0 | 1 => words::ill(self.rng),
             2 | 3 => {
-                code.constant(pointer, self.address() & !3 | self.rng.between(1, 3));
-                access
+                let op =
+                    self.rng.pick(&[opcode::LW, opcode::SW, opcode::LH, opcode::LHU, opcode::SH]);
+                let odd = if words::width(op) == 2 { [1, 3, 1] } else { [1, 2, 3] };
+                code.constant(pointer, self.address() & !3 | self.rng.pick(&odd));
+                i_type(op, 9, pointer, 0)
             }
             4 | 5 => {
-                code.constant(pointer, self.faulting_address());
-                access
+                let op = self.rng.pick(&words::ACCESS);
+                code.constant(pointer, self.faulting_address() + words::byte(self.rng, op));
+                i_type(op, 9, pointer, 0)
             }
             6 | 7 => trap(self.rng.word()),
             _ => {
@@ -656,16 +670,29 @@ impl Writer<'_> {
     }
 
     /// A store into the table: in system mode at its address, in user mode through the window.
-    /// Often it is the entry of the code's own page.
+    /// Often it is the entry of the code's own page, and often a part of an entry only.
     fn change_table(&mut self, code: &mut Code) {
         let (px, entry) = self.rng.pick(&self.plan.entries);
         let own = self.rng.chance(30);
         let px = if own { self.plan.code_px } else { px };
         let address =
             if self.user { 4_096 * self.plan.window + 4 * px } else { self.plan.entry_address(px) };
-        code.constant(11, address);
-        code.constant(12, if own { self.code_entry() } else { self.changed(entry) });
-        code.push(&[sw(12, 11, 0)]);
+        let entry = if own { self.code_entry() } else { self.changed(entry) };
+        let (op, byte) = self.entry_part();
+        code.constant(11, address + byte);
+        code.constant(12, entry >> (8 * byte));
+        code.push(&[i_type(op, 12, 11, 0)]);
+    }
+
+    /// A store's opcode and the first byte of a table entry that it writes; often the byte that has
+    /// the bits for valid and protected.
+    fn entry_part(&mut self) -> (u32, u32) {
+        match self.rng.below(6) {
+            0 => (opcode::SB, self.rng.below(4)),
+            1 => (opcode::SB, 1),
+            2 => (opcode::SH, self.rng.pick(&[0, 0, 2])),
+            _ => (opcode::SW, 0),
+        }
     }
 
     /// A loop that changes an entry of the table and uses the page at once.
@@ -677,13 +704,15 @@ impl Writer<'_> {
         } else {
             (self.plan.entry_address(0), 4_096 * self.plan.table)
         };
-        code.constant(11, table + 4 * px);
+        let (op, byte) = self.entry_part();
+        code.constant(11, table + 4 * px + byte);
         code.constant(pointer, data + self.data_offset());
-        code.constant(value, entry(self.rng.below(self.plan.pages), false));
+        code.constant(value, entry(self.rng.below(self.plan.pages), false) >> (8 * byte));
         code.constant(count, self.rng.between(3, 12));
-        let flip = self.rng.pick(&[0, PROTECTED, VALID, 0x1000]);
+        let flip = self.rng.pick(&[0, PROTECTED, VALID, 0x1000]) >> (8 * byte);
         let top = code.here();
-        code.push(&[sw(value, 11, 0), lw(9, pointer, 0), addi(9, 9, 1), sw(9, pointer, 0)]);
+        code.push(&[i_type(op, value, 11, 0)]);
+        code.push(&[lw(9, pointer, 0), addi(9, 9, 1), sw(9, pointer, 0)]);
         code.push(&[i_type(opcode::SUBI, count, count, 1)]);
         code.branch_back(opcode::BNEZ, count, top, i_type(opcode::XORI, value, value, flip));
     }

@@ -163,8 +163,9 @@ fn set_registers(draft: &mut Draft, partition: u32, word: u32) {
     let value = words::value(&mut draft.rng);
     set_register(draft, partition, rs2, value);
     let value = match decode(word) {
-        Some(Instruction::Lw { imm, .. } | Instruction::Sw { imm, .. }) => {
-            data_address(draft, partition).wrapping_sub(imm)
+        Some(Instruction::Load { imm, .. } | Instruction::Store { imm, .. }) => {
+            let byte = words::byte(&mut draft.rng, word >> 26);
+            data_address(draft, partition).wrapping_add(byte).wrapping_sub(imm)
         }
         Some(Instruction::Jump { .. }) => 4 * draft.rng.below(8_000) + u32::from(value == 1),
         _ => words::value(&mut draft.rng),

@@ -8,9 +8,32 @@ use crate::tickets::{SEND, TAKE};
 pub const IMMEDIATE: [u32; 14] = [8, 10, 12, 13, 14, 15, 24, 25, 26, 27, 28, 29, 30, 31];
 /// Functions that work out RD from RS1 and RS2.
 pub const REGISTER: [u32; 13] = [32, 34, 36, 37, 38, 40, 41, 42, 43, 44, 45, 46, 47];
-/// Values at which arithmetic and comparisons change their answer.
-const EDGES: [u32; 10] =
-    [0, 1, 2, 4, u32::MAX, 0x7FFF_FFFF, 0x8000_0000, 0x8000_0001, 0x7FFF, 0xFFFF_8000];
+/// Opcodes of loads and stores.
+pub const ACCESS: [u32; 8] = [
+    opcode::LB,
+    opcode::LH,
+    opcode::LW,
+    opcode::LBU,
+    opcode::LHU,
+    opcode::SB,
+    opcode::SH,
+    opcode::SW,
+];
+/// Values at which arithmetic, comparisons and extended signs change their answer.
+const EDGES: [u32; 12] = [
+    0,
+    1,
+    2,
+    4,
+    u32::MAX,
+    0x7FFF_FFFF,
+    0x8000_0000,
+    0x8000_0001,
+    0x7FFF,
+    0xFFFF_8000,
+    0x8080,
+    0x7F80_7F7F,
+];
 
 /// A value for a register: an edge, a small number, or any word.
 pub fn value(rng: &mut Rng) -> u32 {
@@ -37,6 +60,25 @@ pub fn register(rng: &mut Rng) -> u32 {
         0 => rng.below(32),
         1 => 31,
         _ => rng.below(13),
+    }
+}
+
+/// How many bytes a load or store has, by its opcode.
+pub fn width(opcode: u32) -> u32 {
+    match opcode {
+        opcode::LB | opcode::LBU | opcode::SB => 1,
+        opcode::LH | opcode::LHU | opcode::SH => 2,
+        _ => 4,
+    }
+}
+
+/// A byte of a word for a load or store of this opcode; rarely one at which it is misaligned.
+pub fn byte(rng: &mut Rng, opcode: u32) -> u32 {
+    let width = width(opcode);
+    if rng.chance(4) {
+        rng.below(4)
+    } else {
+        width * rng.below(4 / width)
     }
 }
 
@@ -70,7 +112,7 @@ pub fn ill(rng: &mut Rng) -> u32 {
     match rng.below(6) {
         0 => 0,
         1 => r_type(rng.pick(&[33, 35, 39, 0, 1, 15, 18, 31, 48, 63]), 1, 2, 3),
-        2 => i_type(rng.pick(&[1, 6, 7, 9, 11, 16, 21, 32, 34, 36, 42, 44, 61]), 1, 2, 4),
+        2 => i_type(rng.pick(&[1, 6, 7, 9, 11, 16, 21, 34, 38, 39, 42, 44, 61]), 1, 2, 4),
         3 => movs2i(register(rng), above),
         4 => movi2s(above, register(rng)),
         _ => rng.word() & 0x03FF_FFC0 | 50,
@@ -92,7 +134,7 @@ pub fn instruction(rng: &mut Rng) -> u32 {
     let (a, b) = (register(rng), register(rng));
     match rng.below(100) {
         0..=39 => compute(rng),
-        40..=59 => i_type(rng.pick(&[opcode::LW, opcode::SW]), a, b, immediate(rng)),
+        40..=59 => i_type(rng.pick(&ACCESS), a, b, immediate(rng)),
         60..=69 => i_type(rng.pick(&[opcode::BEQZ, opcode::BNEZ]), a, b, short),
         70..=74 => j_type(rng.pick(&[opcode::J, opcode::JAL]), short),
         75 => j_type(rng.pick(&[opcode::J, opcode::JAL]), rng.word()),
