@@ -5,8 +5,7 @@ use Prim.{Unit, tt}
 use Prim.Native.Nat.{ℕ, zero, suc, _+_, _<_}
 use native.Mathlib.Omega.{arith}
 use lib.ListN.{length, getD, length-append, List·getD-append}
-use Rattle.dlx.specs.Machine.{Ops, Core, accessed, handed, fetched, settled, retabled, step, steps, Request, nothing, sends, takes, requestOf, asked, reply}
-use Rattle.dlx.specs.declared.partition.Processor.{Processor}
+use Rattle.dlx.specs.Machine.{Ops, Core, accessed, fetched, settled, retabled, step, steps, Request, nothing, sends, takes, requestOf, asked, reply}
 use Rattle.dlx.specs.declared.execute.Change.{Change}
 use Rattle.dlx.specs.declared.execute.Effect.{Effect}
 use Rattle.dlx.specs.declared.execute.Effect.the-variants.{Done, Load, Store, Send, Take}
@@ -18,31 +17,21 @@ Silent nothing = Unit
 Silent (sends v to) = ⊥
 Silent takes = ⊥
 
-unhanded : (a b : Reply) (e : Effect) (c : Core) → Silent (requestOf e) → handed e a c ≡ handed e b c
-unfolding handed requestOf
-unhanded a b (Done x) c h = refl
-unhanded a b (Load d x o) c h = refl
-unhanded a b (Store o x v) c h = refl
-unhanded a b (Send v to) c h = refl
-unhanded a b Take c h = absurd h
-
 module _ {S : Type 0} (O : Ops S) where
-  silent : (a b : Reply) (p : Processor) (e : Effect) (s : S) → Silent (requestOf e) → accessed O a p e s ≡ accessed O b p e s
+  silent : (a b : Reply) (c : Core) (e : Effect) (s : S) → Silent (requestOf e) → accessed O a c e s ≡ accessed O b c e s
   unfolding accessed requestOf
-  silent a b p (Done c) s h = refl
-  silent a b p (Load d x o) s h = refl
-  silent a b p (Store o x v) s h = refl
-  silent a b p (Send v to) s h = absurd h
-  silent a b p Take s h = absurd h
+  silent a b c (Done x) s h = refl
+  silent a b c (Load d x o) s h = refl
+  silent a b c (Store o x v) s h = refl
+  silent a b c (Send v to) s h = absurd h
+  silent a b c Take s h = absurd h
 
   pub unasked : (a b : Reply) (m : Core × S) → asked O m ≡ nothing → step O a m ≡ step O b m
   unfolding step asked
   unasked a b m e =
       let n = subst Silent (sym e) tt in
-      let g = accessed O b (m .0 .processor) (fetched O m .0) (fetched O m .1) in
-      ap (λ (x : Change × S). (settled (handed (fetched O m .0) a (m .0)) (x .0), retabled O (x .0) (x .1)))
-      (silent a b (m .0 .processor) (fetched O m .0) (fetched O m .1) n)
-      ∙ ap (λ (c : Core). (settled c (g .0), retabled O (g .0) (g .1))) (unhanded a b (fetched O m .0) (m .0) n)
+      let f = fetched O m in
+      ap (λ (g : (Change × Core) × S). (settled (g .0 .1) (g .0 .0), retabled O (g .0 .0) (g .1))) (silent a b (f .0 .1) (f .0 .0) (f .1) n)
 
   -- feeds that agree so far
   pub steps-same : (f g : ℕ → Reply) (n : ℕ) (m : Core × S) → ((k : ℕ) → k < n → f k ≡ g k) → steps O f n m ≡ steps O g n m

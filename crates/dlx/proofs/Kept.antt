@@ -1,4 +1,4 @@
--- What a step keeps, over any memory that keeps something: every number a word, register 0 zero, MODE and EMODE below 2, 32 registers.
+-- What a step keeps, over any memory that keeps something: every number a word, register 0 zero, MODE and EMODE below 2, 32 registers, the latest fault below 8.
 use mathlib.Core.Path.{_≡_, refl, sym, ap}
 use mathlib.Core.Bool.{Bool, true, false, _&&_}
 use mathlib.Core.List.{List, [], _∷_}
@@ -18,7 +18,7 @@ use Rattle.dlx.specs.Processor.{user, specialOf, withSpecial, wentTo}
 use Rattle.dlx.specs.Interrupts.{unmasked, levelOf, interrupted, returned, savesOld, bringsDatum}
 use Rattle.dlx.specs.Instructions.{instructionOf, registerType, partType, Formed}
 use Rattle.dlx.specs.Execute.{reg, written, valueOf, overflowsOf, operated, reached, loads, stores, inSystem, movedTo, trapOf, effectOf}
-use Rattle.dlx.specs.Machine.{Ops, Core, executed, fetched, loaded, stored, accessed, received, handed, settled, retabled, step, Request, nothing, sends, takes, requestOf, asked}
+use Rattle.dlx.specs.Machine.{Ops, Core, executed, failing, afterRead, afterWrite, fetched, loaded, stored, accessed, received, settled, retabled, step, Request, nothing, sends, takes, requestOf, asked}
 use Rattle.dlx.specs.declared.partition.Table.{Table}
 use Rattle.dlx.specs.declared.partition.Processor.{Processor}
 use Rattle.dlx.specs.declared.instruction.Operation.{Operation}
@@ -139,6 +139,7 @@ pub record Registers (r : List ℕ) : Type 0 where
 pub record Kept (c : Core) : Type 0 where
   pub processor : Numbers (c .processor)
   pub registers : Registers (c .registers)
+  pub fault : c .fault < 8
 
 pub record KeptTable (t : Table) : Type 0 where
   pub pto : t .pto < 2 ^ 32
@@ -159,7 +160,7 @@ KeptEffect (Send v to) = (v < 2 ^ 32) × (to < 2 ^ 32)
 KeptEffect Take = Unit
 
 abbrev pub KeptAccess : Access → Type 0
-KeptAccess Fault = Unit
+KeptAccess (Fault n) = n < 8
 KeptAccess (Word w) = w < 2 ^ 32
 
 abbrev pub KeptRequest : Request → Type 0
@@ -355,74 +356,95 @@ unfolding settled
 settled-kept c (Plain d v target) h k = record {
   processor = went-kept (c .processor) (h .processor) target (k .2);
   registers = written-kept (c .registers) d v (h .registers) (k .1);
+  fault = h .fault;
 }
 settled-kept c (Special n v) h k = record {
   processor = went-kept _ (special-kept (c .processor) (h .processor) n v k) _ (omega arith);
   registers = h .registers;
+  fault = h .fault;
 }
 settled-kept c (Retable t) h k = record {
   processor = went-kept (c .processor) (h .processor) _ (omega arith);
   registers = h .registers;
+  fault = h .fault;
 }
 settled-kept c (Cause causes datum) h k = record {
   processor = interrupted-kept (c .processor) (h .processor) causes datum (k .0) (k .1);
   registers = h .registers;
+  fault = h .fault;
 }
 settled-kept c Return h k = record {
   processor = returned-kept (c .processor) (h .processor);
   registers = h .registers;
+  fault = h .fault;
 }
 
--- a memory that keeps I, whose words and table's registers are words
+-- a memory that keeps I, whose words and table's registers are words, and whose faults are below 8
 pub record Keeps {S : Type 0} (I : S → Type 0) (O : Ops S) : Type 0 where
   pub tables : (s : S) → I s → KeptTable (O .table s)
   pub reads : (s : S) → I s → (u : Bool) (a : ℕ) → KeptAccess (O .read s u a .0) × I (O .read s u a .1)
-  pub writes : (s : S) → I s → (u : Bool) (a : ℕ) (f : ℕ → ℕ) → ((w : ℕ) → w < 2 ^ 32 → f w < 2 ^ 32) → I (O .write s u a f .1)
+  pub writes : (s : S) → I s → (u : Bool) (a : ℕ) (f : ℕ → ℕ) → ((w : ℕ) → w < 2 ^ 32 → f w < 2 ^ 32) → (O .write s u a f .0 < 8) × I (O .write s u a f .1)
   pub retables : (s : S) → I s → (t : Table) → KeptTable t → I (O .retable s t)
 
 module _ {S : Type 0} (I : S → Type 0) (O : Ops S) (K : Keeps I O) where
   executed-kept : (c : Core) (t : Table) (x : Access) → Kept c → KeptTable t → KeptEffect (executed c t x)
   unfolding executed
-  executed-kept c t Fault h k = (omega arith, h .processor .dpc)
+  executed-kept c t (Fault n) h k = (omega arith, h .processor .dpc)
   executed-kept c t (Word w) h k =
       effect-kept (c .processor) t (c .registers) (h .processor) k (h .registers) (instructionOf w) (instruction-formed w)
 
-  fetched-kept : (c : Core) (s : S) → Kept c → I s → KeptEffect (fetched O (c, s) .0) × I (fetched O (c, s) .1)
+  failing-kept : (c : Core) (n : ℕ) → Kept c → n < 8 → Kept (failing c n)
+  failing-kept c n h l = record { processor = h .processor; registers = h .registers; fault = l }
+
+  after-read-kept : (c : Core) (x : Access) → Kept c → KeptAccess x → Kept (afterRead c x)
+  unfolding afterRead
+  after-read-kept c (Fault n) h k = failing-kept c n h k
+  after-read-kept c (Word w) h k = h
+
+  after-write-kept : (c : Core) (n : ℕ) → Kept c → n < 8 → Kept (afterWrite c n)
+  unfolding afterWrite
+  after-write-kept c n h l = either Kept (eqb n 0) (λ _. h) (λ _. failing-kept c n h l)
+
+  abbrev KeptFetch : (Effect × Core) × S → Type 0
+  KeptFetch f = KeptEffect (f .0 .0) × Kept (f .0 .1) × I (f .1)
+
+  fetched-kept : (c : Core) (s : S) → Kept c → I s → KeptFetch (fetched O (c, s))
   unfolding fetched
   fetched-kept c s h i =
       let g = K .reads s i (user (c .processor)) (c .processor .dpc) in
-      either (λ (x : Effect × S). KeptEffect (x .0) × I (x .1)) (aligned 32 (c .processor .dpc))
-      (λ _. (executed-kept c (O .table s) _ h (K .tables s i), g .1))
-      (λ _. ((omega arith, omega arith), i))
+      either KeptFetch (aligned 32 (c .processor .dpc))
+      (λ _. (executed-kept c (O .table s) _ h (K .tables s i), after-read-kept c _ h (g .0), g .1))
+      (λ _. ((omega arith, omega arith), h, i))
 
   loaded-kept : (p : Processor) (d a o : ℕ) (x : Access) → d < 32 → a < 2 ^ 32 → KeptChange (loaded p d a o x)
   unfolding loaded
-  loaded-kept p d a o Fault l h = (omega arith, h)
+  loaded-kept p d a o (Fault n) l h = (omega arith, h)
   loaded-kept p d a o (Word w) l h = (l, brought-word o a w, omega arith)
 
-  stored-kept : (p : Processor) (a : ℕ) (made : Bool) → a < 2 ^ 32 → KeptChange (stored p a made)
+  stored-kept : (p : Processor) (a n : ℕ) → a < 2 ^ 32 → KeptChange (stored p a n)
   unfolding stored
-  stored-kept p a made h =
-      either KeptChange made (λ _. (omega arith, omega arith, omega arith)) (λ _. (omega arith, h))
+  stored-kept p a n h =
+      either KeptChange (eqb n 0) (λ _. (omega arith, omega arith, omega arith)) (λ _. (omega arith, h))
 
-  handed-kept : (y : Reply) → KeptReply y → (e : Effect) (c : Core) → Kept c → Kept (handed e y c)
-  unfolding handed received
-  handed-kept y k (Done x) c h = h
-  handed-kept y k (Load d a o) c h = h
-  handed-kept y k (Store o a v) c h = h
-  handed-kept y k (Send v to) c h = h
-  handed-kept y k Take c h = record {
-    processor = h .processor;
-    registers = either Registers (eqb (y .code) 0) (λ _. written-kept (c .registers) 1 (y .ticket) (h .registers) (k .ticket)) (λ _. h .registers);
-  }
+  received-kept : (y : Reply) → KeptReply y → (r : List ℕ) → Registers r → Registers (received r y)
+  unfolding received
+  received-kept y k r h = either Registers (eqb (y .code) 0) (λ _. written-kept r 1 (y .ticket) h (k .ticket)) (λ _. h)
 
-  accessed-kept : (y : Reply) → KeptReply y → (p : Processor) (e : Effect) (s : S) → KeptEffect e → I s → KeptChange (accessed O y p e s .0) × I (accessed O y p e s .1)
+  abbrev KeptAccessed : (Change × Core) × S → Type 0
+  KeptAccessed g = KeptChange (g .0 .0) × Kept (g .0 .1) × I (g .1)
+
+  accessed-kept : (y : Reply) → KeptReply y → (c : Core) (e : Effect) (s : S) → Kept c → KeptEffect e → I s → KeptAccessed (accessed O y c e s)
   unfolding accessed
-  accessed-kept y k p (Done c) s h i = (h, i)
-  accessed-kept y k p (Send v to) s h i = ((omega arith, k .code, omega arith), i)
-  accessed-kept y k p Take s h i = ((omega arith, k .code, omega arith), i)
-  accessed-kept y k p (Load d a o) s h i = (loaded-kept p d a o _ (h .0) (h .1), K .reads s i (user p) a .1)
-  accessed-kept y k p (Store o a v) s h i = (stored-kept p a _ (h .0), K .writes s i (user p) a (placed o a v) (λ x. placed-word o a v x (h .1)))
+  accessed-kept y k c (Done x) s m h i = (h, m, i)
+  accessed-kept y k c (Send v to) s m h i = ((omega arith, k .code, omega arith), m, i)
+  accessed-kept y k c Take s m h i =
+      ((omega arith, k .code, omega arith), record { processor = m .processor; registers = received-kept y k (c .registers) (m .registers); fault = m .fault }, i)
+  accessed-kept y k c (Load d a o) s m h i =
+      let g = K .reads s i (user (c .processor)) a in
+      (loaded-kept (c .processor) d a o _ (h .0) (h .1), after-read-kept c _ m (g .0), g .1)
+  accessed-kept y k c (Store o a v) s m h i =
+      let g = K .writes s i (user (c .processor)) a (placed o a v) (λ x. placed-word o a v x (h .1)) in
+      (stored-kept (c .processor) a _ (h .0), after-write-kept c _ m (g .0), g .1)
 
   retabled-kept : (c : Change) (s : S) → KeptChange c → I s → I (retabled O c s)
   unfolding retabled
@@ -442,5 +464,5 @@ module _ {S : Type 0} (I : S → Type 0) (O : Ops S) (K : Keeps I O) where
   unfolding step
   step-kept y k c s h i =
       let f = fetched-kept c s h i in
-      let a = accessed-kept y k (c .processor) _ _ (f .0) (f .1) in
-      (settled-kept _ _ (handed-kept y k _ c h) (a .0), retabled-kept _ _ (a .0) (a .1))
+      let a = accessed-kept y k _ _ _ (f .1) (f .0) (f .2) in
+      (settled-kept _ _ (a .1) (a .0), retabled-kept _ _ (a .0) (a .2))

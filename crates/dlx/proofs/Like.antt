@@ -5,9 +5,8 @@ use Prim.Native.Nat.{ℕ, zero, suc}
 use Rattle.dlx.specs.Choice.{if_then_else_}
 use Rattle.dlx.specs.Fields.{aligned, placed}
 use Rattle.dlx.specs.Processor.{user}
-use Rattle.dlx.specs.Machine.{Ops, Core, fetched, accessed, handed, settled, retabled, step, steps, requestOf, asked}
+use Rattle.dlx.specs.Machine.{Ops, Core, fetched, accessed, settled, retabled, step, steps, requestOf, asked}
 use Rattle.dlx.specs.declared.partition.Table.{Table}
-use Rattle.dlx.specs.declared.partition.Processor.{Processor}
 use Rattle.dlx.specs.declared.execute.Change.{Change}
 use Rattle.dlx.specs.declared.execute.Change.the-variants.{Plain, Special, Retable, Cause, Return}
 use Rattle.dlx.specs.declared.execute.Effect.{Effect}
@@ -44,19 +43,19 @@ module _ {S S′ : Type 0} (R : S → S′ → Type 0) (O : Ops S) (O′ : Ops S
   pub asked-like : (m : Core × S) (m′ : Core × S′) → Both R m m′ → asked O m ≡ asked O′ m′
   unfolding asked
   asked-like m m′ b =
-      subst (λ c. requestOf (fetched O m .0) ≡ requestOf (fetched O′ (c, m′ .1) .0)) (b .same)
-      (ap requestOf (fetched-like (m .0) (m .1) (m′ .1) (b .rest) .same))
+      subst (λ c. requestOf (fetched O m .0 .0) ≡ requestOf (fetched O′ (c, m′ .1) .0 .0)) (b .same)
+      (ap (λ (x : Effect × Core). requestOf (x .0)) (fetched-like (m .0) (m .1) (m′ .1) (b .rest) .same))
 
-  accessed-like : (y : Reply) (p : Processor) (e : Effect) (s : S) (s′ : S′) → R s s′ → Both R (accessed O y p e s) (accessed O′ y p e s′)
+  accessed-like : (y : Reply) (c : Core) (e : Effect) (s : S) (s′ : S′) → R s s′ → Both R (accessed O y c e s) (accessed O′ y c e s′)
   unfolding accessed
-  accessed-like y p (Done c) s s′ r = record { same = refl; rest = r }
-  accessed-like y p (Send v to) s s′ r = record { same = refl; rest = r }
-  accessed-like y p Take s s′ r = record { same = refl; rest = r }
-  accessed-like y p (Load d a o) s s′ r =
-      let g = L .reads s s′ r (user p) a in
+  accessed-like y c (Done x) s s′ r = record { same = refl; rest = r }
+  accessed-like y c (Send v to) s s′ r = record { same = refl; rest = r }
+  accessed-like y c Take s s′ r = record { same = refl; rest = r }
+  accessed-like y c (Load d a o) s s′ r =
+      let g = L .reads s s′ r (user (c .processor)) a in
       record { same = rw (g .same); rest = g .rest }
-  accessed-like y p (Store o a v) s s′ r =
-      let g = L .writes s s′ r (user p) a (placed o a v) in
+  accessed-like y c (Store o a v) s s′ r =
+      let g = L .writes s s′ r (user (c .processor)) a (placed o a v) in
       record { same = rw (g .same); rest = g .rest }
 
   retabled-like : (c : Change) (s : S) (s′ : S′) → R s s′ → R (retabled O c s) (retabled O′ c s′)
@@ -67,25 +66,24 @@ module _ {S S′ : Type 0} (R : S → S′ → Type 0) (O : Ops S) (O′ : Ops S
   retabled-like (Cause causes datum) s s′ r = r
   retabled-like Return s s′ r = r
 
-  settled-like : (c : Core) (g : Change × S) (g′ : Change × S′) → Both R g g′ → Both R (settled c (g .0), retabled O (g .0) (g .1)) (settled c (g′ .0), retabled O′ (g′ .0) (g′ .1))
-  settled-like c g g′ b =
-      subst (λ x. Both R (settled c (g .0), retabled O (g .0) (g .1)) (settled c x, retabled O′ x (g′ .1))) (b .same)
-      (record { same = refl; rest = retabled-like (g .0) (g .1) (g′ .1) (b .rest) })
+  settled-like : (g : (Change × Core) × S) (g′ : (Change × Core) × S′) → Both R g g′
+      → Both R (settled (g .0 .1) (g .0 .0), retabled O (g .0 .0) (g .1)) (settled (g′ .0 .1) (g′ .0 .0), retabled O′ (g′ .0 .0) (g′ .1))
+  settled-like g g′ b =
+      subst (λ (x : Change × Core). Both R (settled (g .0 .1) (g .0 .0), retabled O (g .0 .0) (g .1)) (settled (x .1) (x .0), retabled O′ (x .0) (g′ .1))) (b .same)
+      (record { same = refl; rest = retabled-like (g .0 .0) (g .1) (g′ .1) (b .rest) })
 
   -- from the same effect on
-  stepped-like : (y : Reply) (c : Core) (f : Effect × S) (f′ : Effect × S′) → Both R f f′ →
-      let g = accessed O y (c .processor) (f .0) (f .1) in
-      let g′ = accessed O′ y (c .processor) (f′ .0) (f′ .1) in
-      Both R (settled (handed (f .0) y c) (g .0), retabled O (g .0) (g .1)) (settled (handed (f′ .0) y c) (g′ .0), retabled O′ (g′ .0) (g′ .1))
-  stepped-like y c f f′ b =
-      subst (λ (x : Effect). Both R (settled (handed (f .0) y c) (accessed O y (c .processor) (f .0) (f .1) .0), retabled O (accessed O y (c .processor) (f .0) (f .1) .0) (accessed O y (c .processor) (f .0) (f .1) .1)) (settled (handed x y c) (accessed O′ y (c .processor) x (f′ .1) .0), retabled O′ (accessed O′ y (c .processor) x (f′ .1) .0) (accessed O′ y (c .processor) x (f′ .1) .1))) (b .same)
-      (settled-like (handed (f .0) y c) _ _ (accessed-like y (c .processor) (f .0) (f .1) (f′ .1) (b .rest)))
+  stepped-like : (y : Reply) (f : (Effect × Core) × S) (f′ : (Effect × Core) × S′) → Both R f f′
+      → Both R (accessed O y (f .0 .1) (f .0 .0) (f .1)) (accessed O′ y (f′ .0 .1) (f′ .0 .0) (f′ .1))
+  stepped-like y f f′ b =
+      subst (λ (x : Effect × Core). Both R (accessed O y (f .0 .1) (f .0 .0) (f .1)) (accessed O′ y (x .1) (x .0) (f′ .1))) (b .same)
+      (accessed-like y (f .0 .1) (f .0 .0) (f .1) (f′ .1) (b .rest))
 
   pub step-like : (y : Reply) (m : Core × S) (m′ : Core × S′) → Both R m m′ → Both R (step O y m) (step O′ y m′)
   unfolding step
   step-like y m m′ b =
       subst (λ c. Both R (step O y m) (step O′ y (c, m′ .1))) (b .same)
-      (stepped-like y (m .0) _ _ (fetched-like (m .0) (m .1) (m′ .1) (b .rest)))
+      (settled-like _ _ (stepped-like y _ _ (fetched-like (m .0) (m .1) (m′ .1) (b .rest))))
 
   pub steps-like : (feed : ℕ → Reply) (n : ℕ) (m : Core × S) (m′ : Core × S′) → Both R m m′ → Both R (steps O feed n m) (steps O′ feed n m′)
   unfolding steps

@@ -12,7 +12,7 @@ use Rattle.dlx.specs.Instructions.{instructionOf, Formed}
 use Rattle.dlx.specs.Processor.{user}
 use Rattle.dlx.specs.Interrupts.{unmasked}
 use Rattle.dlx.specs.Execute.{written, overflowsOf, operated, reached, loads, stores, inSystem, movedTo, trapOf, effectOf}
-use Rattle.dlx.specs.Machine.{Ops, Core, executed, fetched, loaded, stored, accessed, received, handed, settled, step, Places, Asks}
+use Rattle.dlx.specs.Machine.{Ops, Core, executed, afterRead, afterWrite, fetched, loaded, stored, accessed, received, settled, step, Places, Asks}
 use Rattle.dlx.specs.declared.partition.Table.{Table}
 use Rattle.dlx.specs.declared.partition.Processor.{Processor}
 use Rattle.dlx.specs.declared.instruction.Operation.{Operation}
@@ -68,26 +68,26 @@ effect-places p t r Ill f = tt
 
 executed-places : (c : Core) (t : Table) (x : Access) → Asks (executed c t x)
 unfolding executed
-executed-places c t Fault = tt
+executed-places c t (Fault n) = tt
 executed-places c t (Word w) = effect-places _ t _ (instructionOf w) (instruction-formed w)
 
 module _ {S : Type 0} (O : Ops S) where
-  pub fetched-places : (c : Core) (s : S) → Asks (fetched O (c, s) .0)
+  pub fetched-places : (c : Core) (s : S) → Asks (fetched O (c, s) .0 .0)
   unfolding fetched
   fetched-places c s =
-      either (λ (g : Effect × S). Asks (g .0)) (aligned 32 (c .processor .dpc)) (λ _. executed-places c _ _) (λ _. tt)
+      either (λ (g : (Effect × Core) × S). Asks (g .0 .0)) (aligned 32 (c .processor .dpc)) (λ _. executed-places c _ _) (λ _. tt)
 
-  pub accessed-places : (y : Reply) (p : Processor) (e : Effect) (s : S) → Asks e → Places (accessed O y p e s .0)
+  pub accessed-places : (y : Reply) (c : Core) (e : Effect) (s : S) → Asks e → Places (accessed O y c e s .0 .0)
   unfolding accessed loaded stored
-  accessed-places y p (Done c) s h = h
-  accessed-places y p (Send v to) s h = omega arith
-  accessed-places y p Take s h = omega arith
-  accessed-places y p (Load d a o) s h = go (O .read s (user p) a .0)
+  accessed-places y c (Done x) s h = h
+  accessed-places y c (Send v to) s h = omega arith
+  accessed-places y c Take s h = omega arith
+  accessed-places y c (Load d a o) s h = go (O .read s (user (c .processor)) a .0)
     where
-      go : (x : Access) → Places (loaded p d a o x)
-      go Fault = tt
+      go : (x : Access) → Places (loaded (c .processor) d a o x)
+      go (Fault n) = tt
       go (Word w) = h .0
-  accessed-places y p (Store o a v) s h = either Places (O .write s (user p) a (placed o a v) .0) (λ _. omega arith) (λ _. tt)
+  accessed-places y c (Store o a v) s h = either Places (eqb (O .write s (user (c .processor)) a (placed o a v) .0) 0) (λ _. omega arith) (λ _. tt)
 
 -- ---- how many registers there are
 
@@ -103,16 +103,29 @@ settled-count c (Retable t) = refl
 settled-count c (Cause causes datum) = refl
 settled-count c Return = refl
 
-pub handed-count : (e : Effect) (y : Reply) (c : Core) → length (handed e y c .registers) ≡ length (c .registers)
-unfolding handed received
-handed-count (Done x) y c = refl
-handed-count (Load d a o) y c = refl
-handed-count (Store o a v) y c = refl
-handed-count (Send v to) y c = refl
-handed-count Take y c =
-    either (λ (l : List ℕ). length l ≡ length (c .registers)) (eqb (y .code) 0) {x = written (c .registers) 1 (y .ticket)} {y = c .registers}
-    (λ _. written-count (c .registers) 1 (y .ticket)) (λ _. refl)
+after-read-count : (c : Core) (x : Access) → length (afterRead c x .registers) ≡ length (c .registers)
+unfolding afterRead
+after-read-count c (Fault n) = refl
+after-read-count c (Word w) = refl
+
+pub fetched-count : {S : Type 0} (O : Ops S) (c : Core) (s : S) → length (fetched O (c, s) .0 .1 .registers) ≡ length (c .registers)
+unfolding fetched
+fetched-count {S = S} O c s =
+    either (λ (g : (Effect × Core) × S). length (g .0 .1 .registers) ≡ length (c .registers)) (aligned 32 (c .processor .dpc)) (λ _. after-read-count c _) (λ _. refl)
+
+pub received-count : (r : List ℕ) (y : Reply) → length (received r y) ≡ length r
+unfolding received
+received-count r y =
+    either (λ (l : List ℕ). length l ≡ length r) (eqb (y .code) 0) {x = written r 1 (y .ticket)} {y = r} (λ _. written-count r 1 (y .ticket)) (λ _. refl)
+
+pub accessed-count : {S : Type 0} (O : Ops S) (y : Reply) (c : Core) (e : Effect) (s : S) → length (accessed O y c e s .0 .1 .registers) ≡ length (c .registers)
+unfolding accessed afterWrite
+accessed-count O y c (Done x) s = refl
+accessed-count O y c (Load d a o) s = after-read-count c _
+accessed-count O y c (Store o a v) s = either (λ (x : Core). length (x .registers) ≡ length (c .registers)) (eqb (O .write s (user (c .processor)) a (placed o a v) .0) 0) (λ _. refl) (λ _. refl)
+accessed-count O y c (Send v to) s = refl
+accessed-count O y c Take s = received-count (c .registers) y
 
 pub step-count : {S : Type 0} (O : Ops S) (y : Reply) (c : Core) (s : S) → length (step O y (c, s) .0 .core .registers) ≡ length (c .registers)
 unfolding step
-step-count O y c s = settled-count _ _ ∙ handed-count _ y c
+step-count O y c s = settled-count _ _ ∙ accessed-count O y _ _ _ ∙ fetched-count O c s

@@ -26,8 +26,8 @@ inside s a = ltb (a / 4) (length (s .words))
 abbrev flat : Ops Flat
 flat = record {
   table = λ s. s .table;
-  read = λ s u a. (if inside s a then Word (getD (s .words) (a / 4) 0) else Fault, s);
-  write = λ s u a f. (inside s a, record { table = s .table; words = set (s .words) (a / 4) (f (getD (s .words) (a / 4) 0)) });
+  read = λ s u a. (if inside s a then Word (getD (s .words) (a / 4) 0) else Fault 5, s);
+  write = λ s u a f. (if inside s a then 0 else 6, record { table = s .table; words = set (s .words) (a / 4) (f (getD (s .words) (a / 4) 0)) });
   retable = λ s t. record { table = t; words = s .words };
 }
 
@@ -59,11 +59,11 @@ memory ws = record { table = record { pto = 97; ptl = 98 }; words = ws }
 
 -- one step of the word w at address 0
 unfoldable pub once : Processor → List ℕ → ℕ → Outcome × Flat
-once p r w = step flat (reply 0 0) (core p r, memory (w ∷ []))
+once p r w = step flat (reply 0 0) (core p r 3, memory (w ∷ []))
 
 -- n steps from boot with the program ws at address 0
 unfoldable pub booted : ℕ → List ℕ → Core × Flat
-booted n ws = steps flat (λ _. reply 0 0) n (core freshProcessor zeros, memory ws)
+booted n ws = steps flat (λ _. reply 0 0) n (core freshProcessor zeros 0, memory ws)
 
 -- ---- what is looked at
 
@@ -119,7 +119,7 @@ papers =
     ∷ interrupt (once (at 0 4 64 0) (both 0x7FFFFFFF 1) 0x00221820) 64 4 8 95 64 0
     ∷ eqb (r 3 (once (at 0 4 64 0) (both 0x7FFFFFFF 1) 0x00221820)) 0
     -- 0x1000FFFC at DPC 8, PC 12: DPC 12, PC 8
-    ∷ pair (step flat (reply 0 0) (core (at 8 12 0 0) zeros, memory (0 ∷ 0 ∷ 0x1000FFFC ∷ []))) 12 8
+    ∷ pair (step flat (reply 0 0) (core (at 8 12 0 0) zeros 3, memory (0 ∷ 0 ∷ 0x1000FFFC ∷ []))) 12 8
     -- causes 3 and 6 (72): level 3; the level of 0 is 32
     ∷ eqb (levelOf 72) 3
     ∷ eqb (levelOf 0) 32
@@ -146,8 +146,8 @@ noted s ws n = record { table = s .table; words = ws; seen = n ∷ s .seen }
 abbrev watched : Ops Watched
 watched = record {
   table = λ s. s .table;
-  read = λ s u a. (if within s a then Word (getD (s .words) (a / 4) 0) else Fault, noted s (s .words) (a + boolByte u));
-  write = λ s u a f. (within s a, noted s (set (s .words) (a / 4) (f (getD (s .words) (a / 4) 0))) (a + 2 + boolByte u));
+  read = λ s u a. (if within s a then Word (getD (s .words) (a / 4) 0) else Fault 5, noted s (s .words) (a + boolByte u));
+  write = λ s u a f. (if within s a then 0 else 6, noted s (set (s .words) (a / 4) (f (getD (s .words) (a / 4) 0))) (a + 2 + boolByte u));
   retable = λ s t. record { table = t; words = s .words; seen = 1 ∷ s .seen };
 }
 
@@ -184,7 +184,7 @@ j-word opcode i = opcode * 2 ^ 26 + i
 
 -- one step of the word w at address 8, with an answer that only a ticket may use
 unfoldable pub tried : Processor → List ℕ → ℕ → Outcome × Watched
-tried p rs w = step watched (reply 0 77) (core p rs, record { table = tables; words = around w; seen = [] })
+tried p rs w = step watched (reply 0 77) (core p rs 3, record { table = tables; words = around w; seen = [] })
 
 -- The whole state after a step: the processor's numbers, PTO and PTL, whether the guest calls, the accesses, the registers and the words.
 unfoldable pub leaves : Outcome × Watched → List ℕ → ℕ → ℕ → ℕ → List ℕ → List ℕ → List ℕ → Bool
@@ -477,7 +477,7 @@ becomes n x ps = moves (at 8 20 64 0) n x ps 97 98 (8 ∷ [])
 -- the accesses of two steps: a movi2s of x to special n, and the step behind it
 unfoldable pub behind-it : ℕ → ℕ → List ℕ
 behind-it n x =
-    steps watched (λ _. reply 0 77) 2 (core (at 8 20 64 0) (given x 219), record { table = tables; words = around (s-word 17 n); seen = [] })
+    steps watched (λ _. reply 0 77) 2 (core (at 8 20 64 0) (given x 219) 3, record { table = tables; words = around (s-word 17 n); seen = [] })
     .1 .seen
 
 unfoldable pub specials : List Bool
@@ -522,9 +522,9 @@ specials =
     ∷ same (numbers (withSpecial (at 8 20 64 0) 3 0xFEDCBA98)) (8 ∷ 20 ∷ 64 ∷ 91 ∷ 92 ∷ 0xFEDCBA98 ∷ 100 ∷ 95 ∷ 0 ∷ 1 ∷ [])
     ∷ same (numbers (withSpecial (at 8 20 64 0) 7 0xFEDCBA98)) (8 ∷ 20 ∷ 64 ∷ 91 ∷ 92 ∷ 96 ∷ 100 ∷ 95 ∷ 0 ∷ 1 ∷ [])
     ∷ same (numbers (withSpecial (at 8 20 64 0) 8 0xFEDCBA98)) (8 ∷ 20 ∷ 64 ∷ 91 ∷ 92 ∷ 96 ∷ 100 ∷ 95 ∷ 0 ∷ 1 ∷ [])
-    -- [boot] all zero but PC = 4
+    -- [boot] all zero but PC = 4, no fault yet
     ∷ same (numbers (freshOf 3 .processor)) (0 ∷ 4 ∷ 0 ∷ 0 ∷ 0 ∷ 0 ∷ 0 ∷ 0 ∷ 0 ∷ 0 ∷ [])
-    ∷ same (freshOf 3 .pages ∷ freshOf 3 .table .pto ∷ freshOf 3 .table .ptl ∷ freshOf 3 .counter ∷ []) (3 ∷ 0 ∷ 0 ∷ 0 ∷ [])
+    ∷ same (freshOf 3 .pages ∷ freshOf 3 .table .pto ∷ freshOf 3 .table .ptl ∷ freshOf 3 .counter ∷ freshOf 3 .fault ∷ []) (3 ∷ 0 ∷ 0 ∷ 0 ∷ 0 ∷ [])
     ∷ []
 
 -- ---- the causes: ECA, EDPC, EPC, EDATA, calls, accesses
@@ -622,7 +622,7 @@ packed w = set (set (around w) 4 0x7F8001FE) 5 0x8013C57A
 
 -- one step of the word w at address 8, with those words
 unfoldable pub packing : Processor → List ℕ → ℕ → Outcome × Watched
-packing p rs w = step watched (reply 0 77) (core p rs, record { table = tables; words = packed w; seen = [] })
+packing p rs w = step watched (reply 0 77) (core p rs 3, record { table = tables; words = packed w; seen = [] })
 
 -- RS1 is x, and RD a word whose bytes differ
 abbrev holding : ℕ → List ℕ
@@ -747,6 +747,27 @@ field-causes =
     ∷ enters (at 8 20 64 0) (given 36 219) (i-word 41 13) 4 8 20 95 0 (8 ∷ [])
     ∷ []
 
+-- ---- the latest translation fault: 3 before the step; here a read outside fails by 5, and a write outside by 6
+
+unfoldable pub latest : Processor → List ℕ → ℕ → ℕ
+latest p rs w = tried p rs w .0 .core .fault
+
+unfoldable pub latests : List Bool
+latests =
+    -- [fault: latest] of a fetch, a load, a load to register 0, a store, a byte loaded and one stored
+    same
+    (latest (at 48 20 64 0) known 0 ∷ latest (at 8 20 0 1) (given 36 219) (i-word 35 12) ∷ latest (at 8 20 64 0) known (35 * 2 ^ 26 + 64)
+    ∷ latest (at 8 20 64 0) (given 36 219) (i-word 43 12) ∷ latest (at 8 20 64 1) (given 36 219) (i-word 36 13) ∷ latest (at 8 20 64 0) (given 36 219) (i-word 40 13) ∷ [])
+    (5 ∷ 5 ∷ 5 ∷ 6 ∷ 5 ∷ 6 ∷ [])
+    -- [fault: nothing else] a load and a store that are made; ill, mal of DPC and of a data address outside, trap, ovf; rfe, movi2s to PTO, a ticket taken
+    ∷ same
+    (latest (at 8 20 64 0) (given 16 219) (i-word 35 12) ∷ latest (at 8 20 64 1) (given 16 219) (i-word 43 12) ∷ latest (at 8 20 64 0) known 0
+    ∷ latest (at 50 20 64 0) known 0 ∷ latest (at 8 20 64 0) (given 49 219) (i-word 35 12) ∷ latest (at 8 20 64 0) known (j-word 62 7)
+    ∷ latest (at 8 20 64 0) (given 0x7FFFFFFF 1) (r-word 32) ∷ latest (at 8 20 64 0) known (j-word 63 0) ∷ latest (at 8 20 64 0) known (s-word 17 7)
+    ∷ latest (at 8 20 64 0) known (j-word 62 257) ∷ [])
+    (3 ∷ 3 ∷ 3 ∷ 3 ∷ 3 ∷ 3 ∷ 3 ∷ 3 ∷ 3 ∷ 3 ∷ [])
+    ∷ []
+
 -- ---- tickets: trap 256 sends, trap 257 takes
 
 -- registers 1, 2 and 3 are x, y and z, all others 0
@@ -755,7 +776,7 @@ trio x y z = set (both x y) 3 z
 
 -- one step of the word w at address 0, where registers 1, 2 and 3 are 7, 1 and 55, with an answer
 unfoldable pub answered : Processor → ℕ → ℕ → ℕ → Outcome × Flat
-answered p w code ticket = step flat (reply code ticket) (core p (trio 7 1 55), memory (w ∷ []))
+answered p w code ticket = step flat (reply code ticket) (core p (trio 7 1 55) 3, memory (w ∷ []))
 
 -- at DPC and PC, all else of the processor as it was; these are the registers; the guest does not call
 unfoldable pub goes-on : Outcome × Flat → ℕ → ℕ → List ℕ → Bool
@@ -776,7 +797,7 @@ told takes = 2 ∷ []
 
 -- by one step of the word w, where registers 1 and 2 are v and to
 unfoldable pub asking : ℕ → ℕ → ℕ → ℕ → List ℕ
-asking mode w v to = told (asked flat (core (at 0 4 0 mode) (both v to), memory (w ∷ [])))
+asking mode w v to = told (asked flat (core (at 0 4 0 mode) (both v to) 3, memory (w ∷ [])))
 
 unfoldable pub tickets : List Bool
 tickets =
@@ -824,7 +845,7 @@ takings = j-word 62 257 ∷ j-word 62 257 ∷ j-word 62 257 ∷ []
 -- up to k steps more, where 10 are made, from DPC 0 and PC 4
 unfoldable pub stretched : ℕ → Stretch Watched (List ℕ)
 stretched k =
-    stretchFrom watched clerk k 10 (core (at 0 4 64 0) known, record { table = tables; words = three; seen = [] }) (60 ∷ 61 ∷ [])
+    stretchFrom watched clerk k 10 (core (at 0 4 64 0) known 3, record { table = tables; words = three; seen = [] }) (60 ∷ 61 ∷ [])
 
 -- how many are made, whether the last one called, the processor, the accesses, the desk and the registers after them
 unfoldable pub ends : ℕ → ℕ → ℕ → List ℕ → List ℕ → List ℕ → List ℕ → Bool
@@ -836,7 +857,7 @@ ends k made called ps seen desk rs =
 -- n steps of three takes, answered by the step's number: the code n, the ticket 70 + n; the registers and the accesses
 unfoldable pub fed : ℕ → List ℕ → List ℕ → Bool
 fed n rs seen =
-    let m = steps watched (λ n. reply n (70 + n)) n (core (at 0 4 64 0) known, record { table = tables; words = takings; seen = [] }) in
+    let m = steps watched (λ n. reply n (70 + n)) n (core (at 0 4 64 0) known 3, record { table = tables; words = takings; seen = [] }) in
     same (m .0 .registers) rs && same (m .1 .seen) seen && same (numbers (m .0 .processor)) (numbers (at (4 * n) (4 * n + 4) 64 0))
 
 unfoldable pub stretches : List Bool

@@ -24,21 +24,24 @@ use Rattle.dlx.specs.declared.execute.Reply.{Reply}
 -- ---- the memory
 
 -- A memory with states S. An access says whether it is made in user mode, and names the word by any byte address in it. It may change the
--- state (a shadow is filled). A write takes an update of the word, and answers whether it was made. `retable` changes PTO and PTL.
+-- state (a shadow is filled). A read answers the word, or the number of the translation's fault; a write takes an update of the word, and answers 0 where it
+-- is made, else that number. `retable` changes PTO and PTL.
 pub record Ops (S : Type 0) : Type 0 where
   pub table : S → Table
   pub read : S → Bool → ℕ → Access × S
-  pub write : S → Bool → ℕ → (ℕ → ℕ) → Bool × S
+  pub write : S → Bool → ℕ → (ℕ → ℕ) → ℕ × S
   pub retable : S → Table → S
 
 -- ---- what a guest is beside its memory, and what a step makes of it
 
+-- `fault`: the latest translation fault by its number, 0 for none yet
 pub record Core : Type 0 where
   pub processor : Processor
   pub registers : List ℕ
+  pub fault : ℕ
 
-abbrev pub core : Processor → List ℕ → Core
-core p r = record { processor = p; registers = r }
+abbrev pub core : Processor → List ℕ → ℕ → Core
+core p r n = record { processor = p; registers = r; fault = n }
 
 -- `calls`: the guest calls the hypervisor, by a trap taken in system mode
 pub record Outcome : Type 0 where
@@ -51,53 +54,57 @@ outcome c b = record { core = c; calls = b }
 -- ---- the step
 
 unfoldable pub executed : Core → Table → Access → Effect
-executed c t Fault = Done (Cause pff (c .processor .dpc))
+executed c t (Fault n) = Done (Cause pff (c .processor .dpc))
 executed c t (Word w) = effectOf (c .processor) t (c .registers) (instructionOf w)
 
+-- the core after an access that was answered so: a fault is its latest, and only a fault changes that
+abbrev pub failing : Core → ℕ → Core
+failing c n = core (c .processor) (c .registers) n
+
+unfoldable pub afterRead : Core → Access → Core
+afterRead c (Fault n) = failing c n
+afterRead c (Word w) = c
+
+unfoldable pub afterWrite : Core → ℕ → Core
+afterWrite c n = if eqb n 0 then c else failing c n
+
 -- the fetch at DPC, and what its word asks for
-unfoldable pub fetched : {S : Type 0} → Ops S → Core × S → Effect × S
+unfoldable pub fetched : {S : Type 0} → Ops S → Core × S → (Effect × Core) × S
 fetched O m =
     let p = m .0 .processor in
     let g = O .read (m .1) (user p) (p .dpc) in
-    if aligned 32 (p .dpc) then (executed (m .0) (O .table (m .1)) (g .0), g .1) else (Done (Cause mal 0), m .1)
+    if aligned 32 (p .dpc) then ((executed (m .0) (O .table (m .1)) (g .0), afterRead (m .0) (g .0)), g .1) else ((Done (Cause mal 0), m .0), m .1)
 
 unfoldable pub loaded : Processor → ℕ → ℕ → ℕ → Access → Change
-loaded p d a o Fault = Cause pfls a
+loaded p d a o (Fault n) = Cause pfls a
 loaded p d a o (Word w) = Plain d (brought o a w) (behind p)
 
-unfoldable pub stored : Processor → ℕ → Bool → Change
-stored p a made = if made then Plain 0 0 (behind p) else Cause pfls a
-
--- the data access; a, the answer, is used where a ticket is sent or taken, and nowhere else: register 3 becomes its code
-unfoldable pub accessed : {S : Type 0} → Ops S → Reply → Processor → Effect → S → Change × S
-accessed O a p (Done c) s = (c, s)
-accessed O a p (Load d x o) s = let g = O .read s (user p) x in (loaded p d x o (g .0), g .1)
-accessed O a p (Store o x v) s = let g = O .write s (user p) x (placed o x v) in (stored p x (g .0), g .1)
-accessed O a p (Send v to) s = (Plain 3 (a .code) (behind p), s)
-accessed O a p Take s = (Plain 3 (a .code) (behind p), s)
+unfoldable pub stored : Processor → ℕ → ℕ → Change
+stored p a n = if eqb n 0 then Plain 0 0 (behind p) else Cause pfls a
 
 -- a ticket taken goes to register 1; on any other answer register 1 stays
 unfoldable pub received : List ℕ → Reply → List ℕ
 received r a = if eqb (a .code) 0 then written r 1 (a .ticket) else r
 
--- the core with what the data access brings it beside a change: a take's ticket
-unfoldable pub handed : Effect → Reply → Core → Core
-handed (Done x) a c = c
-handed (Load d x o) a c = c
-handed (Store o x v) a c = c
-handed (Send v to) a c = c
-handed Take a c = core (c .processor) (received (c .registers) a)
+-- the data access: the change, and the core with what else it brings, a fault or a take's ticket; a, the answer, is used where a ticket is sent or taken, and
+-- nowhere else: register 3 becomes its code
+unfoldable pub accessed : {S : Type 0} → Ops S → Reply → Core → Effect → S → (Change × Core) × S
+accessed O a c (Done x) s = ((x, c), s)
+accessed O a c (Load d x o) s = let g = O .read s (user (c .processor)) x in ((loaded (c .processor) d x o (g .0), afterRead c (g .0)), g .1)
+accessed O a c (Store o x v) s = let g = O .write s (user (c .processor)) x (placed o x v) in ((stored (c .processor) x (g .0), afterWrite c (g .0)), g .1)
+accessed O a c (Send v to) s = ((Plain 3 (a .code) (behind (c .processor)), c), s)
+accessed O a c Take s = ((Plain 3 (a .code) (behind (c .processor)), core (c .processor) (received (c .registers) a) (c .fault)), s)
 
 -- the change of the processor and the registers
 unfoldable pub settled : Core → Change → Outcome
-settled c (Plain d v target) = outcome (core (wentTo (c .processor) target) (written (c .registers) d v)) false
+settled c (Plain d v target) = outcome (core (wentTo (c .processor) target) (written (c .registers) d v) (c .fault)) false
 settled c (Special n v) =
-    outcome (core (wentTo (withSpecial (c .processor) n v) (behind (c .processor))) (c .registers)) false
-settled c (Retable t) = outcome (core (wentTo (c .processor) (behind (c .processor))) (c .registers)) false
+    outcome (core (wentTo (withSpecial (c .processor) n v) (behind (c .processor))) (c .registers) (c .fault)) false
+settled c (Retable t) = outcome (core (wentTo (c .processor) (behind (c .processor))) (c .registers) (c .fault)) false
 settled c (Cause causes datum) =
-    outcome (core (interrupted (c .processor) causes datum) (c .registers))
+    outcome (core (interrupted (c .processor) causes datum) (c .registers) (c .fault))
     (eqb (levelOf causes) 5 && not (user (c .processor)))
-settled c Return = outcome (core (returned (c .processor)) (c .registers)) false
+settled c Return = outcome (core (returned (c .processor)) (c .registers) (c .fault)) false
 
 -- the change of PTO and PTL
 unfoldable pub retabled : {S : Type 0} → Ops S → Change → S → S
@@ -111,8 +118,8 @@ retabled O Return s = s
 unfoldable pub step : {S : Type 0} → Ops S → Reply → Core × S → Outcome × S
 step O a m =
     let f = fetched O m in
-    let g = accessed O a (m .0 .processor) (f .0) (f .1) in
-    (settled (handed (f .0) a (m .0)) (g .0), retabled O (g .0) (g .1))
+    let g = accessed O a (f .0 .1) (f .0 .0) (f .1) in
+    (settled (g .0 .1) (g .0 .0), retabled O (g .0 .0) (g .1))
 
 -- so many steps, fed answers by step number
 unfoldable pub steps : {S : Type 0} → Ops S → (ℕ → Reply) → ℕ → Core × S → Core × S
@@ -134,7 +141,7 @@ requestOf (Send v to) = sends v to
 requestOf Take = takes
 
 unfoldable pub asked : {S : Type 0} → Ops S → Core × S → Request
-asked O m = requestOf (fetched O m .0)
+asked O m = requestOf (fetched O m .0 .0)
 
 abbrev pub reply : ℕ → ℕ → Reply
 reply c t = record { code = c; ticket = t }
@@ -144,8 +151,8 @@ abbrev pub Desk : Type 0 → Type 0
 Desk T = T → Request → Reply × T
 
 -- the data access of a guest at a desk
-abbrev pub accessedAt : {S T : Type 0} → Ops S → Desk T → Core → Effect → S → T → (Core × (Change × S)) × T
-accessedAt O D c e s t = let g = D t (requestOf e) in ((handed e (g .0) c, accessed O (g .0) (c .processor) e s), g .1)
+abbrev pub accessedAt : {S T : Type 0} → Ops S → Desk T → Core → Effect → S → T → ((Change × Core) × S) × T
+accessedAt O D c e s t = let g = D t (requestOf e) in (accessed O (g .0) c e s, g .1)
 
 -- the step of a guest at a desk
 abbrev pub stepAt : {S T : Type 0} → Ops S → Desk T → Core × S → T → (Outcome × S) × T

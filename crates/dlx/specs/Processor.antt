@@ -12,27 +12,30 @@ use Rattle.dlx.specs.declared.partition.Partition.{Partition}
 abbrev pub user : Processor → Bool
 user p = eqb (p .mode) 1
 
--- at boot: all registers zero but PC = 4, the step counter 0
+-- at boot: all registers zero but PC = 4, the step counter 0, no fault yet
 abbrev pub freshProcessor : Processor
 freshProcessor =
     record { dpc = 0; pc = 4; sr = 0; esr = 0; eca = 0; epc = 0; edpc = 0; edata = 0; mode = 0; emode = 0 }
 
 abbrev pub freshOf : ℕ → Partition
-freshOf n = record { pages = n; processor = freshProcessor; table = record { pto = 0; ptl = 0 }; counter = 0 }
+freshOf n = record { pages = n; processor = freshProcessor; table = record { pto = 0; ptl = 0 }; counter = 0; fault = 0 }
 
 -- A partition made from another one is made by these alone.
 
 abbrev pub withPages : Partition → ℕ → Partition
-withPages p v = record { pages = v; processor = p .processor; table = p .table; counter = p .counter }
+withPages p v = record { pages = v; processor = p .processor; table = p .table; counter = p .counter; fault = p .fault }
 
 abbrev pub withProcessor : Partition → Processor → Partition
-withProcessor p v = record { pages = p .pages; processor = v; table = p .table; counter = p .counter }
+withProcessor p v = record { pages = p .pages; processor = v; table = p .table; counter = p .counter; fault = p .fault }
 
 abbrev pub withTable : Partition → Table → Partition
-withTable p v = record { pages = p .pages; processor = p .processor; table = v; counter = p .counter }
+withTable p v = record { pages = p .pages; processor = p .processor; table = v; counter = p .counter; fault = p .fault }
 
 abbrev pub withCounter : Partition → ℕ → Partition
-withCounter p v = record { pages = p .pages; processor = p .processor; table = p .table; counter = v }
+withCounter p v = record { pages = p .pages; processor = p .processor; table = p .table; counter = v; fault = p .fault }
+
+abbrev pub withFault : Partition → ℕ → Partition
+withFault p v = record { pages = p .pages; processor = p .processor; table = p .table; counter = p .counter; fault = v }
 
 -- the special register of number n, at most 9
 unfoldable pub specialOf : Processor → Table → ℕ → ℕ

@@ -32,9 +32,9 @@ pub struct Reply {
     pub ticket: u32,
 }
 
-// What reading a word at an address gives.
+// What reading a word at an address gives: the number of the translation's fault, or the word.
 pub enum Access {
-    Fault,
+    Fault(u32),
     Word(u32),
 }
 

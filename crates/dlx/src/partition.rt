@@ -1,4 +1,4 @@
-// The partition: its page count, its processor, its table's registers and its step counter. Its 32 registers are lent beside it.
+// The partition: its page count, its processor, its table's registers, its step counter and its latest translation fault. Its 32 registers are lent beside it.
 ghost use mathlib.Core.Path.{_≡_};
 ghost use Rattle.dlx.specs.Processor.{freshOf};
 
@@ -27,6 +27,7 @@ pub struct Partition {
     pub processor: Processor,
     pub table: Table,
     pub counter: u64,
+    pub fault: u32,
 }
 
 impl Partition {
@@ -84,6 +85,7 @@ impl Partition {
             },
             table: Table { pto: 0, ptl: 0 },
             counter: 0,
+            fault: 0,
         }
     }
 }

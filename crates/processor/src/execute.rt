@@ -1,7 +1,7 @@
 // An instruction executed: from the processor, the table's registers and the 32 registers to an effect in numbers, and the effect put to work.
 ghost use mathlib.Core.Path.{_≡_};
 ghost use lib.ListN.{length};
-ghost use Prim.Native.Nat.{_<_};
+ghost use Prim.Native.Nat.{ℕ, _<_};
 ghost use Rattle.dlx.specs.Instructions.{Formed};
 ghost use mathlib.Core.Bool.{true, _||_};
 ghost use Rattle.dlx.specs.Choice.{if_then_else_};
@@ -201,10 +201,10 @@ pub fn write(regs: &mut [u32], rd: usize, v: u32)
     }
 }
 
-// A change made of the processor and the registers. What becomes of the table and its shadow is the memory's.
+// A change made of the processor and the registers. What becomes of the table and its shadow is the memory's; the latest fault stays.
 pub fn settle(p: Processor, regs: &mut [u32], c: Change) -> Settled
     requires { ⌜ length (now regs) ≡ 32 ⌝ ∗ ⌜ Places c ⌝ }
-    ensures { λ r. ⌜ outcome (core (r .processor) (now (regs .exit))) (r .calls) ≡ settled (core p (now (regs .entry))) c ⌝ }
+    ensures { λ r. ⌜ ((latest : ℕ) → outcome (core (r .processor) (now (regs .exit)) latest) (r .calls) ≡ settled (core p (now (regs .entry)) latest) c) ⌝ }
 {
     match c {
         Change::Plain(rd, v, target) => {

@@ -46,7 +46,7 @@ level-requires c κs = search needs
 
 returns : tie.Need-returns
 unfolding settled
-returns c = simp (c .before .before .before .interrupt .ensures, eq-eqb _ _ (simp (c .before .before .level .ensures) at (c .before .if1 .taken)), (c .before .before .before .before .before .c3 .given .1))
+returns c = λ _. simp (c .before .before .before .interrupt .ensures, eq-eqb _ _ (simp (c .before .before .level .ensures) at (c .before .if1 .taken)), (c .before .before .before .before .before .c3 .given .1))
 
 enum-told-2 : tie.Need-enum-told-2
 enum-told-2 c = search needs
@@ -59,23 +59,23 @@ same-length c = search needs
 
 returns-2 : tie.Need-returns-2
 unfolding settled
-returns-2 c = simp (c .go .ensures, c .before .before .before .write .ensures, (c .before .before .before .before .before .before .c .given .1))
+returns-2 c = λ _. simp (c .go .ensures, c .before .before .before .write .ensures, (c .before .before .before .before .before .before .c .given .1))
 
 returns-3 : tie.Need-returns-3
 unfolding settled
-returns-3 c = simp (c .go2 .ensures, c .before .wrapping-add-u32 .ensures, c .before .before .set-special .ensures, (c .before .before .before .before .c2 .given .1))
+returns-3 c = λ _. simp (c .go2 .ensures, c .before .wrapping-add-u32 .ensures, c .before .before .set-special .ensures, (c .before .before .before .before .c2 .given .1))
 
 returns-4 : tie.Need-returns-4
 unfolding settled
-returns-4 c = simp (c .go3 .ensures, c .before .wrapping-add-u322 .ensures, (c .before .before .enum-told .given .1))
+returns-4 c = λ _. simp (c .go3 .ensures, c .before .wrapping-add-u322 .ensures, (c .before .before .enum-told .given .1))
 
 returns-5 : tie.Need-returns-5
 unfolding settled
-returns-5 c = simp (c .before .before .interrupt .ensures, ne-eqb _ _ (simp (c .before .level .ensures) at (c .if1 .left)), (c .before .before .before .before .c3 .given .1))
+returns-5 c = λ _. simp (c .before .before .interrupt .ensures, ne-eqb _ _ (simp (c .before .level .ensures) at (c .if1 .left)), (c .before .before .before .before .c3 .given .1))
 
 returns-6 : tie.Need-returns-6
 unfolding settled
-returns-6 c = simp (c .return-from-exception .ensures, (c .before .enum-told2 .given .1))
+returns-6 c = λ _. simp (c .return-from-exception .ensures, (c .before .enum-told2 .given .1))
 
 pub settle-spec : {M : Type 1} → statement M
 settle-spec =
