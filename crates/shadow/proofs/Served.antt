@@ -11,13 +11,13 @@ use lib.Seq.{getD-take, getD-drop}
 use Rattle.dlx.specs.declared.partition.Table.{Table}
 use Rattle.translate.specs.Entries.{number, valid, protection}
 use Rattle.translate.specs.Walk.{entries}
-use Rattle.translate.specs.Memory.{wordIn, updated, Host, host, filled, looked, served, emptied, hostWritten}
+use Rattle.translate.specs.Memory.{wordIn, updated, Host, host, given, filled, looked, served, emptied, hostWritten}
 use Rattle.translate.specs.Premises.{Placed, Shadowed}
 use Rattle.translate.proofs.Entries.{Owned, given-outside, own-inside}
 use Rattle.translate.proofs.Shadow.{served-own}
 
--- a page that no user's address can name
-pub looked-none : (fr : List ℕ) (n : ℕ) (t : Table) (ws sh : List ℕ) (px : ℕ) → length sh ≡ entries → entries ≤ px → looked fr n (host t ws sh) px ≡ (0, host t ws sh)
+-- a page that no user's address can name: its fault
+pub looked-none : (fr : List ℕ) (n : ℕ) (t : Table) (ws sh : List ℕ) (px : ℕ) → length sh ≡ entries → entries ≤ px → looked fr n (host t ws sh) px ≡ (given fr n t ws px, host t ws sh)
 unfolding looked filled
 looked-none fr n t ws sh px l h =
     let e : getD sh px 0 ≡ 0 = List·getD-eq-default sh 0 (omega arith) in
@@ -29,7 +29,7 @@ update-mid a k j xs f l h =
     set-mid-at a k j xs _ h ∙ ap (λ (y : ℕ). set xs (a + j) (f y)) (getD-take k (drop a xs) j 0 l ∙ getD-drop a xs j 0)
 
 -- a store that is made
-pub written-is : (fr : List ℕ) (n : ℕ) (t : Table) (ws ws′ sh sh′ : List ℕ) (e a : ℕ) (f : ℕ → ℕ) → valid e ≡ true → eqb (protection e) 1 ≡ false → ws′ ≡ updated ws (wordIn (number e) a) f → sh′ ≡ emptied fr n t (number e) (a / 4 % 1024) sh → (true, host t ws′ sh′) ≡ hostWritten fr n (host t ws sh) a f e
+pub written-is : (fr : List ℕ) (n : ℕ) (t : Table) (ws ws′ sh sh′ : List ℕ) (e a : ℕ) (f : ℕ → ℕ) → valid e ≡ true → eqb (protection e) 1 ≡ false → ws′ ≡ updated ws (wordIn (number e) a) f → sh′ ≡ emptied fr n t (number e) (a / 4 % 1024) sh → (0, host t ws′ sh′) ≡ hostWritten fr n (host t ws sh) a f e
 unfolding hostWritten
 written-is fr n t ws ws′ sh sh′ e a f h p w s = simp (h, p, w, s)
 

@@ -36,40 +36,40 @@ pub fn compose(entry: u32, pages: u32, access: u32) -> u32
     entry / 4096
 }
 
-// The shadow entry that the guest's table and the host's list give now for page px, or 0.
+// The shadow entry that the guest's table and the host's list give now for page px, or the fault's number.
 fn walk(words: &[u32], frames: &[u32], pages: u32, t: Table, px: u32) -> u32
     requires { ⌜ Placed (now frames) pages (length (now words)) ⌝ }
     ensures { λ r. ⌜ r ≡ given (now (frames .entry)) pages t (now (words .entry)) px ⌝ }
 {
     if px >= t.ptl {
-        return 0;
+        return 1;
     }
     if px >= LIMIT {
-        return 0;
+        return 2;
     }
     let pto = t.pto;
     if pto >= pages {
-        return 0;
+        return 3;
     }
     let entry = words[wide(frames[wide(pto)]) * 1024 + wide(px)];
     if entry / 2048 % 2 != 1 {
-        return 0;
+        return 4;
     }
     let page = entry / 4096;
     if page >= pages {
-        return 0;
+        return 5;
     }
     let frame = frames[wide(page)];
     frame * 4096 + 2048 + entry / 1024 % 2 * 1024
 }
 
-// The entry of the shadow for page px, filled from the guest's table where it is empty; or 0.
+// The entry of the shadow for page px, filled from the guest's table where it is empty; or the fault's number.
 fn look(words: &[u32], frames: &[u32], shadow: &mut [u32], pages: u32, t: Table, px: u32) -> u32
     requires { ⌜ Placed (now frames) pages (length (now words)) ⌝ ∗ ⌜ Shadowed (now frames) pages (now shadow) ⌝ }
     ensures { λ r. ⌜ (r, host t (now (words .entry)) (now (shadow .exit))) ≡ looked (now (frames .entry)) pages (host t (now (words .entry)) (now (shadow .entry))) px ⌝ }
 {
     if px >= LIMIT {
-        return 0;
+        return walk(words, frames, pages, t, px);
     }
     let e = shadow[wide(px)];
     if e / 2048 % 2 == 1 {
@@ -83,20 +83,20 @@ fn look(words: &[u32], frames: &[u32], shadow: &mut [u32], pages: u32, t: Table,
     w
 }
 
-// The entry of a system-mode address, or 0.
+// The entry of a system-mode address, or 7.
 fn straight(frames: &[u32], pages: u32, a: u32) -> u32
     requires { ⌜ Listed (now frames) pages ⌝ }
     ensures { λ r. ⌜ r ≡ hosted (now (frames .entry)) (direct pages a) ⌝ }
 {
     let page = a / 4096;
     if page >= pages {
-        return 0;
+        return 7;
     }
     let frame = frames[wide(page)];
     frame * 4096 + 2048
 }
 
-// The entry that serves an access at address a, or 0.
+// The entry that serves an access at address a, or the fault's number.
 fn serve(
     words: &[u32],
     frames: &[u32],
@@ -115,7 +115,7 @@ fn serve(
     straight(frames, pages, a)
 }
 
-// The word at address a.
+// The word at address a, or the fault's number.
 pub fn load(
     words: &[u32],
     frames: &[u32],
@@ -132,7 +132,7 @@ pub fn load(
     if e / 2048 % 2 == 1 {
         return Access::Word(words[wide(e / 4096) * 1024 + wide(a / 4 % 1024)]);
     }
-    Access::Fault
+    Access::Fault(e)
 }
 
 // The word x after a store of v by an opcode at address a. The opcode's bit 1 tells a word, bit 0 a half word.
@@ -176,7 +176,7 @@ fn empty_entry(frames: &[u32], shadow: &mut [u32], pages: u32, t: Table, frame: 
     shadow[wide(off)] = 0;
 }
 
-// The word at address a after a store of v by an opcode. Answers whether the store was made.
+// The word at address a after a store of v by an opcode. Answers 0 where the store was made, else the fault's number.
 pub fn store(
     words: &mut [u32],
     frames: &[u32],
@@ -187,23 +187,23 @@ pub fn store(
     o: u32,
     a: u32,
     v: u32,
-) -> bool
+) -> u32
     requires { ⌜ Placed (now frames) pages (length (now words)) ⌝ ∗ ⌜ Shadowed (now frames) pages (now shadow) ⌝ ∗ ⌜ storing o ≡ true ⌝ ∗ ⌜ aligned (width o) a ≡ true ⌝ }
     ensures { λ r. ⌜ (r, host t (now (words .exit)) (now (shadow .exit))) ≡ hostWrites (now (frames .entry)) pages (host t (now (words .entry)) (now (shadow .entry))) user a (placed o a v) ⌝ }
 {
     let e = serve(words, frames, shadow, pages, t, user, a);
     if e / 2048 % 2 != 1 {
-        return false;
+        return e;
     }
     if e / 1024 % 2 == 1 {
-        return false;
+        return 6;
     }
     let off = a / 4 % 1024;
     let base = wide(e / 4096) * 1024;
     let end = base + 1024;
     put(&mut words[base..end], wide(off), o, a, v);
     empty_entry(frames, shadow, pages, t, e / 4096, off);
-    true
+    0
 }
 
 // A fresh shadow table.

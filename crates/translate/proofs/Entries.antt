@@ -1,10 +1,10 @@
 -- Laws of entry words, and of what a table and a frame list give: nothing, or a valid entry of an own frame.
-use mathlib.Core.Path.{_≡_, refl, sym, ap}
+use mathlib.Core.Path.{_≡_, refl, sym, ap, _∙_}
 use mathlib.Core.Bool.{Bool, true, false, not, false≢true}
 use mathlib.Core.List.{List}
 use Prim.Native.Nat.{ℕ, _+_, _*_, _/_, _%_, _^_, _<_, _≤_}
 use native.Mathlib.Omega.{arith}
-use borrow.Author.Tests.{ltb-true, leb-false, le-leb, eq-eqb}
+use borrow.Author.Tests.{ltb-true, leb-false, le-leb, eq-eqb, ne-eqb}
 use lib.Dec.{ltb, leb}
 use lib.ListN.{getD, length-replicate}
 use Rattle.dlx.specs.declared.partition.Table.{Table}
@@ -26,7 +26,10 @@ valid-entry f p h = eq-eqb (entryOf f p / 2 ^ 11 % 2) 1 (omega arith)
 pub protection-entry : (f p : ℕ) → p < 2 → protection (entryOf f p) ≡ p
 protection-entry f p h = omega arith
 
--- the empty entry is not valid
+-- neither the empty entry nor a fault is valid
+pub fault-invalid : (x : ℕ) → x < 8 → valid x ≡ false
+fault-invalid x l = ne-eqb (x / 2 ^ 11 % 2) 1 (λ e. omega arith)
+
 pub valid-zero : valid 0 ≡ false
 valid-zero = refl
 
@@ -36,30 +39,30 @@ empty-invalid e = false≢true e
 pub fresh-invalid : (px : ℕ) → valid (getD freshShadow px 0) ≡ true → ⊥
 fresh-invalid px e = empty-invalid (rw (getD-replicate-same entries 0 px) at e)
 
--- ---- what is found lies in the guest's pages
+-- ---- what is found lies in the guest's pages, or is one of the faults
 
 abbrev pub Within : ℕ → Found → Type 0
-Within n fault = Unit
+Within n (fault x) = x < 8
 Within n (found k p) = (k < n) × (p < 2)
 
 pub judged-within : (n e : ℕ) → Within n (judged n e)
 unfolding judged
 judged-within n e =
-    either (Within n) (not (valid e)) (λ _. tt) λ _.
-    either (Within n) (leb n (number e)) (λ _. tt) λ q.
+    either (Within n) (not (valid e)) (λ _. omega arith) λ _.
+    either (Within n) (leb n (number e)) (λ _. omega arith) λ q.
     (leb-false n (number e) q, omega arith)
 
 pub walked-within : (guest : ℕ → ℕ) (n : ℕ) (t : Table) (px : ℕ) → Within n (walked guest n t px)
 unfolding walked
 walked-within guest n t px =
-    either (Within n) (leb (t .ptl) px) (λ _. tt) λ _.
-    either (Within n) (leb entries px) (λ _. tt) λ _.
-    either (Within n) (leb (4096 * n) (entryAddress t px)) (λ _. tt) λ _.
+    either (Within n) (leb (t .ptl) px) (λ _. omega arith) λ _.
+    either (Within n) (leb entries px) (λ _. omega arith) λ _.
+    either (Within n) (leb (4096 * n) (entryAddress t px)) (λ _. omega arith) λ _.
     judged-within n _
 
 pub direct-within : (n a : ℕ) → Within n (direct n a)
 unfolding direct
-direct-within n a = either (Within n) (ltb a (4096 * n)) (λ q. (omega (arith, ltb-true a (4096 * n) q), omega arith)) (λ _. tt)
+direct-within n a = either (Within n) (ltb a (4096 * n)) (λ q. (omega (arith, ltb-true a (4096 * n) q), omega arith)) (λ _. omega arith)
 
 pub found-within : (n : ℕ) (s : Lone) (user : Bool) (a : ℕ) → Within n (loneFound n s user a)
 unfolding loneFound
@@ -88,15 +91,24 @@ Owned fr n e = valid e ≡ true → Own fr n (number e)
 module _ (fr : List ℕ) (n : ℕ) where
   pub hosted-own : (g : Found) → Within n g → Owned fr n (hosted fr g)
   unfolding hosted
-  hosted-own fault h e = absurd (empty-invalid e)
+  hosted-own (fault x) h e = absurd (false≢true (sym (fault-invalid x h) ∙ e))
   hosted-own (found k p) h e = (k, h .0, sym (number-entry (getD fr k 0) p (h .1)))
 
   pub hosted-word : Listed fr n → (g : Found) → Within n g → hosted fr g < 2 ^ 32
   unfolding hosted
-  hosted-word L fault h = omega arith
+  hosted-word L (fault x) h = omega arith
   hosted-word L (found k p) h = omega (arith, L .low k (h .0))
 
-  -- a valid entry that is given names an own frame
+  pub hosted-fault : (g : Found) → Within n g → valid (hosted fr g) ≡ false → hosted fr g < 8
+  unfolding hosted
+  hosted-fault (fault x) h e = h
+  hosted-fault (found k p) h e = absurd (false≢true (sym e ∙ valid-entry (getD fr k 0) p (h .1)))
+
+  -- what is given and not valid is a fault; a valid entry that is given names an own frame
+  pub given-fault : (t : Table) (ws : List ℕ) (px : ℕ) → valid (given fr n t ws px) ≡ false → given fr n t ws px < 8
+  unfolding given
+  given-fault t ws px = hosted-fault _ (walked-within _ n t px)
+
   pub given-own : (t : Table) (ws : List ℕ) (px : ℕ) → Owned fr n (given fr n t ws px)
   unfolding given
   given-own t ws px = hosted-own _ (walked-within _ n t px)
@@ -105,10 +117,10 @@ module _ (fr : List ℕ) (n : ℕ) where
   unfolding given
   given-word L t ws px = hosted-word L _ (walked-within _ n t px)
 
-  -- nothing is given outside the shadow table
-  pub given-outside : (t : Table) (ws : List ℕ) (px : ℕ) → entries ≤ px → given fr n t ws px ≡ 0
+  -- nothing but a fault is given outside the shadow table
+  pub given-outside : (t : Table) (ws : List ℕ) (px : ℕ) → entries ≤ px → valid (given fr n t ws px) ≡ false
   unfolding given walked hosted
-  given-outside t ws px h = either (λ g. hosted fr g ≡ 0) (leb (t .ptl) px) (λ _. refl) (λ _. rw (le-leb entries px h))
+  given-outside t ws px h = either (λ g. valid (hosted fr g) ≡ false) (leb (t .ptl) px) (λ _. refl) (λ _. rw (le-leb entries px h))
 
 -- ---- the premises
 

@@ -1,6 +1,6 @@
 -- Two hosts that agree on a partition's table, shadow and frames answer it alike, whatever else differs and whether its shadow is right or wrong.
 use mathlib.Core.Path.{_≡_, refl, ap}
-use mathlib.Core.Bool.{Bool, true, false, not, _&&_}
+use mathlib.Core.Bool.{Bool, true, false, not}
 use mathlib.Core.List.{List}
 use Prim.Native.Nat.{ℕ, _+_, _*_, _/_, _%_, _<_}
 use native.Mathlib.Omega.{arith}
@@ -12,7 +12,8 @@ use Rattle.dlx.proofs.Like.{Both, Like}
 use Rattle.translate.specs.Entries.{number, valid, protection}
 use Rattle.translate.specs.Memory.{Host, host, hosted, given, filled, looked, served, hostRead, hostWritten, hostReads, hostWrites, emptied, hostMemory}
 use Rattle.translate.specs.Premises.{Placed, Own, Shadowed}
-use Rattle.dlx.proofs.Tests.{either-both, and-left, set-both}
+use borrow.Author.Tests.{not-false}
+use Rattle.dlx.proofs.Tests.{either-both, set-both}
 use Rattle.translate.proofs.Entries.{walked-same, Owned, own-inside, fresh-shadowed}
 use Rattle.translate.proofs.Shadow.{place-page, served-state, served-own, served-shadowed, emptied-shadowed, Untouched, stored-untouched}
 
@@ -92,10 +93,10 @@ module _ {fr base base′ : List ℕ} {n : ℕ} {h h′ : Host} (r : Alike fr n 
         → Both (Alike fr n base base′) (hostWritten fr n h a f e) (hostWritten fr n h′ a f e)
     unfolding hostWritten
     written-same a f e o =
-        either-both (Both (Alike fr n base base′)) (valid e && not (eqb (protection e) 1))
-        (λ q. let m = o (and-left _ _ q) in
-        rw (own-same (number e) (a / 4 % 1024) m (omega arith)) (record { same = refl; rest = stored-alike (number e) (a / 4 % 1024) _ m (omega arith) }))
-        (λ _. record { same = refl; rest = r })
+        either-both (Both (Alike fr n base base′)) (not (valid e)) (λ _. record { same = refl; rest = r }) λ v.
+        either-both (Both (Alike fr n base base′)) (eqb (protection e) 1) (λ _. record { same = refl; rest = r }) λ _.
+        let m = o (not-false _ v) in
+        rw (own-same (number e) (a / 4 % 1024) m (omega arith)) (record { same = refl; rest = stored-alike (number e) (a / 4 % 1024) _ m (omega arith) })
 
 -- What a guest gets, and what it leaves in its frames, depends on nothing outside them.
 pub isolation : (fr base base′ : List ℕ) (n : ℕ) → Placed fr n (length base) → length base ≡ length base′ → Like (Alike fr n base base′) (hostMemory fr n) (hostMemory fr n)

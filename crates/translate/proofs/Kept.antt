@@ -1,10 +1,10 @@
 -- What both memories keep at every access: every number a word, the lengths, and of the host that the shadow's frames are its own.
 use mathlib.Core.Path.{_≡_, ap}
-use mathlib.Core.Bool.{Bool, not, _&&_}
+use mathlib.Core.Bool.{Bool, false, not}
 use mathlib.Core.List.{List}
 use Prim.Native.Nat.{ℕ, _*_, _/_, _%_, _^_, _<_}
-use Prim.{tt}
 use native.Mathlib.Omega.{arith}
+use borrow.Author.Tests.{not-true}
 use lib.Dec.{eqb}
 use lib.ListN.{length, getD, replicate, length-set}
 use Rattle.dlx.specs.declared.partition.Table.{Table}
@@ -14,8 +14,8 @@ use Rattle.translate.specs.Walk.{entries}
 use Rattle.translate.specs.Memory.{wordIn, updated, Lone, loneRead, loneWritten, loneMemory, Host, host, served, hostRead, hostWritten, hostReads, hostWrites, emptied, hostMemory}
 use Rattle.translate.specs.Premises.{Listed, Shadowed}
 use Rattle.dlx.proofs.Tests.{getD-replicate-same}
-use Rattle.translate.proofs.Entries.{given-word, fresh-shadowed}
-use Rattle.translate.proofs.Shadow.{serving, served-state, served-shadowed, emptied-each, emptied-shadowed}
+use Rattle.translate.proofs.Entries.{Within, found-within, given-word, fresh-shadowed}
+use Rattle.translate.proofs.Shadow.{serving, served-state, served-fault, served-shadowed, emptied-each, emptied-shadowed}
 
 -- a fresh list of words
 pub zeros-words : (m i : ℕ) → getD (replicate m 0) i 0 < 2 ^ 32
@@ -32,24 +32,24 @@ pub record KeptLone (n : ℕ) (s : Lone) : Type 0 where
   pub words : (i : ℕ) → getD (s .words) i 0 < 2 ^ 32
 
 module _ {n : ℕ} {s : Lone} (k : KeptLone n s) where
-  lone-read-kept : (a : ℕ) (g : Found) → KeptAccess (loneRead s a g)
+  lone-read-kept : (a : ℕ) (g : Found) → Within n g → KeptAccess (loneRead s a g)
   unfolding loneRead
-  lone-read-kept a fault = tt
-  lone-read-kept a (found p q) = k .words _
+  lone-read-kept a (fault x) w = w
+  lone-read-kept a (found p q) w = k .words _
 
-  lone-written-kept : (a : ℕ) (f : ℕ → ℕ) → ((w : ℕ) → w < 2 ^ 32 → f w < 2 ^ 32) → (g : Found) → KeptLone n (loneWritten s a f g .1)
+  lone-written-kept : (a : ℕ) (f : ℕ → ℕ) → ((w : ℕ) → w < 2 ^ 32 → f w < 2 ^ 32) → (g : Found) → Within n g → (loneWritten s a f g .0 < 8) × KeptLone n (loneWritten s a f g .1)
   unfolding loneWritten
-  lone-written-kept a f l fault = k
-  lone-written-kept a f l (found p q) =
-      either (λ (g : Bool × Lone). KeptLone n (g .1)) (eqb q 1) (λ _. k)
-      (λ _. record { table = k .table; long = simp length-set (k .long); words = updated-words (s .words) (wordIn p a) f l (k .words) })
+  lone-written-kept a f l (fault x) w = (w, k)
+  lone-written-kept a f l (found p q) w =
+      either (λ (g : ℕ × Lone). (g .0 < 8) × KeptLone n (g .1)) (eqb q 1) (λ _. (omega arith, k))
+      (λ _. (omega arith, record { table = k .table; long = simp length-set (k .long); words = updated-words (s .words) (wordIn p a) f l (k .words) }))
 
 -- every access keeps KeptLone
 pub lone-keeps : (n : ℕ) → Keeps (KeptLone n) (loneMemory n)
 lone-keeps n = record {
   tables = λ s k. k .table;
-  reads = λ s k user a. (lone-read-kept k a _, k);
-  writes = λ s k user a f l. lone-written-kept k a f l _;
+  reads = λ s k user a. (lone-read-kept k a _ (found-within n s user a), k);
+  writes = λ s k user a f l. lone-written-kept k a f l _ (found-within n s user a);
   retables = λ s k t l. record { table = l; long = k .long; words = k .words };
 }
 
@@ -74,7 +74,9 @@ module _ (fr : List ℕ) (n : ℕ) where
       → P (host (s .table) (updated (s .words) (wordIn (number e) a) f) (emptied fr n (s .table) (number e) (a / 4 % 1024) (s .shadow)))
       → P (hostWritten fr n s a f e .1)
   unfolding hostWritten
-  written P s a f e p q = either (λ (g : Bool × Host). P (g .1)) (valid e && not (eqb (protection e) 1)) (λ _. q) (λ _. p)
+  written P s a f e p q =
+      either (λ (g : ℕ × Host). P (g .1)) (not (valid e)) (λ _. p) λ _.
+      either (λ (g : ℕ × Host). P (g .1)) (eqb (protection e) 1) (λ _. p) (λ _. q)
 
   -- a write keeps the shadow's frames own, and the length of the words
   pub writes-shadowed : (h : Host) → Shadowed fr n (h .shadow) → (user : Bool) (a : ℕ) (f : ℕ → ℕ) → Shadowed fr n (hostWrites fr n h user a f .1 .shadow)
@@ -105,12 +107,18 @@ module _ {fr : List ℕ} {n size : ℕ} {h : Host} (k : KeptHost fr n size h) wh
   served-kept L user a =
       rw (served-state fr n h user a)
       (retabled (k .table) (served-shadowed fr n h (k .shadowed) user a)
-      (serving fr n (λ s. (j : ℕ) → getD (s .shadow) j 0 < 2 ^ 32) h user a (k .shadow) λ px j.
+      (serving fr n (λ s. (j : ℕ) → getD (s .shadow) j 0 < 2 ^ 32) h user a (k .shadow) λ px _ j.
       getD-set-elim (λ e. e < 2 ^ 32) (h .shadow) px j _ 0 (λ _. given-word fr n L (h .table) (h .words) px) (k .shadow j)))
 
-  read-kept : (a e : ℕ) → KeptAccess (hostRead h a e)
+  read-kept : (a e : ℕ) → (valid e ≡ false → e < 8) → KeptAccess (hostRead h a e)
   unfolding hostRead
-  read-kept a e = either KeptAccess (valid e) (λ _. k .words _) (λ _. tt)
+  read-kept a e l = either KeptAccess (valid e) (λ _. k .words _) l
+
+  answer-kept : (a : ℕ) (f : ℕ → ℕ) (e : ℕ) → (valid e ≡ false → e < 8) → hostWritten fr n h a f e .0 < 8
+  unfolding hostWritten
+  answer-kept a f e l =
+      either (λ (g : ℕ × Host). g .0 < 8) (not (valid e)) (λ v. l (not-true _ v)) λ _.
+      either (λ (g : ℕ × Host). g .0 < 8) (eqb (protection e) 1) (λ _. omega arith) (λ _. omega arith)
 
   written-kept : (a : ℕ) (f : ℕ → ℕ) (e : ℕ) → ((w : ℕ) → w < 2 ^ 32 → f w < 2 ^ 32) → KeptHost fr n size (hostWritten fr n h a f e .1)
   written-kept a f e l =
@@ -128,7 +136,7 @@ pub host-keeps : (fr : List ℕ) (n size : ℕ) → Listed fr n → Keeps (KeptH
 unfolding hostReads hostWrites
 host-keeps fr n size L = record {
   tables = λ h k. k .table;
-  reads = λ h k user a. let m = served-kept k L user a in (read-kept m a _, m);
-  writes = λ h k user a f l. written-kept (served-kept k L user a) a f _ l;
+  reads = λ h k user a. let m = served-kept k L user a in (read-kept m a _ (served-fault fr n h (k .shadowed) user a), m);
+  writes = λ h k user a f l. let m = served-kept k L user a in (answer-kept m a f _ (served-fault fr n h (k .shadowed) user a), written-kept m a f _ l);
   retables = λ h k t l. retabled k l fresh-shadowed (zeros-words entries);
 }

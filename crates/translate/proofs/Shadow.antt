@@ -1,5 +1,5 @@
 -- What a search for an entry fills, what a store into the table empties, and which words a store leaves: for simulation, isolation and what is kept.
-use mathlib.Core.Path.{_≡_, refl, ap, _∙_}
+use mathlib.Core.Path.{_≡_, refl, sym, ap, _∙_}
 use mathlib.Core.Bool.{Bool, true, false, true≢false, _&&_}
 use mathlib.Core.List.{List}
 use Prim.Native.Nat.{ℕ, _+_, _*_, _/_, _%_, _<_}
@@ -15,7 +15,7 @@ use Rattle.translate.specs.Walk.{entries}
 use Rattle.translate.specs.Memory.{Host, host, place, hosted, given, filled, looked, served, emptied}
 use Rattle.translate.specs.Premises.{Own, Shadowed}
 use Rattle.dlx.proofs.Tests.{by-eq, getD-set-default}
-use Rattle.translate.proofs.Entries.{empty-invalid, direct-within, walked-same, Owned, hosted-own, given-own}
+use Rattle.translate.proofs.Entries.{empty-invalid, direct-within, walked-same, Owned, hosted-own, given-own, hosted-fault, given-fault}
 
 -- the word of page k's frame that stands for the guest's word
 pub place-page : (fr : List ℕ) (k off : ℕ) → off < 1024 → place fr (k * 1024 + off) ≡ getD fr k 0 * 1024 + off
@@ -27,15 +27,17 @@ place-page fr k off h =
 module _ (fr : List ℕ) (n : ℕ) where
   -- ---- the search
 
-  -- It leaves the memory, or fills the entry with what is given.
-  looking : (P : Host → Type 0) (h : Host) (px : ℕ) → P h → P (host (h .table) (h .words) (set (h .shadow) px (given fr n (h .table) (h .words) px))) → P (looked fr n h px .1)
+  -- It leaves the memory, or fills the entry with what is given, a valid one.
+  looking : (P : Host → Type 0) (h : Host) (px : ℕ) → P h
+      → (valid (given fr n (h .table) (h .words) px) ≡ true → P (host (h .table) (h .words) (set (h .shadow) px (given fr n (h .table) (h .words) px))))
+      → P (looked fr n h px .1)
   unfolding looked filled
   looking P h px p q =
       either (λ (g : ℕ × Host). P (g .1)) (valid (getD (h .shadow) px 0)) (λ _. p) λ _.
-      either P (valid (given fr n (h .table) (h .words) px)) (λ _. q) (λ _. p)
+      either P (valid (given fr n (h .table) (h .words) px)) q (λ _. p)
 
   pub serving : (P : Host → Type 0) (h : Host) (user : Bool) (a : ℕ) → P h
-      → ((px : ℕ) → P (host (h .table) (h .words) (set (h .shadow) px (given fr n (h .table) (h .words) px))))
+      → ((px : ℕ) → valid (given fr n (h .table) (h .words) px) ≡ true → P (host (h .table) (h .words) (set (h .shadow) px (given fr n (h .table) (h .words) px))))
       → P (served fr n h user a .1)
   unfolding served
   serving P h true a p q = looking P h (a / 4096) p (q (a / 4096))
@@ -43,7 +45,7 @@ module _ (fr : List ℕ) (n : ℕ) where
 
   -- only the shadow changes
   pub served-state : (h : Host) (user : Bool) (a : ℕ) → served fr n h user a .1 ≡ host (h .table) (h .words) (served fr n h user a .1 .shadow)
-  served-state h user a = serving (λ s. s ≡ host (h .table) (h .words) (s .shadow)) h user a refl (λ _. refl)
+  served-state h user a = serving (λ s. s ≡ host (h .table) (h .words) (s .shadow)) h user a refl (λ _ _. refl)
 
   module _ (h : Host) (k : Shadowed fr n (h .shadow)) where
     -- a valid entry that serves names an own frame
@@ -56,9 +58,18 @@ module _ (fr : List ℕ) (n : ℕ) where
     served-own true a = looked-own (a / 4096)
     served-own false a = hosted-own fr n _ (direct-within n a)
 
+    -- one that is not valid is a fault
+    pub served-fault : (user : Bool) (a : ℕ) → valid (served fr n h user a .0) ≡ false → served fr n h user a .0 < 8
+    unfolding served looked
+    served-fault true a =
+        either (λ (g : ℕ × Host). valid (g .0) ≡ false → g .0 < 8) (valid (getD (h .shadow) (a / 4096) 0))
+        (λ v e. absurd (true≢false (sym v ∙ e)))
+        (λ _. given-fault fr n (h .table) (h .words) (a / 4096))
+    served-fault false a = hosted-fault fr n _ (direct-within n a)
+
     pub looked-shadowed : (px : ℕ) → Shadowed fr n (looked fr n h px .1 .shadow)
     looked-shadowed px =
-        looking (λ s. Shadowed fr n (s .shadow)) h px k (record {
+        looking (λ s. Shadowed fr n (s .shadow)) h px k (λ _. record {
           count = simp length-set (k .count);
           own = λ j. getD-set-elim (Owned fr n) (h .shadow) px j _ 0 (λ _. given-own fr n (h .table) (h .words) px) (k .own j);
         })

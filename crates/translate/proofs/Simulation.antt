@@ -14,7 +14,7 @@ use Rattle.translate.specs.Walk.{entries, walked}
 use Rattle.translate.specs.Memory.{Lone, lone, loneWord, loneFound, loneRead, loneWritten, loneMemory, wordIn, Host, host, place, hosted, given, looked, served, hostRead, hostWritten, hostReads, hostWrites, emptied, freshShadow, hostMemory}
 use Rattle.translate.specs.Premises.{Placed, Own, Shadowed}
 use Rattle.dlx.proofs.Tests.{by-test, set-both}
-use Rattle.translate.proofs.Entries.{number-entry, valid-entry, protection-entry, Within, found-within, walked-same, given-own, empty-invalid, fresh-invalid}
+use Rattle.translate.proofs.Entries.{number-entry, valid-entry, protection-entry, fault-invalid, Within, found-within, walked-same, given-own, empty-invalid, fresh-invalid}
 use Rattle.translate.proofs.Shadow.{place-page, serving, emptied-each, emptied-count, given-missed, Untouched, stored-untouched}
 
 -- The lone memory s and the host h, whose words were base: its pages agree, its valid shadow entries are what is given now, all else is as in base.
@@ -72,7 +72,7 @@ module _ {fr base : List ℕ} {n : ℕ} {s : Lone} {h : Host} (r : Right fr n ba
 
   right-served : (user : Bool) (a : ℕ) → Right fr n base s (served fr n h user a .1)
   right-served user a =
-      serving fr n (Right fr n base s) h user a r λ px. record {
+      serving fr n (Right fr n base s) h user a r λ px _. record {
         table = r .table;
         pages = r .pages;
         size = r .size;
@@ -89,7 +89,7 @@ module _ {fr base : List ℕ} {n : ℕ} {s : Lone} {h : Host} (r : Right fr n ba
 
   read-same : (a : ℕ) (g : Found) → Within n g → loneRead s a g ≡ hostRead h a (hosted fr g)
   unfolding loneRead hostRead hosted
-  read-same a fault w = refl
+  read-same a (fault x) w = rw (fault-invalid x w)
   read-same a (found k p) w = rw (valid-entry (getD fr k 0) p (w .1), number-entry (getD fr k 0) p (w .1), page-same k a (w .0))
 
   module _ (F : Placed fr n (length base)) where
@@ -116,7 +116,7 @@ module _ {fr base : List ℕ} {n : ℕ} {s : Lone} {h : Host} (r : Right fr n ba
 
     written-same : (a : ℕ) (f : ℕ → ℕ) (g : Found) → Within n g → Both (Right fr n base) (loneWritten s a f g) (hostWritten fr n h a f (hosted fr g))
     unfolding loneWritten hostWritten hosted
-    written-same a f fault w = record { same = refl; rest = r }
+    written-same a f (fault x) w = rw (fault-invalid x w) (record { same = refl; rest = r })
     written-same a f (found k p) w =
         rw (valid-entry (getD fr k 0) p (w .1), protection-entry (getD fr k 0) p (w .1), number-entry (getD fr k 0) p (w .1), page-same k a (w .0))
         (by-test (eqb p 1)

@@ -5,7 +5,6 @@ use Prim.Native.Nat.{ℕ}
 use lib.ListN.{length}
 use Rattle.dlx.specs.Fields.{aligned, placed}
 use Rattle.dlx.specs.Machine.{Core, fetched, accessed, retabled, step}
-use Rattle.dlx.specs.declared.partition.Processor.{Processor}
 use Rattle.dlx.specs.declared.execute.Change.{Change}
 use Rattle.dlx.specs.declared.execute.Change.the-variants.{Plain, Special, Retable, Cause, Return}
 use Rattle.dlx.specs.declared.execute.Effect.{Effect}
@@ -26,18 +25,18 @@ module _ (fr : List ℕ) (n size : ℕ) where
   pub fetched-whole : (c : Core) (h : Host) → Whole fr n size h → Whole fr n size (fetched (hostMemory fr n) (c, h) .1)
   unfolding fetched
   fetched-whole c h w =
-      either (λ (g : Effect × Host). Whole fr n size (g .1)) (aligned 32 (c .processor .dpc))
+      either (λ (g : (Effect × Core) × Host). Whole fr n size (g .1)) (aligned 32 (c .processor .dpc))
       (λ _. record { long = rw (reads-words fr n) (w .long); shadowed = reads-shadowed fr n h (w .shadowed) _ _ })
       (λ _. w)
 
-  pub accessed-whole : (y : Reply) (p : Processor) (e : Effect) (h : Host) → Whole fr n size h → Whole fr n size (accessed (hostMemory fr n) y p e h .1)
+  pub accessed-whole : (y : Reply) (c : Core) (e : Effect) (h : Host) → Whole fr n size h → Whole fr n size (accessed (hostMemory fr n) y c e h .1)
   unfolding accessed
-  accessed-whole y p (Done c) h w = w
-  accessed-whole y p (Send v to) h w = w
-  accessed-whole y p Take h w = w
-  accessed-whole y p (Load d a o) h w =
+  accessed-whole y c (Done x) h w = w
+  accessed-whole y c (Send v to) h w = w
+  accessed-whole y c Take h w = w
+  accessed-whole y c (Load d a o) h w =
       record { long = rw (reads-words fr n) (w .long); shadowed = reads-shadowed fr n h (w .shadowed) _ _ }
-  accessed-whole y p (Store o a v) h w =
+  accessed-whole y c (Store o a v) h w =
       record { long = writes-length fr n h _ a (placed o a v) ∙ w .long; shadowed = writes-shadowed fr n h (w .shadowed) _ a (placed o a v) }
 
   retabled-whole : (c : Change) (h : Host) → Whole fr n size h → Whole fr n size (retabled (hostMemory fr n) c h)

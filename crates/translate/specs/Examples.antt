@@ -87,9 +87,9 @@ unfoldable pub sameHost : Host → Host → Bool
 sameHost h k =
     eqb (h .table .pto) (k .table .pto) && eqb (h .table .ptl) (k .table .ptl) && same (h .words) (k .words) && same (h .shadow) (k .shadow)
 
--- a word or a fault, as a list of one or none
+-- a word, or 0 and the fault's number
 unfoldable pub answer : Access → List ℕ
-answer Fault = []
+answer (Fault n) = 0 ∷ n ∷ []
 answer (Word v) = v ∷ []
 
 -- a load answers this word, and leaves the shadow sh and all else as it was
@@ -98,22 +98,22 @@ gives h user a w sh =
     let g = hostMemory frames 3 .read h user a in
     same (answer (g .0)) (w ∷ []) && sameHost (g .1) (host (h .table) (h .words) sh)
 
--- a load and a store fault, and leave so
-unfoldable pub faults : Host → Bool → ℕ → List ℕ → Bool
-faults h user a sh =
+-- a load and a store fail by this fault, and leave so
+unfoldable pub faults : Host → Bool → ℕ → ℕ → List ℕ → Bool
+faults h user a n sh =
     let g = hostMemory frames 3 .read h user a in
-    same (answer (g .0)) [] && sameHost (g .1) (host (h .table) (h .words) sh)
+    same (answer (g .0)) (0 ∷ n ∷ []) && sameHost (g .1) (host (h .table) (h .words) sh)
 
-unfoldable pub refuses : Host → Bool → ℕ → List ℕ → Bool
-refuses h user a sh =
+unfoldable pub refuses : Host → Bool → ℕ → ℕ → List ℕ → Bool
+refuses h user a n sh =
     let g = hostMemory frames 3 .write h user a (λ w. w + 7) in
-    not (g .0) && sameHost (g .1) (host (h .table) (h .words) sh)
+    eqb (g .0) n && sameHost (g .1) (host (h .table) (h .words) sh)
 
 -- a store of v becomes host word i, and leaves the shadow sh and all else as it was
 unfoldable pub writes : Host → Bool → ℕ → ℕ → ℕ → List ℕ → Bool
 writes h user a v i sh =
     let g = hostMemory frames 3 .write h user a (λ _. v) in
-    (g .0) && sameHost (g .1) (host (h .table) (set (h .words) i v) sh)
+    eqb (g .0) 0 && sameHost (g .1) (host (h .table) (set (h .words) i v) sh)
 
 -- ---- the walk, system mode and fills
 
@@ -121,35 +121,42 @@ unfoldable pub walks : List Bool
 walks =
     -- [walk: px not below PTL] PTL is a count: px 5 passes with PTL 6, and faults with PTL 5; px 0 with 1 and with 0
     gives (guest 1 6) true 0x5ABC (word 1711) (only 5 0x00001800)
-    ∷ faults (guest 1 5) true 0x5ABC freshShadow
-    ∷ refuses (guest 1 5) true 0x5ABC freshShadow
+    ∷ faults (guest 1 5) true 0x5ABC 1 freshShadow
+    ∷ refuses (guest 1 5) true 0x5ABC 1 freshShadow
     ∷ gives (guest 1 1) true 0x0ABC (word 2735) (only 0 0x00002800)
-    ∷ faults (guest 1 0) true 0x0ABC freshShadow
+    ∷ faults (guest 1 0) true 0x0ABC 1 freshShadow
     -- [walk: px above 1,023] 1,023 may pass, 1,024 never
     ∷ gives (guest 1 1024) true 0x3FFABC (word 1711) (only 1023 0x00001800)
-    ∷ faults (guest 1 1025) true 0x400ABC freshShadow
-    ∷ refuses (guest 1 1025) true 0x400ABC freshShadow
-    ∷ faults (guest 1 4294967295) true 0xFFFFFFFC freshShadow
+    ∷ faults (guest 1 1025) true 0x400ABC 2 freshShadow
+    ∷ refuses (guest 1 1025) true 0x400ABC 2 freshShadow
+    ∷ faults (guest 1 4294967295) true 0xFFFFFFFC 2 freshShadow
+    ∷ faults (guest 1 6) true 0x400ABC 1 freshShadow
     -- [walk: entry outside guest memory] PTO 2 is the last page, 3 is outside; never wrapped, though 4,096·PTO modulo 2^32 is page 0 or the table's
     ∷ gives (guest 2 7) true 0x6ABC (word 2735) (only 6 0x00002800)
-    ∷ faults (guest 3 7) true 0x0ABC freshShadow
-    ∷ faults (guest 3 7) true 0x6ABC freshShadow
-    ∷ refuses (guest 3 7) true 0x6ABC freshShadow
-    ∷ faults (guest (2 ^ 20) 7) true 0x0ABC freshShadow
-    ∷ faults (guest (2 ^ 20 + 1) 7) true 0x0ABC freshShadow
-    ∷ faults (guest 4294967295 7) true 0x0ABC freshShadow
+    ∷ faults (guest 3 7) true 0x0ABC 3 freshShadow
+    ∷ faults (guest 3 7) true 0x6ABC 3 freshShadow
+    ∷ refuses (guest 3 7) true 0x6ABC 3 freshShadow
+    ∷ faults (guest (2 ^ 20) 7) true 0x0ABC 3 freshShadow
+    ∷ faults (guest (2 ^ 20 + 1) 7) true 0x0ABC 3 freshShadow
+    ∷ faults (guest 4294967295 7) true 0x0ABC 3 freshShadow
     -- [walk: valid] entry 4 has bit 11 alone 0
-    ∷ faults (guest 1 6) true 0x4ABC freshShadow
-    ∷ refuses (guest 1 6) true 0x4ABC freshShadow
+    ∷ faults (guest 1 6) true 0x4ABC 4 freshShadow
+    ∷ refuses (guest 1 6) true 0x4ABC 4 freshShadow
     -- [walk: page number] page 2 passes, 3 does not; it is bits 31..12
     ∷ gives (guest 0 1) true 0x0ABC (word 1711) (only 0 0x00001800)
-    ∷ faults (guest 1 6) true 0x3ABC freshShadow
-    ∷ refuses (guest 1 6) true 0x3ABC freshShadow
-    ∷ faults (host (table 1 6) (set memory 3072 0x80000800) freshShadow) true 0x0ABC freshShadow
+    ∷ faults (guest 1 6) true 0x3ABC 5 freshShadow
+    ∷ refuses (guest 1 6) true 0x3ABC 5 freshShadow
+    ∷ faults (host (table 1 6) (set memory 3072 0x80000800) freshShadow) true 0x0ABC 5 freshShadow
     -- [walk: protected store] bit 10 alone forbids a store; a load goes through
     ∷ gives (guest 1 6) true 0x2ABC (word 1711) (only 2 0x00001C00)
-    ∷ refuses (guest 1 6) true 0x2ABC (only 2 0x00001C00)
+    ∷ refuses (guest 1 6) true 0x2ABC 6 (only 2 0x00001C00)
     ∷ writes (guest 1 6) true 0x5ABC 77 1711 (only 5 0x00001800)
+    -- [fault: the first that applies] px past PTL and above 1,023, with PTO outside; then above 1,023; an entry that is not valid, names no page and is protected; then
+    -- one that names no page and is protected
+    ∷ refuses (guest 3 6) true 0x400ABC 1 freshShadow
+    ∷ refuses (guest 3 1025) true 0x400ABC 2 freshShadow
+    ∷ refuses (host (table 1 6) (set memory 3072 0x00003400) freshShadow) true 0x0ABC 4 freshShadow
+    ∷ refuses (host (table 1 6) (set memory 3072 0x00003C00) freshShadow) true 0x0ABC 5 freshShadow
     -- [walk: guest page k is the k-th frame of its list]
     ∷ gives (guest 1 6) true 0x0FFC (word 3071) (only 0 0x00002800)
     ∷ gives (guest 1 6) true 0x1ABC (word 3759) (only 1 0x00003800)
@@ -159,11 +166,11 @@ walks =
     ∷ eqb (hostWord frames memory 2048) 0x00000800
     -- [system: below 4,096 times the page count] both sides of the limit; neither table nor shadow counts, and nothing is filled
     ∷ gives (guest 1 6) false 0x2FFC (word 2047) freshShadow
-    ∷ faults (guest 1 6) false 0x3000 freshShadow
-    ∷ faults (guest 1 6) false 0xFFFFFFFC freshShadow
+    ∷ faults (guest 1 6) false 0x3000 7 freshShadow
+    ∷ faults (guest 1 6) false 0xFFFFFFFC 7 freshShadow
     ∷ writes (guest 1 6) false 0x2FFC 77 2047 freshShadow
-    ∷ refuses (guest 1 6) false 0x3000 freshShadow
-    ∷ refuses (shadowed full) false 0x3008 full
+    ∷ refuses (guest 1 6) false 0x3000 7 freshShadow
+    ∷ refuses (shadowed full) false 0x3008 7 full
     ∷ gives (guest 9 0) false 0x0ABC (word 2735) freshShadow
     ∷ gives (shadowed (only 0 0x00001C00)) false 0x0ABC (word 2735) (only 0 0x00001C00)
     ∷ writes (shadowed (only 0 0x00001C00)) false 0x0ABC 77 2735 (only 0 0x00001C00)
@@ -173,13 +180,13 @@ walks =
     ∷ gives (shadowed (set full 2 0)) true 0x2ABC (word 1711) (set full 2 0x00001C00)
     ∷ gives (shadowed (only 0 0x000017FF)) true 0x0ABC (word 2735) (only 0 0x00002800)
     -- [fill: protected store] it faults and fills
-    ∷ refuses (shadowed (set full 2 0)) true 0x2ABC (set full 2 0x00001C00)
+    ∷ refuses (shadowed (set full 2 0)) true 0x2ABC 6 (set full 2 0x00001C00)
     -- [fill: none on a failed test]
-    ∷ faults (shadowed (set full 3 0)) true 0x3ABC (set full 3 0)
-    ∷ faults (shadowed (set full 4 0)) true 0x4ABC (set full 4 0)
-    ∷ refuses (shadowed (set full 6 0)) true 0x6ABC (set full 6 0)
-    ∷ faults (shadowed (only 4 0x000017FF)) true 0x4ABC (only 4 0x000017FF)
-    ∷ faults (shadowed full) true 0x400ABC full
+    ∷ faults (shadowed (set full 3 0)) true 0x3ABC 5 (set full 3 0)
+    ∷ faults (shadowed (set full 4 0)) true 0x4ABC 4 (set full 4 0)
+    ∷ refuses (shadowed (set full 6 0)) true 0x6ABC 1 (set full 6 0)
+    ∷ faults (shadowed (only 4 0x000017FF)) true 0x4ABC 4 (only 4 0x000017FF)
+    ∷ faults (shadowed full) true 0x400ABC 1 full
     ∷ []
 
 -- ---- hits
@@ -194,7 +201,7 @@ hits =
     ∷ gives (host (table 3 7) memory full) true 0x0ABC (word 1711) full
     -- [hit: protection alone] the shadow's, whatever the table's
     ∷ gives (shadowed (only 0 0x00002C00)) true 0x0ABC (word 2735) (only 0 0x00002C00)
-    ∷ refuses (shadowed (only 0 0x00002C00)) true 0x0ABC (only 0 0x00002C00)
+    ∷ refuses (shadowed (only 0 0x00002C00)) true 0x0ABC 6 (only 0 0x00002C00)
     ∷ writes (shadowed full) true 0x2ABC 77 1711 full
     -- [hit: px at or above PTL]
     ∷ gives (shadowed full) true 0x6ABC (word 1711) full
@@ -239,8 +246,8 @@ emptyings =
     ∷ writes (host (table 2 6) memory full) true 0x0008 77 1026 (set full 2 0)
     ∷ writes (host (table 3 6) memory full) false 0x1008 77 3074 full
     -- [emptying: none by a faulted store]
-    ∷ refuses (shadowed (set full 1 0x00003C00)) true 0x1008 (set full 1 0x00003C00)
-    ∷ refuses (shadowed (set full 3 0)) true 0x3008 (set full 3 0)
+    ∷ refuses (shadowed (set full 1 0x00003C00)) true 0x1008 6 (set full 1 0x00003C00)
+    ∷ refuses (shadowed (set full 3 0)) true 0x3008 5 (set full 3 0)
     -- [emptying: after the access] a store fills the entry that it overwrites, and leaves it empty
     ∷ writes (guest 1 6) true 0x1004 77 3073 freshShadow
     ∷ writes (shadowed mapped) true 0x1004 77 3073 (set full 1 0)
@@ -252,7 +259,7 @@ emptyings =
     ∷ sameHost (hostMemory frames 3 .retable (shadowed full) (table 1 6)) (guest 1 6)
     -- [store: what is written] a store's update of the word that stands there
     ∷ (let g = hostMemory frames 3 .write (guest 1 6) false 0x0ABC (λ w. w + 7) in
-    (g .0) && sameHost (g .1) (host (table 1 6) (set memory 2735 (word 2742)) freshShadow))
+    eqb (g .0) 0 && sameHost (g .1) (host (table 1 6) (set memory 2735 (word 2742)) freshShadow))
     ∷ []
 
 -- ---- the same guest as a lone machine: its pages in order, and no shadow
@@ -271,32 +278,32 @@ unfoldable pub loneLoads : ℕ → ℕ → Bool → ℕ → List ℕ → Bool
 loneLoads pto ptl user a l =
     let g = loneMemory 3 .read (lonely pto ptl) user a in same (answer (g .0)) l && sameLone (g .1) pto ptl own
 
-unfoldable pub loneStores : ℕ → ℕ → Bool → ℕ → Bool → List ℕ → Bool
-loneStores pto ptl user a made ws =
+unfoldable pub loneStores : ℕ → ℕ → Bool → ℕ → ℕ → List ℕ → Bool
+loneStores pto ptl user a n ws =
     let g = loneMemory 3 .write (lonely pto ptl) user a (λ w. w + 7) in
-    eqb (boolByte (g .0)) (boolByte made) && sameLone (g .1) pto ptl ws
+    eqb (g .0) n && sameLone (g .1) pto ptl ws
 
 unfoldable pub alone : List Bool
 alone =
     -- [walk: a lone machine] its table alone decides: each test at its two sides
     loneLoads 1 6 true 0x5ABC (word 1711 ∷ [])
-    ∷ loneLoads 1 5 true 0x5ABC []
+    ∷ loneLoads 1 5 true 0x5ABC (0 ∷ 1 ∷ [])
     ∷ loneLoads 1 1024 true 0x3FFABC (word 1711 ∷ [])
-    ∷ loneLoads 1 1025 true 0x400ABC []
+    ∷ loneLoads 1 1025 true 0x400ABC (0 ∷ 2 ∷ [])
     ∷ loneLoads 2 7 true 0x6ABC (word 2735 ∷ [])
-    ∷ loneLoads (2 ^ 20 + 1) 7 true 0x0ABC []
-    ∷ loneLoads 1 6 true 0x4ABC []
-    ∷ loneLoads 1 6 true 0x3ABC []
+    ∷ loneLoads (2 ^ 20 + 1) 7 true 0x0ABC (0 ∷ 3 ∷ [])
+    ∷ loneLoads 1 6 true 0x4ABC (0 ∷ 4 ∷ [])
+    ∷ loneLoads 1 6 true 0x3ABC (0 ∷ 5 ∷ [])
     ∷ loneLoads 1 6 true 0x2ABC (word 1711 ∷ [])
-    ∷ loneStores 1 6 true 0x2ABC false own
-    ∷ loneStores 1 6 true 0x4ABC false own
-    ∷ loneStores 1 6 true 0x5ABC true (set own 2735 (word 1718))
-    ∷ loneStores 1 6 true 0x1ABC true (set own 1711 (word 3766))
+    ∷ loneStores 1 6 true 0x2ABC 6 own
+    ∷ loneStores 1 6 true 0x4ABC 4 own
+    ∷ loneStores 1 6 true 0x5ABC 0 (set own 2735 (word 1718))
+    ∷ loneStores 1 6 true 0x1ABC 0 (set own 1711 (word 3766))
     -- [system: a lone machine]
     ∷ loneLoads 9 0 false 0x2FFC (word 2047 ∷ [])
-    ∷ loneLoads 1 6 false 0x3000 []
-    ∷ loneStores 1 6 false 0x2FFC true (set own 3071 (word 2054))
-    ∷ loneStores 1 6 false 0x3000 false own
+    ∷ loneLoads 1 6 false 0x3000 (0 ∷ 7 ∷ [])
+    ∷ loneStores 1 6 false 0x2FFC 0 (set own 3071 (word 2054))
+    ∷ loneStores 1 6 false 0x3000 7 own
     -- [emptying: a lone machine] has nothing to empty: PTO and PTL change alone
     ∷ sameLone (loneMemory 3 .retable (lonely 1 6) (table 8 9)) 8 9 own
     ∷ []
@@ -308,7 +315,7 @@ zeros = replicate 32 0
 
 unfoldable pub booted : ℕ → List ℕ → Core × Host
 booted n ws =
-    steps (hostMemory (1 ∷ replicate 255 0) 1) (λ _. reply 0 0) n (core freshProcessor zeros, host (table 0 0) (replicate 1024 0 ++ (ws ++ replicate 1020 0)) freshShadow)
+    steps (hostMemory (1 ∷ replicate 255 0) 1) (λ _. reply 0 0) n (core freshProcessor zeros 0, host (table 0 0) (replicate 1024 0 ++ (ws ++ replicate 1020 0)) freshShadow)
 
 abbrev program : List ℕ
 program = 0x20010005 ∷ 0xAC010008 ∷ 0 ∷ 0 ∷ []
@@ -322,7 +329,7 @@ stepped =
     ∷ (let p = booted 3 program .0 .processor in eqb (p .eca) 2 && eqb (p .edpc) 8 && eqb (p .epc) 12)
     ∷ []
 
--- ---- single steps of the guest of three pages, with register 1 = 9
+-- ---- single steps of the guest of three pages, with register 1 = 9, whose latest fault was 3
 
 abbrev at : ℕ → ℕ → ℕ → Processor
 at dpc pc mode =
@@ -333,7 +340,7 @@ nine = set zeros 1 9
 
 -- the word w at the host's word i, and a shadow
 unfoldable pub once : Processor → ℕ → ℕ → List ℕ → Outcome × Host
-once p i w sh = step (hostMemory frames 3) (reply 0 0) (core p nine, host (table 1 6) (set memory i w) sh)
+once p i w sh = step (hostMemory frames 3) (reply 0 0) (core p nine 3, host (table 1 6) (set memory i w) sh)
 
 -- at guest address 0, in system or user mode
 unfoldable pub system : ℕ → List ℕ → Outcome × Host
@@ -347,20 +354,25 @@ unfoldable pub numbers : Processor → List ℕ
 numbers p =
     p .dpc ∷ p .pc ∷ p .sr ∷ p .esr ∷ p .eca ∷ p .epc ∷ p .edpc ∷ p .edata ∷ p .mode ∷ p .emode ∷ []
 
--- the whole of what a step leaves: the processor's numbers, the registers, whether it calls, and the host
-unfoldable pub leaves : Outcome × Host → List ℕ → List ℕ → Bool → Host → Bool
-leaves m p r calls h =
-    same (numbers (m .0 .core .processor)) p && same (m .0 .core .registers) r && eqb (boolByte (m .0 .calls)) (boolByte calls)
+-- the whole of what a step leaves: the processor's numbers, the registers, the latest fault, whether it calls, and the host
+unfoldable pub leaves : Outcome × Host → List ℕ → List ℕ → ℕ → Bool → Host → Bool
+leaves m p r fault calls h =
+    same (numbers (m .0 .core .processor)) p && same (m .0 .core .registers) r && eqb (m .0 .core .fault) fault && eqb (boolByte (m .0 .calls)) (boolByte calls)
     && sameHost (m .1) h
 
 -- it goes on in its mode with these registers, host word i becoming v; or is interrupted in that mode, with ECA, EDPC, EPC and EDATA
 unfoldable pub goesOn : Outcome × Host → ℕ → List ℕ → ℕ → ℕ → ℕ → List ℕ → Bool
 goesOn m mode r w i v sh =
-    leaves m (4 ∷ 8 ∷ 3 ∷ 91 ∷ 92 ∷ 93 ∷ 94 ∷ 95 ∷ mode ∷ 0 ∷ []) r false (host (table 1 6) (set (set memory 2048 w) i v) sh)
+    leaves m (4 ∷ 8 ∷ 3 ∷ 91 ∷ 92 ∷ 93 ∷ 94 ∷ 95 ∷ mode ∷ 0 ∷ []) r 3 false (host (table 1 6) (set (set memory 2048 w) i v) sh)
 
 unfoldable pub interrupt : Outcome × Host → ℕ → List ℕ → Bool → ℕ → ℕ → List ℕ → Bool
 interrupt m mode saved calls i w sh =
-    leaves m (0 ∷ 4 ∷ 0 ∷ 3 ∷ saved ++ (0 ∷ mode ∷ [])) nine calls (host (table 1 6) (set memory i w) sh)
+    leaves m (0 ∷ 4 ∷ 0 ∷ 3 ∷ saved ++ (0 ∷ mode ∷ [])) nine 3 calls (host (table 1 6) (set memory i w) sh)
+
+-- by a page fault, which is the latest then
+unfoldable pub fails : Outcome × Host → ℕ → List ℕ → ℕ → ℕ → ℕ → List ℕ → Bool
+fails m mode saved fault i w sh =
+    leaves m (0 ∷ 4 ∷ 0 ∷ 3 ∷ saved ++ (0 ∷ mode ∷ [])) nine fault false (host (table 1 6) (set memory i w) sh)
 
 -- ECA, EPC, EDPC and EDATA, in a processor's order
 abbrev saving : ℕ → ℕ → ℕ → ℕ → List ℕ
@@ -381,21 +393,23 @@ single =
     -- [emptying: the fetch's own page] a store into entry 0 empties the entry that its own fetch filled
     ∷ goesOn (user 0xAC011000 freshShadow) 1 nine 0xAC011000 3072 9 (only 1 0x00003800)
     -- [fill: protected store] pfls with the address and the old pair, the entry is filled, nothing is written
-    ∷ interrupt (user 0xAC012ABC freshShadow) 1 (saving 16 4 0 0x2ABC) false 2048 0xAC012ABC (set (only 0 0x00002800) 2 0x00001C00)
+    ∷ fails (user 0xAC012ABC freshShadow) 1 (saving 16 4 0 0x2ABC) 6 2048 0xAC012ABC (set (only 0 0x00002800) 2 0x00001C00)
     -- [fill: none on a failed test] a load in a delay slot whose entry is not valid: the pair of the slot and the branch's target is saved
-    ∷ interrupt (once (at 4 64 1) 2049 0x8C014ABC freshShadow) 1 (saving 16 64 4 0x4ABC) false 2049 0x8C014ABC (only 0 0x00002800)
-    -- a fetch outside: pff with DPC
-    ∷ interrupt (once (at 0x4000 0x4004 1) 2048 5 freshShadow) 1 (saving 8 0x4004 0x4000 0x4000) false 2048 5 freshShadow
+    ∷ fails (once (at 4 64 1) 2049 0x8C014ABC freshShadow) 1 (saving 16 64 4 0x4ABC) 4 2049 0x8C014ABC (only 0 0x00002800)
+    -- [fault: kept] a fetch outside, in user and in system mode: pff with DPC; a load to register 0 fails, too
+    ∷ fails (once (at 0x4000 0x4004 1) 2048 5 freshShadow) 1 (saving 8 0x4004 0x4000 0x4000) 4 2048 5 freshShadow
+    ∷ fails (once (at 0x3000 0x3004 0) 2048 5 full) 0 (saving 8 0x3004 0x3000 0x3000) 7 2048 5 full
+    ∷ fails (user 0x8C003ABC freshShadow) 1 (saving 16 4 0 0x3ABC) 5 2048 0x8C003ABC (only 0 0x00002800)
     -- [fill: none on a misaligned address] 0xAC011006 and 0x8C015002, and a fetch at 2
     ∷ interrupt (user 0xAC011006 freshShadow) 1 (saving 4 4 0 95) false 2048 0xAC011006 (only 0 0x00002800)
     ∷ interrupt (user 0x8C015002 freshShadow) 1 (saving 4 4 0 95) false 2048 0x8C015002 (only 0 0x00002800)
     ∷ interrupt (once (at 2 8 1) 2048 5 freshShadow) 1 (saving 4 8 2 95) false 2048 5 freshShadow
     -- [emptying: movi2s to PTO] 0x002001D1 empties all, and changes PTO; [emptying: movi2s to PTL] 0x00200211
-    ∷ leaves (system 0x002001D1 full) (4 ∷ 8 ∷ 3 ∷ 91 ∷ 92 ∷ 93 ∷ 94 ∷ 95 ∷ 0 ∷ 0 ∷ []) nine false (host (table 9 6) (set memory 2048 0x002001D1) freshShadow)
-    ∷ leaves (system 0x00200211 full) (4 ∷ 8 ∷ 3 ∷ 91 ∷ 92 ∷ 93 ∷ 94 ∷ 95 ∷ 0 ∷ 0 ∷ []) nine false (host (table 1 9) (set memory 2048 0x00200211) freshShadow)
+    ∷ leaves (system 0x002001D1 full) (4 ∷ 8 ∷ 3 ∷ 91 ∷ 92 ∷ 93 ∷ 94 ∷ 95 ∷ 0 ∷ 0 ∷ []) nine 3 false (host (table 9 6) (set memory 2048 0x002001D1) freshShadow)
+    ∷ leaves (system 0x00200211 full) (4 ∷ 8 ∷ 3 ∷ 91 ∷ 92 ∷ 93 ∷ 94 ∷ 95 ∷ 0 ∷ 0 ∷ []) nine 3 false (host (table 1 9) (set memory 2048 0x00200211) freshShadow)
     -- [emptying: nothing else] movi2s to ESR, rfe, and an interrupt in either mode
-    ∷ leaves (system 0x00200051 full) (4 ∷ 8 ∷ 3 ∷ 9 ∷ 92 ∷ 93 ∷ 94 ∷ 95 ∷ 0 ∷ 0 ∷ []) nine false (host (table 1 6) (set memory 2048 0x00200051) full)
-    ∷ leaves (system 0xFC000000 full) (94 ∷ 93 ∷ 91 ∷ 91 ∷ 92 ∷ 93 ∷ 94 ∷ 95 ∷ 0 ∷ 0 ∷ []) nine false (host (table 1 6) (set memory 2048 0xFC000000) full)
+    ∷ leaves (system 0x00200051 full) (4 ∷ 8 ∷ 3 ∷ 9 ∷ 92 ∷ 93 ∷ 94 ∷ 95 ∷ 0 ∷ 0 ∷ []) nine 3 false (host (table 1 6) (set memory 2048 0x00200051) full)
+    ∷ leaves (system 0xFC000000 full) (94 ∷ 93 ∷ 91 ∷ 91 ∷ 92 ∷ 93 ∷ 94 ∷ 95 ∷ 0 ∷ 0 ∷ []) nine 3 false (host (table 1 6) (set memory 2048 0xFC000000) full)
     ∷ interrupt (system 0 full) 0 (saving 2 4 0 95) false 2048 0 full
     ∷ []
 
@@ -418,9 +432,9 @@ parts =
     -- [fill: by a byte] lbu at an odd address, through the protected entry 2
     ∷ goesOn (user 0x90022ABD freshShadow) 1 (set nine 2 0x06) 0x90022ABD 2048 0x90022ABD (set (only 0 0x00002800) 2 0x00001C00)
     -- [fill: protected store of a byte] pfls with the byte's address
-    ∷ interrupt (user 0xA0012ABD freshShadow) 1 (saving 16 4 0 0x2ABD) false 2048 0xA0012ABD (set (only 0 0x00002800) 2 0x00001C00)
+    ∷ fails (user 0xA0012ABD freshShadow) 1 (saving 16 4 0 0x2ABD) 6 2048 0xA0012ABD (set (only 0 0x00002800) 2 0x00001C00)
     -- [fill: none by a byte's failed test] a load to register 0 that faults
-    ∷ interrupt (user 0x80004ABF freshShadow) 1 (saving 16 4 0 0x4ABF) false 2048 0x80004ABF (only 0 0x00002800)
+    ∷ fails (user 0x80004ABF freshShadow) 1 (saving 16 4 0 0x4ABF) 4 2048 0x80004ABF (only 0 0x00002800)
     -- [fill: none on a misaligned half word]
     ∷ interrupt (user 0xA4012ABD freshShadow) 1 (saving 4 4 0 95) false 2048 0xA4012ABD (only 0 0x00002800)
     ∷ interrupt (user 0x84022ABF freshShadow) 1 (saving 4 4 0 95) false 2048 0x84022ABF (only 0 0x00002800)

@@ -1,5 +1,5 @@
 -- The lone memory and the shadowed memory, as two instances of `dlx`'s memory.
-use mathlib.Core.Bool.{Bool, true, false, not, _&&_}
+use mathlib.Core.Bool.{Bool, not, _&&_}
 use mathlib.Core.List.{List}
 use Prim.Native.Nat.{ℕ, _+_, _*_, _/_, _%_}
 use lib.Dec.{ltb, eqb}
@@ -9,7 +9,7 @@ use Rattle.dlx.specs.Machine.{Ops}
 use Rattle.dlx.specs.declared.partition.Table.{Table}
 use Rattle.dlx.specs.declared.execute.Access.{Access}
 use Rattle.dlx.specs.declared.execute.Access.the-variants.{Fault, Word}
-use Rattle.translate.specs.Entries.{number, valid, protection, entryOf, Found, fault, found}
+use Rattle.translate.specs.Entries.{number, valid, protection, entryOf, Found, fault, found, protectedPage}
 use Rattle.translate.specs.Walk.{entries, walked, direct}
 
 -- the word of page or frame k that the byte address a names
@@ -35,13 +35,13 @@ unfoldable pub loneFound : ℕ → Lone → Bool → ℕ → Found
 loneFound n s user a = if user then walked (loneWord s) n (s .table) (a / 4096) else direct n a
 
 unfoldable pub loneRead : Lone → ℕ → Found → Access
-loneRead s a fault = Fault
+loneRead s a (fault x) = Fault x
 loneRead s a (found k p) = Word (loneWord s (wordIn k a))
 
-unfoldable pub loneWritten : Lone → ℕ → (ℕ → ℕ) → Found → Bool × Lone
-loneWritten s a f fault = (false, s)
+unfoldable pub loneWritten : Lone → ℕ → (ℕ → ℕ) → Found → ℕ × Lone
+loneWritten s a f (fault x) = (x, s)
 loneWritten s a f (found k p) =
-    if eqb p 1 then (false, s) else (true, lone (s .table) (updated (s .words) (wordIn k a) f))
+    if eqb p 1 then (protectedPage, s) else (0, lone (s .table) (updated (s .words) (wordIn k a) f))
 
 abbrev pub loneMemory : ℕ → Ops Lone
 loneMemory n = record {
@@ -68,11 +68,12 @@ place fr i = getD fr (i / 1024) 0 * 1024 + i % 1024
 abbrev pub hostWord : List ℕ → List ℕ → ℕ → ℕ
 hostWord fr ws i = getD ws (place fr i) 0
 
+-- a fault stands as its number, in which bit 11 is 0
 unfoldable pub hosted : List ℕ → Found → ℕ
-hosted fr fault = 0
+hosted fr (fault x) = x
 hosted fr (found k p) = entryOf (getD fr k 0) p
 
--- the shadow entry that the guest's table and the host's list give now
+-- the shadow entry that the guest's table and the host's list give now, or the fault
 unfoldable pub given : List ℕ → ℕ → Table → List ℕ → ℕ → ℕ
 given fr n t ws px = hosted fr (walked (hostWord fr ws) n t px)
 
@@ -85,12 +86,12 @@ looked fr n s px =
     if valid (getD (s .shadow) px 0) then (getD (s .shadow) px 0, s) else
     (given fr n (s .table) (s .words) px, filled s px (given fr n (s .table) (s .words) px))
 
--- the entry that serves an access at the byte address a
+-- the entry that serves an access at the byte address a, or the fault
 unfoldable pub served : List ℕ → ℕ → Host → Bool → ℕ → ℕ × Host
 served fr n s user a = if user then looked fr n s (a / 4096) else (hosted fr (direct n a), s)
 
 unfoldable pub hostRead : Host → ℕ → ℕ → Access
-hostRead s a e = if valid e then Word (getD (s .words) (wordIn (number e) a) 0) else Fault
+hostRead s a e = if valid e then Word (getD (s .words) (wordIn (number e) a) 0) else Fault e
 
 -- A store into word `off` of the frame f hits entry `off` of the table where f holds page PTO: the 1,024 entries fill exactly that one page.
 unfoldable pub emptied : List ℕ → ℕ → Table → ℕ → ℕ → List ℕ → List ℕ
@@ -98,16 +99,16 @@ emptied fr n t f off sh =
     if ltb (t .pto) n && eqb (getD fr (t .pto) 0) f && ltb off (t .ptl) && ltb off entries then set sh off 0 else sh
 
 -- the data access, then emptying
-unfoldable pub hostWritten : List ℕ → ℕ → Host → ℕ → (ℕ → ℕ) → ℕ → Bool × Host
+unfoldable pub hostWritten : List ℕ → ℕ → Host → ℕ → (ℕ → ℕ) → ℕ → ℕ × Host
 hostWritten fr n s a f e =
-    if valid e && not (eqb (protection e) 1) then
-    (true, host (s .table) (updated (s .words) (wordIn (number e) a) f) (emptied fr n (s .table) (number e) (a / 4 % 1024) (s .shadow)))
-    else (false, s)
+    if not (valid e) then (e, s) else
+    if eqb (protection e) 1 then (protectedPage, s) else
+    (0, host (s .table) (updated (s .words) (wordIn (number e) a) f) (emptied fr n (s .table) (number e) (a / 4 % 1024) (s .shadow)))
 
 unfoldable pub hostReads : List ℕ → ℕ → Host → Bool → ℕ → Access × Host
 hostReads fr n s user a = let g = served fr n s user a in (hostRead (g .1) a (g .0), g .1)
 
-unfoldable pub hostWrites : List ℕ → ℕ → Host → Bool → ℕ → (ℕ → ℕ) → Bool × Host
+unfoldable pub hostWrites : List ℕ → ℕ → Host → Bool → ℕ → (ℕ → ℕ) → ℕ × Host
 hostWrites fr n s user a f = let g = served fr n s user a in hostWritten fr n (g .1) a f (g .0)
 
 -- a fresh shadow table

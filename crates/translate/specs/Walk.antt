@@ -16,11 +16,11 @@ entryAddress t px = 4096 * t .pto + 4 * px
 -- user mode: page px of a guest of n pages, whose words are read by `guest`
 unfoldable pub walked : (ℕ → ℕ) → ℕ → Table → ℕ → Found
 walked guest n t px =
-    if leb (t .ptl) px then fault else
-    if leb entries px then fault else
-    if leb (4096 * n) (entryAddress t px) then fault else
+    if leb (t .ptl) px then fault 1 else
+    if leb entries px then fault 2 else
+    if leb (4096 * n) (entryAddress t px) then fault 3 else
     judged n (guest (entryAddress t px / 4))
 
 -- system mode: the byte address a must be below 4,096 times the page count
 unfoldable pub direct : ℕ → ℕ → Found
-direct n a = if ltb a (4096 * n) then found (a / 4096) 0 else fault
+direct n a = if ltb a (4096 * n) then found (a / 4096) 0 else fault 7

@@ -6,9 +6,12 @@ use borrow.Author.Needs.{needs}
 use Rattle.shadow.proofs.look.Statement.{statement}
 use Rattle.shadow.proofs.look.Tie as tie
 
+walk-requires : tie.Need-walk-requires
+walk-requires c κs = search needs
+
 returns : tie.Need-returns
 unfolding looked filled
-returns c = sym (looked-none _ _ _ _ _ _ (c .before .before .before .before .pre .1 .count) (c .if1 .taken))
+returns c = rw (c .walk .ensures) (sym (looked-none _ _ _ _ _ _ (c .before .before .before .before .before .pre .1 .count) (c .before .if1 .taken)))
 
 wide-requires : tie.Need-wide-requires
 wide-requires c κs = search needs
@@ -23,8 +26,8 @@ returns-2 : tie.Need-returns-2
 unfolding looked filled
 returns-2 c = simp (c .before .before .wide .ensures, eq-eqb _ _ (simp (c .before .before .wide .ensures) at (c .if2 .taken)))
 
-walk-requires : tie.Need-walk-requires
-walk-requires c κs = search needs
+walk-requires-2 : tie.Need-walk-requires-2
+walk-requires-2 c κs = search needs
 
 wide-requires-2 : tie.Need-wide-requires-2
 wide-requires-2 c κs = search needs
@@ -40,22 +43,23 @@ same-length c = search needs
 
 returns-3 : tie.Need-returns-3
 unfolding looked filled
-returns-3 c = simp (c .wide2 .ensures, c .before .before .walk .ensures, eq-eqb _ _ (simp (c .before .before .walk .ensures) at (c .before .if3 .taken)), ne-eqb _ _ (simp (c .before .before .before .before .before .wide .ensures) at (c .before .before .before .if2 .left)))
+returns-3 c = simp (c .wide2 .ensures, c .before .before .walk2 .ensures, eq-eqb _ _ (simp (c .before .before .walk2 .ensures) at (c .before .if3 .taken)), ne-eqb _ _ (simp (c .before .before .before .before .before .wide .ensures) at (c .before .before .before .if2 .left)))
 
 returns-4 : tie.Need-returns-4
 unfolding looked filled
-returns-4 c = simp (c .before .walk .ensures, ne-eqb _ _ (simp (c .before .walk .ensures) at (c .if3 .left)), ne-eqb _ _ (simp (c .before .before .before .before .wide .ensures) at (c .before .before .if2 .left)))
+returns-4 c = simp (c .before .walk2 .ensures, ne-eqb _ _ (simp (c .before .walk2 .ensures) at (c .if3 .left)), ne-eqb _ _ (simp (c .before .before .before .before .wide .ensures) at (c .before .before .if2 .left)))
 
 pub look-spec : {M : Type 1} → statement M
 look-spec =
     tie.close
     (tie.spec
+    walk-requires
     returns
     wide-requires
     mul-e
     slice-read-e
     returns-2
-    walk-requires
+    walk-requires-2
     wide-requires-2
     mul-shadow
     slice-write-shadow
