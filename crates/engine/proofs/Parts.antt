@@ -9,43 +9,42 @@ use native.Mathlib.Omega.{arith}
 use lib.ListN.{length}
 use Rattle.dlx.specs.Fields.{brought}
 use Rattle.dlx.specs.Processor.{user, behind}
-use Rattle.dlx.specs.Machine.{Ops, Core, Outcome, outcome, fetched, accessed, loaded, handed, settled, retabled, step, requestOf, asked, Desk, accessedAt, stepAt, stretchFrom, Places, Asks}
+use Rattle.dlx.specs.Machine.{Ops, Core, Outcome, outcome, fetched, afterRead, accessed, loaded, settled, retabled, step, requestOf, asked, Desk, accessedAt, stepAt, stretchFrom, Places, Asks}
 use Rattle.dlx.specs.declared.execute.Access.{Access}
 use Rattle.dlx.specs.declared.execute.Access.the-variants.{Word}
 use Rattle.dlx.specs.declared.execute.Change.{Change}
 use Rattle.dlx.specs.declared.execute.Change.the-variants.{Plain}
 use Rattle.dlx.specs.declared.execute.Effect.{Effect}
 use Rattle.dlx.specs.declared.execute.Effect.the-variants.{Load}
-use Rattle.dlx.proofs.Places.{fetched-places, accessed-places, handed-count}
+use Rattle.dlx.proofs.Places.{fetched-places, accessed-places, accessed-count}
 use Rattle.tickets.specs.Queues.{Queues, Seated, desk}
 use Rattle.tickets.proofs.Queues.{desk-queued}
 use Rattle.translate.specs.Memory.{Host, hostReads, hostMemory}
 use Rattle.translate.proofs.Steps.{Whole, fetched-whole, step-whole}
 
 module _ {S T : Type 0} (O : Ops S) (D : Desk T) where
-  pub step-is : (c c₁ : Core) (s s₁ s₂ s₃ : S) (q q₁ : T) (e : Effect) (x : Change) (o : Outcome) → (e, s₁) ≡ fetched O (c, s) → ((c₁, (x, s₂)), q₁) ≡ accessedAt O D c e s₁ q → o ≡ settled c₁ x → s₃ ≡ retabled O x s₂ → ((o, s₃), q₁) ≡ stepAt O D (c, s) q
+  pub step-is : (c c₁ c₂ : Core) (s s₁ s₂ s₃ : S) (q q₁ : T) (e : Effect) (x : Change) (o : Outcome) → ((e, c₁), s₁) ≡ fetched O (c, s) → (((x, c₂), s₂), q₁) ≡ accessedAt O D c₁ e s₁ q → o ≡ settled c₂ x → s₃ ≡ retabled O x s₂ → ((o, s₃), q₁) ≡ stepAt O D (c, s) q
   unfolding step asked
-  step-is c c₁ s s₁ s₂ s₃ q q₁ e x o f a t r =
-      let a₀ : (x, s₂) ≡ accessed O (D q (requestOf e) .0) (c .processor) e s₁ = ap (λ (g : (Core × (Change × S)) × T). g .0 .1) a in
-      let a₁ : q₁ ≡ D q (requestOf e) .1 = ap (λ (g : (Core × (Change × S)) × T). g .1) a in
-      let a₂ : c₁ ≡ handed e (D q (requestOf e) .0) c = ap (λ (g : (Core × (Change × S)) × T). g .0 .0) a in
-      simp (← f, ← a₀, ← a₁, ← a₂, t, r)
+  step-is c c₁ c₂ s s₁ s₂ s₃ q q₁ e x o f a t r =
+      let a₀ : ((x, c₂), s₂) ≡ accessed O (D q (requestOf e) .0) c₁ e s₁ = ap (λ (g : ((Change × Core) × S) × T). g .0) a in
+      let a₁ : q₁ ≡ D q (requestOf e) .1 = ap (λ (g : ((Change × Core) × S) × T). g .1) a in
+      simp (← f, ← a₀, ← a₁, t, r)
 
 -- a load that finds a word
-pub load-is : (fr : List ℕ) (n count i : ℕ) (c : Core) (h h₁ : Host) (q : Queues) (e : Effect) (x : Access) (d a o w v next : ℕ) → e ≡ Load d a o → (x, h₁) ≡ hostReads fr n h (user (c .processor)) a → x ≡ Word w → v ≡ brought o a w → next ≡ behind (c .processor) → ((c, (Plain d v next, h₁)), q) ≡ accessedAt (hostMemory fr n) (desk count i) c e h q
-unfolding accessed loaded handed requestOf desk
+pub load-is : (fr : List ℕ) (n count i : ℕ) (c : Core) (h h₁ : Host) (q : Queues) (e : Effect) (x : Access) (d a o w v next : ℕ) → e ≡ Load d a o → (x, h₁) ≡ hostReads fr n h (user (c .processor)) a → x ≡ Word w → v ≡ brought o a w → next ≡ behind (c .processor) → (((Plain d v next, c), h₁), q) ≡ accessedAt (hostMemory fr n) (desk count i) c e h q
+unfolding accessed loaded afterRead requestOf desk
 load-is fr n count i c h h₁ q e x d a o w v next f r k b t = simp (f, ← r, k, b, t)
 
 module _ (fr : List ℕ) (n size count i : ℕ) where
-  pub after-fetch : (c : Core) (h h₁ : Host) (e : Effect) → Whole fr n size h → (e, h₁) ≡ fetched (hostMemory fr n) (c, h) → Whole fr n size h₁ × Asks e
-  after-fetch c h h₁ e w f =
-      subst (λ (g : Effect × Host). Whole fr n size (g .1) × Asks (g .0)) (sym f)
+  pub after-fetch : (c c₁ : Core) (h h₁ : Host) (e : Effect) → Whole fr n size h → ((e, c₁), h₁) ≡ fetched (hostMemory fr n) (c, h) → Whole fr n size h₁ × Asks e
+  after-fetch c c₁ h h₁ e w f =
+      subst (λ (g : (Effect × Core) × Host). Whole fr n size (g .1) × Asks (g .0 .0)) (sym f)
       (fetched-whole fr n size c h w, fetched-places (hostMemory fr n) c h)
 
-  pub after-access : (c c₁ : Core) (h h₂ : Host) (q q₁ : Queues) (e : Effect) (x : Change) → length (c .registers) ≡ 32 → Whole fr n size h × Asks e → ((c₁, (x, h₂)), q₁) ≡ accessedAt (hostMemory fr n) (desk count i) c e h q → (length (c₁ .registers) ≡ 32) × Places x
+  pub after-access : (c c₁ : Core) (h h₂ : Host) (q q₁ : Queues) (e : Effect) (x : Change) → length (c .registers) ≡ 32 → Whole fr n size h × Asks e → (((x, c₁), h₂), q₁) ≡ accessedAt (hostMemory fr n) (desk count i) c e h q → (length (c₁ .registers) ≡ 32) × Places x
   after-access c c₁ h h₂ q q₁ e x l w a =
-      subst (λ (g : (Core × (Change × Host)) × Queues). (length (g .0 .0 .registers) ≡ 32) × Places (g .0 .1 .0)) (sym a)
-      (handed-count e _ c ∙ l, accessed-places (hostMemory fr n) _ (c .processor) e h (w .1))
+      subst (λ (g : ((Change × Core) × Host) × Queues). (length (g .0 .0 .1 .registers) ≡ 32) × Places (g .0 .0 .0)) (sym a)
+      (accessed-count (hostMemory fr n) _ c e h ∙ l, accessed-places (hostMemory fr n) _ c e h (w .1))
 
   pub after-step : (c : Core) (h h′ : Host) (q q′ : Queues) (o : Outcome) → Whole fr n size h → Seated count i q → ((o, h′), q′) ≡ stepAt (hostMemory fr n) (desk count i) (c, h) q → Whole fr n size h′ × Seated count i q′
   after-step c h h′ q q′ o w k s =

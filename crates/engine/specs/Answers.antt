@@ -12,16 +12,16 @@ use Rattle.engine.specs.declared.Stretched.{Stretched}
 abbrev pub receivedOf : List ℕ → Reply × Queues → (List ℕ × ℕ) × Queues
 receivedOf regs g = ((received regs (g .0), g .0 .code), g .1)
 
--- a step's answer, with the registers, the host's words and the shadow at exit
-abbrev pub outcomeOf : Stepped → List ℕ → List ℕ → List ℕ → Outcome × Host
-outcomeOf r regs words shadow = (outcome (core (r .processor) regs) (r .calls), host (r .table) words shadow)
+-- a step's answer, with the registers, the latest fault, the host's words and the shadow at exit
+abbrev pub outcomeOf : Stepped → List ℕ → ℕ → List ℕ → List ℕ → Outcome × Host
+outcomeOf r regs latest words shadow = (outcome (core (r .processor) regs latest) (r .calls), host (r .table) words shadow)
 
 -- a stretch's
-abbrev pub stretchOf : Stretched → List ℕ → List ℕ → List ℕ → Queues → Stretch Host Queues
-stretchOf r regs words shadow q = record {
+abbrev pub stretchOf : Stretched → List ℕ → ℕ → List ℕ → List ℕ → Queues → Stretch Host Queues
+stretchOf r regs latest words shadow q = record {
   made = r .made;
   called = r .called;
-  core = core (r .processor) regs;
+  core = core (r .processor) regs latest;
   memory = host (r .table) words shadow;
   desk = q;
 }

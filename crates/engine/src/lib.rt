@@ -1,4 +1,5 @@
-// The interpreter: one guest step through the shadow, and a stretch of steps, on lent arrays. The processor's numbers go by value.
+// The interpreter: one guest step through the shadow, and a stretch of steps, on lent arrays. The processor's numbers go by value; the latest translation fault
+// is lent, so that only a step that faults touches it.
 ghost use mathlib.Core.Path.{_≡_};
 ghost use mathlib.Core.List.{List};
 ghost use Prim.Native.Nat.{ℕ, _<_};
@@ -31,7 +32,7 @@ pub struct Stretched {
     pub called: bool,
 }
 
-// The fetch at DPC, and what its word asks for.
+// The fetch at DPC, and what its word asks for. A fault is the latest then.
 fn fetch(
     p: Processor,
     t: Table,
@@ -40,16 +41,20 @@ fn fetch(
     frames: &[u32],
     shadow: &mut [u32],
     words: &[u32],
+    latest: &mut u32,
 ) -> Effect
     requires { ⌜ length (now regs) ≡ 32 ⌝ ∗ ⌜ Placed (now frames) pages (length (now words)) ⌝ ∗ ⌜ Shadowed (now frames) pages (now shadow) ⌝ }
-    ensures { λ r. ⌜ (r, host t (now (words .entry)) (now (shadow .exit))) ≡ fetched (hostMemory (now (frames .entry)) pages) (core p (now (regs .entry)), host t (now (words .entry)) (now (shadow .entry))) ⌝ }
+    ensures { λ r. ⌜ ((r, core p (now (regs .entry)) (now (latest .exit))), host t (now (words .entry)) (now (shadow .exit))) ≡ fetched (hostMemory (now (frames .entry)) pages) (core p (now (regs .entry)) (now (latest .entry)), host t (now (words .entry)) (now (shadow .entry))) ⌝ }
 {
     let dpc = p.dpc;
     if dpc % 4 != 0 {
         return Effect::Done(Change::Cause(Partition::MAL, 0));
     }
     match shadow::load(words, frames, shadow, pages, t, p.mode == 1, dpc) {
-        Access::Fault => Effect::Done(Change::Cause(Partition::PFF, dpc)),
+        Access::Fault(n) => {
+            *latest = n;
+            Effect::Done(Change::Cause(Partition::PFF, dpc))
+        }
         Access::Word(w) => processor::execute::execute(
             p,
             t,
@@ -72,7 +77,7 @@ fn receive(regs: &mut [u32], i: u32, tickets: &mut [u32], waiting: &mut [u32]) -
     reply.code
 }
 
-// The data access, where the instruction asks for one. A ticket that it takes stands in register 1 then.
+// The data access, where the instruction asks for one. A ticket that it takes stands in register 1 then, and a fault is the latest.
 fn access(
     p: Processor,
     t: Table,
@@ -85,10 +90,11 @@ fn access(
     i: u32,
     tickets: &mut [u32],
     waiting: &mut [u32],
+    latest: &mut u32,
     e: Effect,
 ) -> Change
     requires { ⌜ length (now regs) ≡ 32 ⌝ ∗ ⌜ Placed (now frames) pages (length (now words)) ⌝ ∗ ⌜ Shadowed (now frames) pages (now shadow) ⌝ ∗ ⌜ Seated count i (queues (now tickets) (now waiting)) ⌝ ∗ ⌜ Asks e ⌝ }
-    ensures { λ r. ⌜ ((core p (now (regs .exit)), (r, host t (now (words .exit)) (now (shadow .exit)))), queues (now (tickets .exit)) (now (waiting .exit))) ≡ accessedAt (hostMemory (now (frames .entry)) pages) (desk count i) (core p (now (regs .entry))) e (host t (now (words .entry)) (now (shadow .entry))) (queues (now (tickets .entry)) (now (waiting .entry))) ⌝ }
+    ensures { λ r. ⌜ (((r, core p (now (regs .exit)) (now (latest .exit))), host t (now (words .exit)) (now (shadow .exit))), queues (now (tickets .exit)) (now (waiting .exit))) ≡ accessedAt (hostMemory (now (frames .entry)) pages) (desk count i) (core p (now (regs .entry)) (now (latest .entry))) e (host t (now (words .entry)) (now (shadow .entry))) (queues (now (tickets .entry)) (now (waiting .entry))) ⌝ }
 {
     let next = std::num::wrapping_add_u32(p.pc, 4);
     match e {
@@ -102,13 +108,18 @@ fn access(
             p.mode == 1,
             a,
         ) {
-            Access::Fault => Change::Cause(Partition::PFLS, a),
+            Access::Fault(n) => {
+                *latest = n;
+                Change::Cause(Partition::PFLS, a)
+            }
             Access::Word(w) => Change::Plain(rd, processor::fields::bring(o, a, w), next),
         },
         Effect::Store(o, a, v) => {
-            if shadow::store(words, frames, shadow, pages, t, p.mode == 1, o, a, v) {
+            let n = shadow::store(words, frames, shadow, pages, t, p.mode == 1, o, a, v);
+            if n == 0 {
                 return Change::Plain(0, 0, next);
             }
+            *latest = n;
             Change::Cause(Partition::PFLS, a)
         }
         Effect::Send(v, to) => {
@@ -152,11 +163,12 @@ pub fn step(
     i: u32,
     tickets: &mut [u32],
     waiting: &mut [u32],
+    latest: &mut u32,
 ) -> Stepped
     requires { ⌜ length (now regs) ≡ 32 ⌝ ∗ ⌜ Placed (now frames) pages (length (now words)) ⌝ ∗ ⌜ Shadowed (now frames) pages (now shadow) ⌝ ∗ ⌜ Seated count i (queues (now tickets) (now waiting)) ⌝ }
-    ensures { λ r. ⌜ (outcomeOf r (now (regs .exit)) (now (words .exit)) (now (shadow .exit)), queues (now (tickets .exit)) (now (waiting .exit))) ≡ stepAt (hostMemory (now (frames .entry)) pages) (desk count i) (core p (now (regs .entry)), host t (now (words .entry)) (now (shadow .entry))) (queues (now (tickets .entry)) (now (waiting .entry))) ⌝ }
+    ensures { λ r. ⌜ (outcomeOf r (now (regs .exit)) (now (latest .exit)) (now (words .exit)) (now (shadow .exit)), queues (now (tickets .exit)) (now (waiting .exit))) ≡ stepAt (hostMemory (now (frames .entry)) pages) (desk count i) (core p (now (regs .entry)) (now (latest .entry)), host t (now (words .entry)) (now (shadow .entry))) (queues (now (tickets .entry)) (now (waiting .entry))) ⌝ }
 {
-    let e = fetch(p, t, pages, regs, frames, shadow, words);
+    let e = fetch(p, t, pages, regs, frames, shadow, words, latest);
     let c = access(
         p,
         t,
@@ -169,6 +181,7 @@ pub fn step(
         i,
         tickets,
         waiting,
+        latest,
         e,
     );
     let s = processor::execute::settle(p, regs, c);
@@ -194,10 +207,11 @@ pub fn stretch(
     i: u32,
     tickets: &mut [u32],
     waiting: &mut [u32],
+    latest: &mut u32,
     k: u32,
 ) -> Stretched
     requires { ⌜ length (now regs) ≡ 32 ⌝ ∗ ⌜ Placed (now frames) pages (length (now words)) ⌝ ∗ ⌜ Shadowed (now frames) pages (now shadow) ⌝ ∗ ⌜ Seated count i (queues (now tickets) (now waiting)) ⌝ }
-    ensures { λ r. ⌜ stretchOf r (now (regs .exit)) (now (words .exit)) (now (shadow .exit)) (queues (now (tickets .exit)) (now (waiting .exit))) ≡ stretchFrom (hostMemory (now (frames .entry)) pages) (desk count i) k 0 (core p (now (regs .entry)), host t (now (words .entry)) (now (shadow .entry))) (queues (now (tickets .entry)) (now (waiting .entry))) ⌝ }
+    ensures { λ r. ⌜ stretchOf r (now (regs .exit)) (now (latest .exit)) (now (words .exit)) (now (shadow .exit)) (queues (now (tickets .exit)) (now (waiting .exit))) ≡ stretchFrom (hostMemory (now (frames .entry)) pages) (desk count i) k 0 (core p (now (regs .entry)) (now (latest .entry)), host t (now (words .entry)) (now (shadow .entry))) (queues (now (tickets .entry)) (now (waiting .entry))) ⌝ }
 {
     let mut processor = p;
     let mut table = t;
@@ -215,6 +229,7 @@ pub fn stretch(
             i,
             tickets,
             waiting,
+            latest,
         );
         processor = s.processor;
         table = s.table;
