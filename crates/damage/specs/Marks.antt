@@ -81,11 +81,11 @@ turnOutside count q current left running =
     if eqb left 0 then not (eqb current 0) || any (λ i. getD running i false) 8
     else leb count current || not (getD running current false) || ltb q left
 
-abbrev pub processorWrong : Processor → ℕ → Bool
-processorWrong p first = not (eqb first 0) || ltb 1 (p .mode) || ltb 1 (p .emode)
+abbrev pub processorWrong : Processor → ℕ → ℕ → Bool
+processorWrong p first fault = not (eqb first 0) || ltb 1 (p .mode) || ltb 1 (p .emode) || ltb 7 fault
 
 abbrev pub registersAt : List Partition → List ℕ → ℕ → Bool
-registersAt ps rs i = processorWrong (getD ps i noPartition .processor) (getD (inner (i * 32) 32 rs) 0 0)
+registersAt ps rs i = processorWrong (getD ps i noPartition .processor) (getD (inner (i * 32) 32 rs) 0 0) (getD ps i noPartition .fault)
 
 abbrev pub behind : List ℕ → ℕ → ℕ → Bool
 behind fr n k = leb n k && not (eqb (getD fr k 0) 0)

@@ -171,9 +171,9 @@ fn turn_wrong(count: u32, q: u32, current: u32, left: u32, running: &[bool; 8]) 
     left > q
 }
 
-// Register 0 isn't zero, or MODE or EMODE is above 1.
-fn processor_wrong(p: Processor, first: u32) -> bool
-    ensures { λ r. ⌜ r ≡ processorWrong p first ⌝ }
+// Register 0 isn't zero, MODE or EMODE is above 1, or the latest fault above 7.
+fn processor_wrong(p: Processor, first: u32, fault: u32) -> bool
+    ensures { λ r. ⌜ r ≡ processorWrong p first fault ⌝ }
 {
     if first != 0 {
         return true;
@@ -184,7 +184,7 @@ fn processor_wrong(p: Processor, first: u32) -> bool
     if p.emode > 1 {
         return true;
     }
-    false
+    fault > 7
 }
 
 // The same of the first n partitions.
@@ -196,7 +196,7 @@ fn registers_wrong(parts: [Partition; 8], regs: &[u32], n: usize) -> bool
     while i < n {
         let p = parts[i];
         let s = p.processor;
-        if processor_wrong(s, regs[i * 32]) {
+        if processor_wrong(s, regs[i * 32], p.fault) {
             return true;
         }
         i += 1;
@@ -293,8 +293,9 @@ fn partition_used(p: Partition) -> bool
         s.emode,
         t.pto,
         t.ptl,
+        p.fault,
     ];
-    if not_zero(&numbers, 0, 13) {
+    if not_zero(&numbers, 0, 14) {
         return true;
     }
     return p.counter != 0;

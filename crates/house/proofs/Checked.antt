@@ -16,7 +16,7 @@ use Rattle.dlx.specs.Fields.{field, put, width, brought, placed}
 use Rattle.dlx.specs.Processor.{specialOf, withSpecial}
 use Rattle.dlx.specs.Interrupts.{levelOf, interrupted}
 use Rattle.dlx.specs.Execute.{written, valueOf, overflowsOf, operated, reached, loads, stores, movedTo, trapOf, effectOf}
-use Rattle.dlx.specs.Machine.{executed, fetched, loaded, stored, accessed, received, handed, settled, retabled, step, requestOf, asked}
+use Rattle.dlx.specs.Machine.{executed, fetched, loaded, stored, accessed, received, afterRead, afterWrite, settled, retabled, step, requestOf, asked}
 use Rattle.dlx.specs.Examples.{all, same}
 use Rattle.translate.specs.Entries.{judged, composed}
 use Rattle.translate.specs.Walk.{walked, direct}
@@ -67,7 +67,7 @@ joined (x ∷ a) b e f = rw (and-left x (all a) e) (joined a b (and-right x (all
 
 -- all that the examples compute with, but damage
 computing : ℕ
-unfolding freshShadows all papers boots widest turns calls whole damages places exchanges leaves across alone two idle three uneven seven busy pair interrupt current answers same flags fields numbers sameHouse sameWorld ran once mapped plain unbooted after trapped six counts stepping comes missized refuses does reading gives beyond within twice once-each outOfTurn inTurn misset set-right astray used inner outer listFrom any firstFrom firstOf sum bootVerdict laid offset bootedHouse nextFrom turnOf requestNow replyNow queuesNext desk sending taking asked requestOf guestStep settledHouse stepWith hostStep hostSteps bootCall runVerdict runCall oneVerdict started stopped emptiedHouse startCall stopCall emptyCall readVerdict readOut readCall judged composed walked direct hosted given filled looked served hostRead emptied hostWritten hostReads hostWrites step fetched executed loaded stored accessed received handed settled retabled instructionOf registerType effectOf written valueOf overflowsOf operated reached loads stores movedTo trapOf specialOf withSpecial interrupted levelOf trailingZeros extendedBy readIn holds partType field put width brought placed
+unfolding freshShadows all papers boots widest turns calls whole damages places exchanges leaves across alone two idle three uneven seven busy pair interrupt current answers same flags fields numbers sameHouse sameWorld ran once mapped plain unbooted after trapped six counts stepping comes missized refuses does reading gives beyond within twice once-each outOfTurn inTurn misset set-right astray used inner outer listFrom any firstFrom firstOf sum bootVerdict laid offset bootedHouse nextFrom turnOf requestNow replyNow queuesNext desk sending taking asked requestOf guestStep settledHouse stepWith hostStep hostSteps bootCall runVerdict runCall oneVerdict started stopped emptiedHouse startCall stopCall emptyCall readVerdict readOut readCall judged composed walked direct hosted given filled looked served hostRead emptied hostWritten hostReads hostWrites step fetched executed loaded stored accessed received afterRead afterWrite settled retabled instructionOf registerType effectOf written valueOf overflowsOf operated reached loads stores movedTo trapOf specialOf withSpecial interrupted levelOf trailingZeros extendedBy readIn holds partType field put width brought placed
 computing = 0
 
 -- how a call comes to its answer

@@ -45,12 +45,13 @@ turnWrong h =
     if eqb (h .left) 0 then not (eqb (h .current) 0) || any (runs h) 8
     else leb (h .count) (h .current) || not (runs h (h .current)) || ltb (h .q) (h .left)
 
--- register 0 is not zero, or MODE or EMODE is above 1
+-- register 0 is not zero, MODE or EMODE is above 1, or the latest fault above 7
 unfoldable pub registersWrong : House → Bool
 registersWrong h =
     any (λ i. not (eqb (getD (registersOf h i) 0 0) 0)
     || ltb 1 (partition h i .processor .mode)
-    || ltb 1 (partition h i .processor .emode)) (h .count)
+    || ltb 1 (partition h i .processor .emode)
+    || ltb 7 (partition h i .fault)) (h .count)
 
 -- a shadow entry that is valid, and whose frame isn't its partition's; or anything but 0 in one that is empty, or in a valid one's unused bits
 abbrev pub entryWrong : List ℕ → ℕ → ℕ → Bool
@@ -79,6 +80,7 @@ partitionUsed p =
     || not (eqb (p .processor .emode) 0)
     || not (eqb (p .table .pto) 0)
     || not (eqb (p .table .ptl) 0)
+    || not (eqb (p .fault) 0)
     || not (eqb (p .counter) 0)
 
 unfoldable pub unusedWrong : House → Bool

@@ -6,7 +6,7 @@ use Prim.Native.Nat.{ℕ, _+_, _-_, _*_, _^_}
 use lib.Dec.{eqb}
 use lib.ListN.{length, getD, set, take, drop, replicate}
 use mir.Val.{boolByte}
-use Rattle.dlx.specs.Processor.{freshOf, withProcessor, withTable, withCounter}
+use Rattle.dlx.specs.Processor.{freshOf, withProcessor, withTable, withCounter, withFault}
 use Rattle.dlx.specs.Examples.{same}
 use Rattle.dlx.specs.Interrupts.{levelOf}
 use Rattle.dlx.specs.declared.partition.Partition.{Partition}
@@ -97,7 +97,8 @@ part pages p pto ptl counter =
 -- 1, and no shadow entry is valid. What the examples do not reach of its lists is left out.
 abbrev numbered : ℕ → Partition
 numbered i =
-    part 2
+    withFault
+    (part 2
     (record {
       dpc = 100 + i;
       pc = 110 + i;
@@ -110,7 +111,8 @@ numbered i =
       mode = 180 + i;
       emode = 190 + i;
     })
-    (200 + i) (210 + i) (220 + i)
+    (200 + i) (210 + i) (220 + i))
+    (230 + i)
 
 abbrev alternate : List Bool
 alternate = true ∷ true ∷ false ∷ true ∷ replicate 4 false
@@ -147,7 +149,7 @@ current h c l = eqb (h .current) c && eqb (h .left) l
 unfoldable pub answers : Verdict → ℕ → ℕ → Bool
 answers v n d = eqb (v .number) n && eqb (v .detail) d
 
--- every number in a house, 10,885 of them
+-- every number in a house, 10,893 of them
 
 unfoldable pub flags : List Bool → List ℕ
 flags [] = []
@@ -158,7 +160,7 @@ fields [] = []
 fields (p ∷ ps) =
     let c = p .processor in
     p .pages ∷ c .dpc ∷ c .pc ∷ c .sr ∷ c .esr ∷ c .eca ∷ c .epc ∷ c .edpc ∷ c .edata ∷ c .mode ∷ c .emode
-    ∷ p .table .pto ∷ p .table .ptl ∷ p .counter ∷ fields ps
+    ∷ p .table .pto ∷ p .table .ptl ∷ p .counter ∷ p .fault ∷ fields ps
 
 unfoldable pub numbers : House → List ℕ
 numbers h =
@@ -252,6 +254,8 @@ papers =
     -- px 1,023 may pass, 1,024 never
     ∷ eqb (register (mapped 4 1023 0x00003800 lw) 1) 77
     ∷ interrupt (mapped 4 1024 0x00003800 lw) 16 0 4 0x400000
+    -- [fault: kept] in the partition's record: px above 1,023, a page that is not there, a protected page; none where a load works
+    ∷ same (map (λ w. partition (w .house) 0 .fault) (mapped 4 1024 0x00003800 lw ∷ mapped 3 1 0x00003C00 sw ∷ mapped 4 1 0x00003C00 sw ∷ mapped 4 1 0x00003C00 lw ∷ [])) (2 ∷ 5 ∷ 6 ∷ 0 ∷ [])
     ∷ []
 
 -- ---- boot
@@ -263,7 +267,7 @@ plain q words = bootVerdict (1 ∷ []) q (1 ∷ []) words
 -- a refused boot returns the house of no partitions, every number in it 0, and the memory as it was
 unfoldable pub unbooted : Answered → ℕ → ℕ → List ℕ → Bool
 unbooted a n d m =
-    answers (a .verdict) n d && same (numbers (a .world .house)) (zeros 10885) && same (a .world .memory) m
+    answers (a .verdict) n d && same (numbers (a .world .house)) (zeros 10893) && same (a .world .memory) m
 
 unfoldable pub boots : List Bool
 boots =
@@ -327,7 +331,7 @@ boots =
     answers (a .verdict) 0 0
     && same (numbers (a .world .house))
     (3 ∷ 7 ∷ 6144 ∷ 0 ∷ 7 ∷ 1 ∷ 1 ∷ 1 ∷ zeros 5
-    ++ (2 ∷ 0 ∷ 4 ∷ zeros 11 ++ (1 ∷ 0 ∷ 4 ∷ zeros 11 ++ (2 ∷ 0 ∷ 4 ∷ zeros 11 ++ (zeros 70 ++ (zeros 256 ++ (4 ∷ 2 ∷ zeros 254 ++ (3 ∷ zeros 255 ++ (5 ∷ 1 ∷ zeros 1534 ++ (freshShadows ++ zeros 264))))))))))
+    ++ (2 ∷ 0 ∷ 4 ∷ zeros 12 ++ (1 ∷ 0 ∷ 4 ∷ zeros 12 ++ (2 ∷ 0 ∷ 4 ∷ zeros 12 ++ (zeros 75 ++ (zeros 256 ++ (4 ∷ 2 ∷ zeros 254 ++ (3 ∷ zeros 255 ++ (5 ∷ 1 ∷ zeros 1534 ++ (freshShadows ++ zeros 264))))))))))
     && same (a .world .memory) (told 6144))
     ∷ []
 
@@ -353,7 +357,7 @@ six = hostSteps 6 (world two (zeros 2048 ++ (0x20010005 ∷ []))) .house
 unfoldable pub counts : ℕ → ℕ
 counts n = counter (hostStep (world (withPart alone 0 (part 1 (at 0 4 0 0 0) 0 0 n)) []) .house) 0
 
--- One step by partition 1 of `busy`, with l steps left: at DPC 8 and PC 12 in a mode, of the word w. Its entries 0 and 1 lead to its page 0, and to page 1
+-- One step by partition 1 of `busy`, whose latest fault was 3, with l steps left: at DPC 8 and PC 12 in a mode, of the word w. Its entries 0 and 1 lead to its page 0, and to page 1
 -- protected.
 abbrev own : ℕ → ℕ → ℕ → ℕ → Processor
 own dpc pc mode emode =
@@ -363,12 +367,12 @@ abbrev lent : ℕ → List ℕ
 lent w = set (set (set (told 3072) 2048 0x00000800) 2049 0x00001C00) 2050 w
 
 unfoldable pub stepping : ℕ → ℕ → ℕ → World
-stepping l mode w = hostStep (world (withPart (busy alternate 1 l) 1 (part 2 (own 8 12 mode 1) 0 2 500)) (lent w))
+stepping l mode w = hostStep (world (withPart (busy alternate 1 l) 1 (withFault (part 2 (own 8 12 mode 1) 0 2 500) 3)) (lent w))
 
 -- it comes to this turn, partition 1, registers, shadows and memory, and nothing else is changed
 unfoldable pub comes : World → ℕ → ℕ → Processor → List ℕ → List ℕ → List ℕ → Bool
 comes w c l p regs shadows m =
-    sameWorld w (houseAt (busy alternate 1 0) c l (set (listFrom numbered 0 8) 1 (part 2 p 0 2 501)) regs shadows) m
+    sameWorld w (houseAt (busy alternate 1 0) c l (set (listFrom numbered 0 8) 1 (withFault (part 2 p 0 2 501) 3)) regs shadows) m
 
 unfoldable pub turns : List Bool
 turns =
@@ -392,7 +396,7 @@ turns =
     -- [turn: one step] changes nothing of another partition's
     ∷ same (numbers six)
     (2 ∷ 5 ∷ 3072 ∷ 1 ∷ 4 ∷ 1 ∷ 1 ∷ zeros 6
-    ++ (1 ∷ 0 ∷ 4 ∷ 0 ∷ 0 ∷ 2 ∷ 4 ∷ 0 ∷ zeros 5 ++ (5 ∷ 1 ∷ 4 ∷ 8 ∷ zeros 10 ++ (1 ∷ zeros 84 ++ (zeros 33 ++ (5 ∷ zeros 222 ++ (1 ∷ zeros 255 ++ (2 ∷ zeros 10247))))))))
+    ++ (1 ∷ 0 ∷ 4 ∷ 0 ∷ 0 ∷ 2 ∷ 4 ∷ 0 ∷ zeros 5 ++ (5 ∷ 0 ∷ 1 ∷ 4 ∷ 8 ∷ zeros 10 ++ (1 ∷ zeros 91 ++ (zeros 33 ++ (5 ∷ zeros 222 ++ (1 ∷ zeros 255 ++ (2 ∷ zeros 10247))))))))
     -- in a full house: 0xAC4116B2 stores 1033 at 0x1ABC of partition 1, so in frame 1
     ∷ comes (stepping 5 0 0xAC4116B2) 1 4 (own 12 16 0 1) (busy alternate 1 0 .regs) (busy alternate 1 0 .shadows)
     (set (lent 0xAC4116B2) 1711 1033)
@@ -657,6 +661,9 @@ misset =
     -- [damage: MODE]
     ∷ withPart two 0 (part 1 (at 0 4 0 2 0) 0 0 0)
     ∷ withPart two 1 (part 1 (at 0 4 0 2 1) 0 0 0)
+    -- [damage: fault] above 7, of either partition
+    ∷ withPart two 0 (withFault (freshOf 1) 8)
+    ∷ withPart two 1 (withFault (freshOf 1) 4294967295)
     -- [damage: EMODE]
     ∷ withPart two 0 (part 1 (at 0 4 0 0 2) 0 0 0)
     ∷ withPart two 1 (part 1 (at 0 4 0 1 2) 0 0 0)
@@ -669,6 +676,7 @@ set-right =
     ∷ withRegister 63 9
     ∷ withPart two 1 (part 1 (at 0 4 0 1 0) 0 0 0)
     ∷ withPart two 1 (part 1 (at 0 4 0 0 1) 0 0 0)
+    ∷ withPart two 1 (withFault (freshOf 1) 7)
     ∷ []
 
 -- shadow entries
@@ -693,7 +701,8 @@ one k j = boolByte (eqb k j)
 
 unfoldable pub used : ℕ → Partition
 used k =
-    part (one k 0)
+    withFault
+    (part (one k 0)
     (record {
       dpc = one k 1;
       pc = one k 2;
@@ -706,13 +715,14 @@ used k =
       mode = one k 9;
       emode = one k 10;
     })
-    (one k 11) (one k 12) (one k 13)
+    (one k 11) (one k 12) (one k 13))
+    (one k 14)
 
 -- each by its own condition; and each is damage
 unfoldable pub damages : List Bool
 damages =
-    map (λ k. partitionUsed (used k)) (upTo 14)
-    ++ (not (partitionUsed (used 14))
+    map (λ k. partitionUsed (used k)) (upTo 15)
+    ++ (not (partitionUsed (used 15))
     ∷ map outsideLimits beyond
     ++ (map (λ h. not (outsideLimits h)) within
     ++ (map frameTwice twice
@@ -731,7 +741,7 @@ places =
     ∷ unusedWrong (withTurns (true ∷ true ∷ true ∷ replicate 5 false) 0 5)
     -- [damage: unused partition] each of its numbers, above
     ∷ unusedWrong (withPart seven 7 (used 0))
-    ∷ unusedWrong (withPart two 7 (used 13))
+    ∷ unusedWrong (withPart two 7 (used 14))
     -- [damage: unused register]
     ∷ unusedWrong (withRegisters seven (set (zeros 256) 224 1))
     ∷ unusedWrong (withRegister 255 1)

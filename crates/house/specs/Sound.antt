@@ -71,10 +71,11 @@ pub record Undamaged (h : House) : Type 0 where
   -- none current, or one that runs
   pub idle : h .left ≡ 0 → (h .current ≡ 0) × ((i : ℕ) → i < 8 → runs h i ≡ false)
   pub busy : (h .left ≡ 0 → ⊥) → (h .current < h .count) × (runs h (h .current) ≡ true) × (h .left ≤ h .q)
-  -- register 0, MODE and EMODE
+  -- register 0, MODE, EMODE and the latest fault
   pub first : (i : ℕ) → i < h .count → getD (registersOf h i) 0 0 ≡ 0
   pub mode : (i : ℕ) → i < h .count → partition h i .processor .mode ≤ 1
   pub emode : (i : ℕ) → i < h .count → partition h i .processor .emode ≤ 1
+  pub fault : (i : ℕ) → i < h .count → partition h i .fault ≤ 7
   -- the shadows
   pub proper : (i px : ℕ) → i < h .count → px < entries → Proper (framesOf h i) (pagesOf h i) (getD (shadowOf h i) px 0)
   -- unused places
@@ -100,6 +101,7 @@ pub record TypedPartition (p : Partition) : Type 0 where
   pub pto : p .table .pto < 2 ^ 32
   pub ptl : p .table .ptl < 2 ^ 32
   pub counter : p .counter < 2 ^ 64
+  pub fault : p .fault < 2 ^ 32
 
 pub record Typed (w : World) : Type 0 where
   pub shaped : Shaped (w .house)

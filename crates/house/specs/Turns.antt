@@ -6,9 +6,10 @@ use lib.Dec.{eqb}
 use lib.ListN.{getD, set}
 use Rattle.dlx.specs.Choice.{if_then_else_}
 use Rattle.dlx.specs.Machine.{Ops, Core, core, Outcome, Request, asked, step, Stretch}
-use Rattle.dlx.specs.Processor.{withProcessor, withTable, withCounter}
+use Rattle.dlx.specs.Processor.{withProcessor, withTable, withCounter, withFault}
 use Rattle.dlx.specs.declared.execute.Reply.{Reply}
 use Rattle.dlx.specs.declared.partition.Partition.{Partition}
+use Rattle.dlx.specs.declared.partition.Table.{Table}
 use Rattle.translate.specs.Walk.{entries}
 use Rattle.translate.specs.Memory.{Host, host, hostMemory}
 use Rattle.dlx.specs.Parts.{outer}
@@ -51,7 +52,7 @@ turnAfter h made calls = turnOf (h .running) (h .count) (h .q) (h .current) (h .
 abbrev pub guest : World → ℕ → Core × Host
 guest w i =
     let p = partition (w .house) i in
-    (core (p .processor) (registersOf (w .house) i), host (p .table) (w .memory) (shadowOf (w .house) i))
+    (core (p .processor) (registersOf (w .house) i) (p .fault), host (p .table) (w .memory) (shadowOf (w .house) i))
 
 abbrev pub guestMemory : House → ℕ → Ops Host
 guestMemory h i = hostMemory (framesOf h i) (pagesOf h i)
@@ -69,9 +70,13 @@ queuesNext w i = desk (w .house .count) i (queuesOf (w .house)) (requestNow w i)
 unfoldable pub guestStep : World → ℕ → Outcome × Host
 guestStep w i = step (guestMemory (w .house) i) (replyNow w i) (guest w i)
 
+-- the partition with what its guest came to
+abbrev pub withGuest : Partition → Core → Table → Partition
+withGuest p c t = withFault (withTable (withProcessor p (c .processor)) t) (c .fault)
+
 -- the partition after its step: its counter goes up by 1, modulo 2^64
 abbrev pub counted : Partition → Outcome × Host → Partition
-counted p o = withCounter (withTable (withProcessor p (o .0 .core .processor)) (o .1 .table)) ((p .counter + 1) % 2 ^ 64)
+counted p o = withCounter (withGuest p (o .0 .core) (o .1 .table)) ((p .counter + 1) % 2 ^ 64)
 
 -- the house in which partition i's step came to o, and the turn to t
 unfoldable pub settledHouse : House → ℕ → Outcome × Host → Turn → House
@@ -100,7 +105,7 @@ hostSteps (suc n) w = hostStep (hostSteps n w)
 
 -- partition i after a stretch
 abbrev pub countedOn : Partition → Stretch Host Queues → Partition
-countedOn p r = withCounter (withTable (withProcessor p (r .core .processor)) (r .memory .table)) ((p .counter + r .made) % 2 ^ 64)
+countedOn p r = withCounter (withGuest p (r .core) (r .memory .table)) ((p .counter + r .made) % 2 ^ 64)
 
 -- the house in which a stretch of partition i came to r, and the turn to t
 unfoldable pub stretchedHouse : House → ℕ → Stretch Host Queues → Turn → House

@@ -8,7 +8,7 @@ use borrow.Author.Tests.{leb-true, leb-false}
 use lib.Dec.{leb}
 use lib.ListN.{length, getD, set, take, drop}
 use Rattle.dlx.specs.Choice.{if_then_else_}
-use Rattle.dlx.specs.Processor.{withProcessor, withTable, withCounter}
+use Rattle.dlx.specs.Processor.{withProcessor, withTable, withCounter, withFault}
 use Rattle.dlx.specs.Machine.{core, stretchFrom}
 use Rattle.dlx.proofs.Kept.{either}
 use Rattle.dlx.specs.declared.partition.Partition.{Partition}
@@ -38,14 +38,14 @@ module _ (h : House) (current left : ℕ) (parts : List Partition) (regs shadows
   abbrev here : World
   here = world (withQueues (houseAt h current left parts regs shadows) (queues tickets waiting)) m
 
-  module _ (s : Stretched) (regs′ m′ shadow′ tickets′ waiting′ : List ℕ) (n : ℕ) where
+  module _ (s : Stretched) (regs′ m′ shadow′ tickets′ waiting′ : List ℕ) (latest n : ℕ) where
     -- the stretch that the engine was asked for
     abbrev Asked : ℕ → Type 0
     Asked i =
-        stretchOf s regs′ m′ shadow′ (queues tickets′ waiting′)
-        ≡ stretchFrom (hostMemory (lent i 256 (h .frames)) (getD parts i noPartition .pages)) (desk (h .count) current) n 0 (core (getD parts i noPartition .processor) (lent i 32 regs), host (getD parts i noPartition .table) m (lent i entries shadows)) (queues tickets waiting)
+        stretchOf s regs′ latest m′ shadow′ (queues tickets′ waiting′)
+        ≡ stretchFrom (hostMemory (lent i 256 (h .frames)) (getD parts i noPartition .pages)) (desk (h .count) current) n 0 (core (getD parts i noPartition .processor) (lent i 32 regs) (getD parts i noPartition .fault), host (getD parts i noPartition .table) m (lent i entries shadows)) (queues tickets waiting)
 
-    pub asked-turned : (i : ℕ) → i ≡ current → Asked i → Sound here → 0 < n → n ≤ left → Turned here n (stretchOf s regs′ m′ shadow′ (queues tickets′ waiting′))
+    pub asked-turned : (i : ℕ) → i ≡ current → Asked i → Sound here → 0 < n → n ≤ left → Turned here n (stretchOf s regs′ latest m′ shadow′ (queues tickets′ waiting′))
     unfolding inner
     asked-turned i q a o p l =
         subst (Turned here n)
@@ -55,9 +55,9 @@ module _ (h : House) (current left : ℕ) (parts : List Partition) (regs shadows
     -- the house that the loop's body makes of its answer
     abbrev Made : Turn → ℕ → ℕ → World
     Made t counter i =
-        world (withQueues (houseAt h (t .current) (t .left) (set parts i (withCounter (withTable (withProcessor (getD parts i noPartition) (s .processor)) (s .table)) counter)) (back i 32 regs regs′) (back i entries shadows shadow′)) (queues tickets′ waiting′)) m′
+        world (withQueues (houseAt h (t .current) (t .left) (set parts i (withCounter (withFault (withTable (withProcessor (getD parts i noPartition) (s .processor)) (s .table)) latest) counter)) (back i 32 regs regs′) (back i entries shadows shadow′)) (queues tickets′ waiting′)) m′
 
-    pub after-turn : (i : ℕ) (t : Turn) (counter : ℕ) → i ≡ current → Turned here n (stretchOf s regs′ m′ shadow′ (queues tickets′ waiting′)) → t ≡ turnOf (h .running) (h .count) (h .q) current left (s .made) (s .called) → counter ≡ (getD parts i noPartition .counter + s .made) % 2 ^ 64 → Made t counter i ≡ hostSteps (s .made) here
+    pub after-turn : (i : ℕ) (t : Turn) (counter : ℕ) → i ≡ current → Turned here n (stretchOf s regs′ latest m′ shadow′ (queues tickets′ waiting′)) → t ≡ turnOf (h .running) (h .count) (h .q) current left (s .made) (s .called) → counter ≡ (getD parts i noPartition .counter + s .made) % 2 ^ 64 → Made t counter i ≡ hostSteps (s .made) here
     unfolding stretchedHouse outer
     after-turn i t counter q d e c =
         let now = turnOf (h .running) (h .count) (h .q) current left (s .made) (s .called) in

@@ -106,6 +106,7 @@ pub fn steps(mut h: House, memory: &mut [u32], k: u32) -> House
         let e = i * ENTRIES;
         let f = e + ENTRIES;
         let n = limit(left, k - made);
+        let mut latest = p.fault;
         let s = engine::stretch(
             p.processor,
             p.table,
@@ -118,12 +119,14 @@ pub fn steps(mut h: House, memory: &mut [u32], k: u32) -> House
             current,
             &mut tickets,
             &mut waiting,
+            &mut latest,
             n,
         );
         let processor = s.processor;
         let table = s.table;
         p.processor = processor;
         p.table = table;
+        p.fault = latest;
         p.counter = std::num::wrapping_add_u64(p.counter, s.made as u64);
         parts[i] = p;
         let t = turn(&running, count, q, current, left, s.made, s.called);

@@ -58,6 +58,7 @@ module _ (h : House) (m : List ℕ) (u : Undamaged h) (y : Typed (world h m)) wh
       first = u .first;
       mode = u .mode;
       emode = u .emode;
+      fault = u .fault;
       proper = s .proper;
       behind = u .behind;
       unused = λ i l b.

@@ -56,7 +56,7 @@ module _ (h : House) (u : Undamaged h) where
 
   registers-right : registersWrong h ≡ false
   unfolding registersWrong
-  registers-right = any-from (badCore h) (h .count) λ i l. or-none (or-none (zero-is _ (u .first i l)) (le-ltb _ _ (u .mode i l))) (le-ltb _ _ (u .emode i l))
+  registers-right = any-from (badCore h) (h .count) λ i l. or-none (or-none (or-none (zero-is _ (u .first i l)) (le-ltb _ _ (u .mode i l))) (le-ltb _ _ (u .emode i l))) (le-ltb _ _ (u .fault i l))
 
   shadows-right : shadowWrong h ≡ false
   unfolding shadowWrong

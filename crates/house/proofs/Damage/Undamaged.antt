@@ -132,14 +132,29 @@ module _ (h : House) where
     unfolding registersWrong
     core-right = any-none (badCore h) (h .count) e i l
 
+    abbrev first-wrong : Bool
+    first-wrong = not (eqb (getD (registersOf h i) 0 0) 0)
+
+    abbrev mode-wrong : Bool
+    mode-wrong = ltb 1 (partition h i .processor .mode)
+
+    abbrev emode-wrong : Bool
+    emode-wrong = ltb 1 (partition h i .processor .emode)
+
+    three-right : (first-wrong || mode-wrong || emode-wrong) ≡ false
+    three-right = or-left (first-wrong || mode-wrong || emode-wrong) (ltb 7 (partition h i .fault)) core-right
+
     core-first : getD (registersOf h i) 0 0 ≡ 0
-    core-first = is-zero _ (or-left (not (eqb (getD (registersOf h i) 0 0) 0)) (ltb 1 (partition h i .processor .mode)) (or-left _ (ltb 1 (partition h i .processor .emode)) core-right))
+    core-first = is-zero _ (or-left first-wrong mode-wrong (or-left (first-wrong || mode-wrong) emode-wrong three-right))
 
     core-mode : partition h i .processor .mode ≤ 1
-    core-mode = ltb-false 1 _ (or-right (not (eqb (getD (registersOf h i) 0 0) 0)) (ltb 1 (partition h i .processor .mode)) (or-left _ (ltb 1 (partition h i .processor .emode)) core-right))
+    core-mode = ltb-false 1 _ (or-right first-wrong mode-wrong (or-left (first-wrong || mode-wrong) emode-wrong three-right))
 
     core-emode : partition h i .processor .emode ≤ 1
-    core-emode = ltb-false 1 _ (or-right (not (eqb (getD (registersOf h i) 0 0) 0) || ltb 1 (partition h i .processor .mode)) (ltb 1 (partition h i .processor .emode)) core-right)
+    core-emode = ltb-false 1 _ (or-right (first-wrong || mode-wrong) emode-wrong three-right)
+
+    core-fault : partition h i .fault ≤ 7
+    core-fault = ltb-false 7 _ (or-right (first-wrong || mode-wrong || emode-wrong) (ltb 7 (partition h i .fault)) core-right)
 
   entries-proper : shadowWrong h ≡ false → (i px : ℕ) → i < h .count → px < entries → Proper (framesOf h i) (pagesOf h i) (getD (shadowOf h i) px 0)
   unfolding shadowWrong
@@ -233,6 +248,7 @@ module _ (h : House) where
         first = core-first cores;
         mode = core-mode cores;
         emode = core-emode cores;
+        fault = core-fault cores;
         proper = entries-proper (or-right (A || B || C || D) E e₁);
         behind = λ i k l m n. place-behind places i k l (omega (arith, limit-count limits .1)) m n;
         unused = place-unused places;

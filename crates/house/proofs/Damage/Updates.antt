@@ -104,6 +104,7 @@ zeros-typed pc n l m = record {
   pto = omega arith;
   ptl = omega arith;
   counter = omega arith;
+  fault = omega arith;
 }
 
 pub fresh-typed : (n : ℕ) → n < 2 ^ 32 → TypedPartition (freshOf n)

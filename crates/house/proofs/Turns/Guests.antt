@@ -53,6 +53,7 @@ module _ (w : World) (r : Ready w) where
           first = r .whole .first i here;
           words = part-each (λ x. x < 2 ^ 32) (w .house .regs) (i * 32) 32 (omega arith) (r .typed .regs);
         };
+        fault = omega (arith, r .whole .fault i here);
       }
 
   memory-kept : KeptHost (framesOf (w .house) i) (pagesOf (w .house) i) (length (w .memory)) (guest w i .1)

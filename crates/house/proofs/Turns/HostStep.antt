@@ -72,6 +72,7 @@ module _ (w : World) (r : Ready w) (o : Outcome × Host) (t : Turn) where
           first = λ j l. own-or-other (λ _ g _. getD g 0 0 ≡ 0) j (omega (arith, u .few)) (λ _. core .registers .first) (λ _. u .first j l);
           mode = λ j l. own-or-other (λ p _ _. p .processor .mode ≤ 1) j (omega (arith, u .few)) (λ _. omega (arith, core .processor .mode)) (λ _. u .mode j l);
           emode = λ j l. own-or-other (λ p _ _. p .processor .emode ≤ 1) j (omega (arith, u .few)) (λ _. omega (arith, core .processor .emode)) (λ _. u .emode j l);
+          fault = λ j l. own-or-other (λ p _ _. p .fault ≤ 7) j (omega (arith, u .few)) (λ _. omega (arith, core .fault)) (λ _. u .fault j l);
           proper = λ j px l m.
               rw (p j) (own-or-other (λ _ _ s. Proper (framesOf (w .house) j) (pagesOf (w .house) j) (getD s px 0)) j (omega (arith, u .few)) (λ q. rw q (each px)) (λ _. u .proper j px l m));
           behind = λ j k l m. u .behind j k l (rw (p j) at m);
@@ -106,6 +107,7 @@ module _ (w : World) (r : Ready w) (o : Outcome × Host) (t : Turn) where
           pto = memory .table .pto;
           ptl = memory .table .ptl;
           counter = omega arith;
+          fault = omega (arith, core .fault);
         }
 
     settled-typed : Typed (world (settledHouse (w .house) i o t) (o .1 .words))
@@ -155,6 +157,7 @@ queued-ready w r =
         first = u .first;
         mode = u .mode;
         emode = u .emode;
+        fault = u .fault;
         proper = u .proper;
         behind = u .behind;
         unused = λ i l m. let z = u .unused i l m in record { still = z .still; none = z .none; regs = z .regs; frames = z .frames; shadows = z .shadows };

@@ -11,13 +11,13 @@ use lib.ListN.{length, set}
 use lib.Seq.{set-set}
 use Rattle.dlx.specs.declared.partition.Partition.{Partition}
 use Rattle.dlx.specs.Machine.{Ops, Core, core, Outcome, Desk, stepAt, Stretch, stretchFrom}
-use Rattle.dlx.specs.Processor.{withProcessor, withTable, withCounter}
+use Rattle.dlx.specs.Processor.{withCounter}
 use Rattle.dlx.proofs.Kept.{either}
 use Rattle.translate.specs.Walk.{entries}
 use Rattle.translate.specs.Memory.{Host, hostMemory}
 use Rattle.dlx.proofs.Tests.{by-eq}
 use Rattle.house.specs.House.{guests, turn, withTurn, withGuests, withQueues, partition, pagesOf, framesOf, queuesOf}
-use Rattle.house.specs.Turns.{World, world, turnAfter, guest, guestMemory, requestNow, replyNow, queuesNext, guestStep, queuedOn, counted, countedOn, settledHouse, stepWith, hostStep, hostSteps, stretchedHouse, turnOf}
+use Rattle.house.specs.Turns.{withGuest, World, world, turnAfter, guest, guestMemory, requestNow, replyNow, queuesNext, guestStep, queuedOn, counted, countedOn, settledHouse, stepWith, hostStep, hostSteps, stretchedHouse, turnOf}
 use Rattle.tickets.specs.Queues.{Queues, desk}
 use Rattle.house.specs.Sound.{Shaped, Sound}
 use Rattle.house.specs.declared.House.{House}
@@ -52,7 +52,7 @@ carried c j = omega arith
 
 counted-on : (p : Partition) (o : Outcome × Host) (r : Stretch Host Queues) → countedOn (counted p o) r ≡ countedOn p (bumped r)
 unfolding bumped
-counted-on p o r = ap (withCounter (withTable (withProcessor p (r .core .processor)) (r .memory .table))) (carried (p .counter) (r .made))
+counted-on p o r = ap (withCounter (withGuest p (r .core) (r .memory .table))) (carried (p .counter) (r .made))
 
 -- a house with guests, the turn and the queues, by the guests' lists
 same-guests : (h : House) (t : Turn) (k : Queues) {p p′ : List Partition} {r r′ z z′ : List ℕ} → p ≡ p′ → r ≡ r′ → z ≡ z′
