@@ -1,13 +1,13 @@
 -- The three demands, as statements about the definitions that the calls' contracts cite. proofs/Demands.antt proves each.
 use mathlib.Core.Path.{_≡_}
-use mathlib.Core.Bool.{Bool, false, not, _&&_}
+use mathlib.Core.Bool.{Bool, false, not}
 use mathlib.Core.List.{List, _++_}
 use Prim.Native.Nat.{ℕ, _+_, _-_, _*_, _/_, _%_, _^_, _<_, _≤_}
 use lib.Dec.{eqb}
 use lib.ListN.{length, getD, drop}
 use Rattle.dlx.specs.Choice.{if_then_else_}
 use Rattle.dlx.specs.Machine.{step, steps}
-use Rattle.translate.specs.Entries.{number, valid, protection, refused, Found, fault, found}
+use Rattle.translate.specs.Entries.{number, valid, protection, refused, protectedPage, Found, fault, found}
 use Rattle.translate.specs.Memory.{wordIn, loneFound, loneMemory, served}
 use Rattle.translate.specs.Premises.{Own}
 use Rattle.house.specs.Lists.{listFrom}
@@ -142,26 +142,28 @@ abbrev pub WithinRuns : Type 0
 WithinRuns = (b : Boot) (w : World) → Grown b w → (k j : ℕ) → runCall w k .verdict .number ≡ 0 → j < k →
     Grown b (hostSteps j w) × (hostSteps j w .house .left ≡ 0 → ⊥)
 
--- Where an access lands: a word of the host's memory, or a fault.
+-- Where an access lands: a word of the host's memory, or a fault by its number.
 pub data Landing : Type 0 where
-  nowhere : Landing
+  fails : ℕ → Landing
   word : ℕ → Landing
 
 -- through partition i's shadow, which is filled where its entry is empty
 abbrev pub byShadow : World → ℕ → Bool → Bool → ℕ → Landing
 byShadow w i store user a =
     let e = served (framesOf (w .house) i) (pagesOf (w .house) i) (guest w i .1) user a .0 in
-    if valid e && not (refused store (protection e)) then word (wordIn (number e) a) else nowhere
+    if not (valid e) then fails e else
+    if refused store (protection e) then fails protectedPage else
+    word (wordIn (number e) a)
 
 -- by the guest's own table, followed by the host's list
 unfoldable pub listed : List ℕ → Bool → ℕ → Found → Landing
-listed fr store a fault = nowhere
-listed fr store a (found k p) = if refused store p then nowhere else word (wordIn (getD fr k 0) a)
+listed fr store a (fault x) = fails x
+listed fr store a (found k p) = if refused store p then fails protectedPage else word (wordIn (getD fr k 0) a)
 
 abbrev pub byTable : World → ℕ → Bool → Bool → ℕ → Landing
 byTable w i store user a = listed (framesOf (w .house) i) store a (loneFound (pagesOf (w .house) i) (loneOf w i .1) user a)
 
--- Reach: for every address and access the shadow gives the same address or the same fault as the guest's table and the host's list.
+-- Reach: for every address and access the shadow gives the same address, or the same fault by its number, as the guest's table and the host's list.
 abbrev pub Reach : Type 0
 Reach = (b : Boot) (w : World) → Grown b w → (i : ℕ) → i < w .house .count → (store user : Bool) (a : ℕ) →
     byShadow w i store user a ≡ byTable w i store user a

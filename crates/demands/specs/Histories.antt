@@ -89,12 +89,12 @@ ownWords w i = listFrom (hostWord (framesOf (w .house) i) (w .memory)) 0 (pagesO
 unfoldable pub loneOf : World → ℕ → Core × Lone
 loneOf w i =
     let p = partition (w .house) i in
-    (core (p .processor) (registersOf (w .house) i), lone (p .table) (ownWords w i))
+    (core (p .processor) (registersOf (w .house) i) (p .fault), lone (p .table) (ownWords w i))
 
--- as it starts: all registers zero but PC = 4, and the words that its frames hold at boot
+-- as it starts: all registers zero but PC = 4, no fault yet, and the words that its frames hold at boot
 unfoldable pub loneAtBoot : Boot → ℕ → Core × Lone
 loneAtBoot b i = (
-  core freshProcessor (replicate 32 0),
+  core freshProcessor (replicate 32 0) 0,
   lone (record { pto = 0; ptl = 0 })
       (listFrom (λ j. getD (b .memory) (getD (b .frames) (offset (b .pages) i + j / 1024) 0 * 1024 + j % 1024) 0) 0 (getD (b .pages) i 0 * 1024)),
 )

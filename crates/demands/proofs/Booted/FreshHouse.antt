@@ -152,6 +152,7 @@ module _ (b : Boot) where
     first = λ i l. rw (booted-registers i (omega (arith, booted-few))) (getD-replicate-same 32 0 0);
     mode = λ i l. rw (booted-partition i l) (omega arith);
     emode = λ i l. rw (booted-partition i l) (omega arith);
+    fault = λ i l. rw (booted-partition i l) (omega arith);
     proper = λ i px l m. rw (booted-shadow i (omega (arith, booted-few)), getD-replicate-same entries 0 px) (empty-proper (framesOf h i) (pagesOf h i));
     behind = λ i k l m n. booted-behind i l k n (rw (booted-pages i l) at m);
     unused = booted-unused;

@@ -11,7 +11,7 @@ use Rattle.dlx.specs.Fields.{field, put, width, brought, placed}
 use Rattle.dlx.specs.Processor.{specialOf, withSpecial}
 use Rattle.dlx.specs.Interrupts.{levelOf, interrupted}
 use Rattle.dlx.specs.Execute.{written, valueOf, overflowsOf, operated, reached, loads, stores, movedTo, trapOf, effectOf}
-use Rattle.dlx.specs.Machine.{executed, fetched, loaded, stored, accessed, received, handed, settled, retabled, step, asked, requestOf as effectRequest}
+use Rattle.dlx.specs.Machine.{executed, fetched, loaded, stored, accessed, received, afterRead, afterWrite, settled, retabled, step, asked, requestOf as effectRequest}
 use Rattle.dlx.specs.Parts.{inner, outer}
 use Rattle.translate.specs.Entries.{judged}
 use Rattle.translate.specs.Walk.{walked, direct}
@@ -67,7 +67,7 @@ abbrev calls : List Call
 calls = run 1 ∷ stop 1 ∷ start 1 ∷ run 4 ∷ []
 
 computing : ℕ
-unfolding freshShadows three-guests called every-boot inner outer listFrom any laid offset bootedHouse nextFrom turnOf requestNow replyNow queuesNext desk sending taking asked effectRequest guestStep settledHouse stepWith hostStep hostSteps started stopped judged walked direct hosted given filled looked served hostRead emptied hostWritten hostReads hostWrites step fetched executed loaded stored accessed received handed settled retabled instructionOf registerType effectOf written valueOf overflowsOf operated reached loads stores movedTo trapOf specialOf withSpecial interrupted levelOf trailingZeros extendedBy readIn holds turnsIn partType field put width brought placed
+unfolding freshShadows three-guests called every-boot inner outer listFrom any laid offset bootedHouse nextFrom turnOf requestNow replyNow queuesNext desk sending taking asked effectRequest guestStep settledHouse stepWith hostStep hostSteps started stopped judged walked direct hosted given filled looked served hostRead emptied hostWritten hostReads hostWrites step fetched executed loaded stored accessed received afterRead afterWrite settled retabled instructionOf registerType effectOf written valueOf overflowsOf operated reached loads stores movedTo trapOf specialOf withSpecial interrupted levelOf trailingZeros extendedBy readIn holds turnsIn partType field put width brought placed
 computing = 0
 
 some : {n : ℕ} (k : ℕ) → n ≡ suc k → n ≡ 0 → ⊥

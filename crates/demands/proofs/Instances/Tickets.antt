@@ -12,7 +12,7 @@ use Rattle.dlx.specs.Fields.{field, put, width, brought, placed}
 use Rattle.dlx.specs.Processor.{specialOf, withSpecial}
 use Rattle.dlx.specs.Interrupts.{levelOf, interrupted}
 use Rattle.dlx.specs.Execute.{written, valueOf, overflowsOf, operated, reached, loads, stores, movedTo, trapOf, effectOf}
-use Rattle.dlx.specs.Machine.{executed, fetched, loaded, stored, accessed, received, handed, settled, retabled, step, asked, requestOf as effectRequest, reply}
+use Rattle.dlx.specs.Machine.{executed, fetched, loaded, stored, accessed, received, afterRead, afterWrite, settled, retabled, step, asked, requestOf as effectRequest, reply}
 use Rattle.translate.specs.Entries.{judged}
 use Rattle.translate.specs.Walk.{walked, direct}
 use Rattle.translate.specs.Memory.{loneFound, loneRead, hosted, given, filled, looked, served, hostRead, emptied, hostWritten, hostReads, hostWrites}
@@ -50,7 +50,7 @@ abbrev calls : List Call
 calls = run 13 ∷ []
 
 computing : ℕ
-unfolding freshShadows ticket-guests inner outer listFrom any laid offset bootedHouse nextFrom turnOf requestNow replyNow queuesNext desk sending taking asked effectRequest guestStep settledHouse stepWith hostStep hostSteps judged walked direct hosted given filled looked served hostRead emptied hostWritten hostReads hostWrites step fetched executed loaded stored accessed received handed settled retabled instructionOf registerType effectOf written valueOf overflowsOf operated reached loads stores movedTo trapOf specialOf withSpecial interrupted levelOf trailingZeros extendedBy readIn holds partType field put width brought placed
+unfolding freshShadows ticket-guests inner outer listFrom any laid offset bootedHouse nextFrom turnOf requestNow replyNow queuesNext desk sending taking asked effectRequest guestStep settledHouse stepWith hostStep hostSteps judged walked direct hosted given filled looked served hostRead emptied hostWritten hostReads hostWrites step fetched executed loaded stored accessed received afterRead afterWrite settled retabled instructionOf registerType effectOf written valueOf overflowsOf operated reached loads stores movedTo trapOf specialOf withSpecial interrupted levelOf trailingZeros extendedBy readIn holds partType field put width brought placed
 computing = 0
 
 logging : ℕ

@@ -15,7 +15,7 @@ use Rattle.dlx.specs.Fields.{field, put, width, brought, placed}
 use Rattle.dlx.specs.Processor.{specialOf, withSpecial}
 use Rattle.dlx.specs.Interrupts.{levelOf, interrupted}
 use Rattle.dlx.specs.Execute.{written, valueOf, overflowsOf, operated, reached, loads, stores, movedTo, trapOf, effectOf}
-use Rattle.dlx.specs.Machine.{executed, fetched, loaded, stored, accessed, received, handed, settled, retabled, step, steps, asked, requestOf as effectRequest, reply}
+use Rattle.dlx.specs.Machine.{executed, fetched, loaded, stored, accessed, received, afterRead, afterWrite, settled, retabled, step, steps, asked, requestOf as effectRequest, reply}
 use Rattle.dlx.specs.declared.execute.Reply.{Reply}
 use Rattle.translate.specs.Entries.{entryOf, judged}
 use Rattle.translate.specs.Walk.{entries, walked, direct}
@@ -33,7 +33,7 @@ use Rattle.house.specs.Turns.{World, world, nextFrom, turnOf, requestNow, reply
 use Rattle.house.specs.Calls.{bootCall, runVerdict, runCall, started, stopped, emptiedHouse, startCall, stopCall, emptyCall, readVerdict, readCall}
 use Rattle.house.specs.Sound.{Proper, Stays, Ready}
 use Rattle.demands.specs.Histories.{Boot, booted, Call, run, start, stop, empty, readOut, after, history, Grown, turnsIn, stepsOf, stepsMade, turnsMade, StaysRunning, loneOf, loneAtBoot, loneAsks, loneAnswer, eventOf, logIn, logOf, each, answersTo, feedOf}
-use Rattle.demands.specs.Demands.{AgreeOn, OwnFramesAlone, ApartInFrame0, StepOf, SameAnswers, nowhere, word, byShadow, listed, byTable}
+use Rattle.demands.specs.Demands.{AgreeOn, OwnFramesAlone, ApartInFrame0, StepOf, SameAnswers, fails, word, byShadow, listed, byTable}
 use Rattle.house.specs.declared.House.{House}
 use Rattle.house.proofs.Lists.Bounded.{one-way}
 use Rattle.demands.proofs.Instances.ClosedCalls.{below, below-at, Fit, fit-after, run-verdict, no-verdict, after-run, after-start, after-stop, after-empty, after-refused, runs-at-end, runs-onward}
@@ -114,7 +114,7 @@ ended = hostSteps 4 cleared
 
 -- all that a step computes with
 computing : ℕ
-unfolding freshShadows two-guests inner outer listFrom any laid offset bootedHouse nextFrom turnOf requestNow replyNow queuesNext desk sending taking asked effectRequest guestStep settledHouse stepWith hostStep hostSteps started stopped emptiedHouse judged walked direct hosted given filled looked served hostRead emptied hostWritten hostReads hostWrites step fetched executed loaded stored accessed received handed settled retabled instructionOf registerType effectOf written valueOf overflowsOf operated reached loads stores movedTo trapOf specialOf withSpecial interrupted levelOf trailingZeros extendedBy readIn holds turnsIn partType field put width brought placed
+unfolding freshShadows two-guests inner outer listFrom any laid offset bootedHouse nextFrom turnOf requestNow replyNow queuesNext desk sending taking asked effectRequest guestStep settledHouse stepWith hostStep hostSteps started stopped emptiedHouse judged walked direct hosted given filled looked served hostRead emptied hostWritten hostReads hostWrites step fetched executed loaded stored accessed received afterRead afterWrite settled retabled instructionOf registerType effectOf written valueOf overflowsOf operated reached loads stores movedTo trapOf specialOf withSpecial interrupted levelOf trailingZeros extendedBy readIn holds turnsIn partType field put width brought placed
 computing = 0
 
 -- entry px of partition 0's shadow
@@ -444,8 +444,8 @@ pub within : Grown two-guests (hostSteps 3 begun) × (hostSteps 3 begun .house .
 unfolding runCall
 within = within-runs two-guests begun grown-begun 4 3 (numbered 0 4 (run-verdict begun fit-begun 4 (omega arith) (some 2 begun-left))) (omega arith)
 
--- a store to page 1 lands in frame 1, one from PTL on nowhere
-pub lands : (byTable full 0 true true 4100 ≡ word 1025) × (byTable full 0 true true 8192 ≡ nowhere)
+-- a store to page 1 lands in frame 1, one from PTL on fails by that
+pub lands : (byTable full 0 true true 4100 ≡ word 1025) × (byTable full 0 true true 8192 ≡ fails 1)
 unfolding listed loneFound loneOf
 lands = unfold computing in (refl, refl)
 
