@@ -8,7 +8,7 @@ use house::ALL_ENTRIES;
 use house::House;
 
 // Where the places of the queues, and how many wait in each, begin and end.
-const TICKETS: u32 = 2437 + ALL_ENTRIES as u32;
+const TICKETS: u32 = 2445 + ALL_ENTRIES as u32;
 
 const WAITING: u32 = TICKETS + 256;
 
@@ -80,6 +80,10 @@ fn scalar(p: Partition, k: u32, v: u32) -> Partition
             r.counter = v as u64 * 0x1_0000_0000 + p.counter % 0x1_0000_0000;
             r
         }
+        15 => {
+            r.fault = v;
+            r
+        }
         _ => r,
     }
 }
@@ -127,28 +131,28 @@ pub fn poke(h: House, index: u32, v: u32) -> House
         r.running = running;
         return r;
     }
-    if index < 133 {
+    if index < 141 {
         let mut parts = h.parts;
-        let i = wide((index - 13) / 15);
-        parts[i] = scalar(parts[i], (index - 13) % 15, v);
+        let i = wide((index - 13) / 16);
+        parts[i] = scalar(parts[i], (index - 13) % 16, v);
         r.parts = parts;
         return r;
     }
-    if index < 389 {
+    if index < 397 {
         let mut regs = h.regs;
-        regs[wide(index - 133)] = v;
+        regs[wide(index - 141)] = v;
         r.regs = regs;
         return r;
     }
-    if index < 2437 {
+    if index < 2445 {
         let mut frames = h.frames;
-        frames[wide(index - 389)] = v;
+        frames[wide(index - 397)] = v;
         r.frames = frames;
         return r;
     }
     if index < TICKETS {
         let mut shadows = h.shadows;
-        shadows[wide(index - 2437)] = v;
+        shadows[wide(index - 2445)] = v;
         r.shadows = shadows;
         return r;
     }

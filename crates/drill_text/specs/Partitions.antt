@@ -20,12 +20,12 @@ use Rattle.drill_text.specs.Lines.{rowOf}
 
 -- the most bytes that tell of one partition, 325 of them in its own line
 abbrev pub longest : ℕ
-longest = 6397 + 42 * entries
+longest = 6418 + 42 * entries
 
--- from DPC to EMODE
-unfoldable pub specialsOf : Processor → Table → List ℕ
-specialsOf p t =
-    p .dpc ∷ p .pc ∷ p .sr ∷ p .esr ∷ p .eca ∷ p .epc ∷ p .edpc ∷ p .edata ∷ p .mode ∷ t .pto ∷ t .ptl ∷ p .emode ∷ []
+-- from DPC to EMODE, and the latest fault
+unfoldable pub specialsOf : Processor → Table → ℕ → List ℕ
+specialsOf p t fault =
+    p .dpc ∷ p .pc ∷ p .sr ∷ p .esr ∷ p .eca ∷ p .epc ∷ p .edpc ∷ p .edata ∷ p .mode ∷ t .pto ∷ t .ptl ∷ p .emode ∷ fault ∷ []
 
 -- all of them are 0
 unfoldable pub zerosOf : List ℕ → Bool
@@ -36,7 +36,7 @@ unfoldable pub blankOf : Partition → List ℕ → List ℕ → List ℕ → Bo
 blankOf p registers frames shadow =
     eqb (p .pages) 0
     && eqb (p .counter) 0
-    && zerosOf (specialsOf (p .processor) (p .table))
+    && zerosOf (specialsOf (p .processor) (p .table) (p .fault))
     && zerosOf registers
     && zerosOf frames
     && zerosOf shadow
@@ -52,7 +52,7 @@ listedOf words = listedTo words (length words)
 unfoldable pub ownOf : ℕ → Partition → List ℕ
 ownOf i p =
     ascii "partition"
-    ++ (numberOf i ++ (numberOf (p .pages) ++ (numberOf (p .counter) ++ rowOf [] (specialsOf (p .processor) (p .table)))))
+    ++ (numberOf i ++ (numberOf (p .pages) ++ (numberOf (p .counter) ++ rowOf [] (specialsOf (p .processor) (p .table) (p .fault)))))
 
 -- a shadow entry that is not 0, behind its number
 unfoldable pub entryOf : ℕ → ℕ → List ℕ

@@ -23,9 +23,9 @@ use dlx::partition::Table;
 use house::House;
 use translate::ENTRIES;
 
-// From DPC to EMODE, in the text's order.
-fn specials(p: Processor, t: Table) -> [u32; 12]
-    ensures { λ r. ⌜ r ≡ specialsOf p t ⌝ }
+// From DPC to EMODE, in the text's order, and the latest fault.
+fn specials(p: Processor, t: Table, fault: u32) -> [u32; 13]
+    ensures { λ r. ⌜ r ≡ specialsOf p t fault ⌝ }
 {
     [
         p.dpc,
@@ -40,6 +40,7 @@ fn specials(p: Processor, t: Table) -> [u32; 12]
         t.pto,
         t.ptl,
         p.emode,
+        fault,
     ]
 }
 
@@ -80,7 +81,7 @@ fn blank(p: Partition, registers: &[u32], frames: &[u32], shadow: &[u32]) -> boo
     if p.counter != 0 {
         return false;
     }
-    let own = specials(p.processor, p.table);
+    let own = specials(p.processor, p.table, p.fault);
     if !zeros(&own) {
         return false;
     }
@@ -100,9 +101,9 @@ fn own_line(
     i: usize,
     pages: u32,
     counter: u64,
-    specials: &[u32; 12],
+    specials: &[u32; 13],
 ) -> usize
-    ensures { λ r. ⌜ Puts (now (text .entry)) used (now (text .exit)) r (ascii "partition" ++ (numberOf i ++ (numberOf pages ++ (numberOf counter ++ rowOf [] (now (specials .entry)))))) 325 ⌝ }
+    ensures { λ r. ⌜ Puts (now (text .entry)) used (now (text .exit)) r (ascii "partition" ++ (numberOf i ++ (numberOf pages ++ (numberOf counter ++ rowOf [] (now (specials .entry)))))) 346 ⌝ }
 {
     let named = put_text(text, used, b"partition");
     let numbered = number(text, named, i as u64);
@@ -112,9 +113,9 @@ fn own_line(
 }
 
 fn own(text: &mut [u8; ROOM], used: usize, i: usize, p: Partition) -> usize
-    ensures { λ r. ⌜ Puts (now (text .entry)) used (now (text .exit)) r (ownOf i p) 325 ⌝ }
+    ensures { λ r. ⌜ Puts (now (text .entry)) used (now (text .exit)) r (ownOf i p) 346 ⌝ }
 {
-    let rest = specials(p.processor, p.table);
+    let rest = specials(p.processor, p.table, p.fault);
     own_line(text, used, i, p.pages, p.counter, &rest)
 }
 
@@ -159,7 +160,7 @@ fn arrays(
     entries: &[u32],
 ) -> usize
     requires { ⌜ length (now registers) ≡ 32 ⌝ ∗ ⌜ length (now frames) ≡ 256 ⌝ ∗ ⌜ length (now entries) ≡ shadowLength ⌝ }
-    ensures { λ r. ⌜ Puts (now (text .entry)) used (now (text .exit)) r (rowOf (ascii "registers") (now (registers .entry)) ++ (rowOf (ascii "frames") (take (listedOf (now (frames .entry))) (now (frames .entry))) ++ shadowOf (now (entries .entry)))) (longest - 325) ⌝ }
+    ensures { λ r. ⌜ Puts (now (text .entry)) used (now (text .exit)) r (rowOf (ascii "registers") (now (registers .entry)) ++ (rowOf (ascii "frames") (take (listedOf (now (frames .entry))) (now (frames .entry))) ++ shadowOf (now (entries .entry)))) (longest - 346) ⌝ }
 {
     let n = listed(frames);
     let registered = row(text, used, b"registers", registers);

@@ -56,12 +56,12 @@ lines-more ps i d l =
 pub unmapped : {A B : Type 0} (f : A → B) (l : List A) (n : ℕ) → length (map f l) ≡ n → length l ≡ n
 unmapped f l n e = sym (length-map l f) ∙ e
 
-pub lines-none : {s : List ℕ} {u : ℕ} (ps : List Partition) → Puts s u s u (linesFrom 0 (take 0 ps)) (76 * 0)
+pub lines-none : {s : List ℕ} {u : ℕ} (ps : List Partition) → Puts s u s u (linesFrom 0 (take 0 ps)) (87 * 0)
 unfolding linesFrom
 lines-none ps = nothing
 
 pub lines-on : {s t r : List ℕ} {u v w : ℕ} (ps : List Partition) (i : ℕ) (d : Partition) → i < length ps
-    → Puts s u t v (linesFrom 0 (take i ps)) (76 * i) → Puts t v r w (lineOf i (getD ps i d)) 76 → Puts s u r w (linesFrom 0 (take (i + 1) ps)) (76 * (i + 1))
+    → Puts s u t v (linesFrom 0 (take i ps)) (87 * i) → Puts t v r w (lineOf i (getD ps i d)) 87 → Puts s u r w (linesFrom 0 (take (i + 1) ps)) (87 * (i + 1))
 lines-on ps i d l p q = rw (lines-more ps i d l) (roomy _ (p then q) (omega arith))
 
 pub lines-done : (ps : List Partition) (i n count : ℕ) → length ps ≡ 8 → n ≡ min count 8 → i ≤ n → n ≤ i → take i ps ≡ take count ps

@@ -4,7 +4,7 @@ use mathlib.Core.List.{List, [], _∷_, _++_}
 use Prim.Native.Nat.{ℕ, _-_, _^_}
 use Prim.Native.String.{String}
 use lib.ListN.{replicate}
-use Rattle.dlx.specs.Processor.{freshOf, withProcessor, withCounter}
+use Rattle.dlx.specs.Processor.{freshOf, withProcessor, withCounter, withFault}
 use Rattle.dlx.specs.declared.partition.Partition.{Partition}
 use Rattle.house.specs.Lists.{listFrom}
 use Rattle.house.specs.House.{freshShadows, noPartition, noHouse, layout, guests, turn, withLayout, withTurn, withGuests}
@@ -32,7 +32,7 @@ eight = bootedHouse (1 ∷ 2 ∷ 3 ∷ 4 ∷ 5 ∷ 6 ∷ 7 ∷ 8 ∷ []) 1 (list
 abbrev largest : Partition
 largest =
     withCounter
-    (withProcessor (freshOf (2 ^ 32 - 1))
+    (withProcessor (withFault (freshOf (2 ^ 32 - 1)) (2 ^ 32 - 1))
     (record { dpc = 2 ^ 32 - 1; pc = 2 ^ 32 - 1; sr = 0; esr = 0; eca = 0; epc = 0; edpc = 0; edata = 0; mode = 2 ^ 32 - 1; emode = 0 }))
     (2 ^ 64 - 1)
 
@@ -40,20 +40,20 @@ largest =
 unfoldable pub byHand : House
 byHand =
     withGuests (withTurn (withLayout noHouse (layout (2 ^ 32 - 1) 0 0 (replicate 2048 0))) (replicate 8 true) (turn 0 0))
-    (guests (replicate 6 noPartition ++ (largest ∷ freshOf 256 ∷ [])) (replicate 256 0) freshShadows)
+    (guests (replicate 6 noPartition ++ (largest ∷ withFault (freshOf 256) 5 ∷ [])) (replicate 256 0) freshShadows)
 
 unfoldable pub reports : List (List ℕ × String)
 reports =
-    (reportOf noHouse, "partition pages steps mode dpc pc\n")
-    ∷ (reportOf (first .house), "partition pages steps mode dpc pc\n0 1 0 0 0 4\n")
+    (reportOf noHouse, "partition pages steps mode dpc pc fault\n")
+    ∷ (reportOf (first .house), "partition pages steps mode dpc pc fault\n0 1 0 0 0 4 0\n")
     -- the request's whole output: 3 steps
-    ∷ (reportOf (hostSteps 3 first .house), "partition pages steps mode dpc pc\n0 1 3 0 0 4\n")
+    ∷ (reportOf (hostSteps 3 first .house), "partition pages steps mode dpc pc fault\n0 1 3 0 0 4 0\n")
     ∷ (
       reportOf eight,
-      "partition pages steps mode dpc pc\n0 1 0 0 0 4\n1 2 0 0 0 4\n2 3 0 0 0 4\n3 4 0 0 0 4\n4 5 0 0 0 4\n5 6 0 0 0 4\n6 7 0 0 0 4\n7 8 0 0 0 4\n",
+      "partition pages steps mode dpc pc fault\n0 1 0 0 0 4 0\n1 2 0 0 0 4 0\n2 3 0 0 0 4 0\n3 4 0 0 0 4 0\n4 5 0 0 0 4 0\n5 6 0 0 0 4 0\n6 7 0 0 0 4 0\n7 8 0 0 0 4 0\n",
     )
     ∷ (
       reportOf byHand,
-      "partition pages steps mode dpc pc\n0 0 0 0 0 0\n1 0 0 0 0 0\n2 0 0 0 0 0\n3 0 0 0 0 0\n4 0 0 0 0 0\n5 0 0 0 0 0\n6 4294967295 18446744073709551615 4294967295 4294967295 4294967295\n7 256 0 0 0 4\n",
+      "partition pages steps mode dpc pc fault\n0 0 0 0 0 0 0\n1 0 0 0 0 0 0\n2 0 0 0 0 0 0\n3 0 0 0 0 0 0\n4 0 0 0 0 0 0\n5 0 0 0 0 0 0\n6 4294967295 18446744073709551615 4294967295 4294967295 4294967295 4294967295\n7 256 0 0 0 4 5\n",
     )
     ∷ []

@@ -21,11 +21,11 @@ line n (m ∷ ms) = field n 32 ++ line m ms
 -- ---- the report
 
 unfoldable pub header : List ℕ
-header = ascii "partition pages steps mode dpc pc\n"
+header = ascii "partition pages steps mode dpc pc fault\n"
 
 -- partition i's line
 unfoldable pub lineOf : ℕ → Partition → List ℕ
-lineOf i p = line i (p .pages ∷ p .counter ∷ p .processor .mode ∷ p .processor .dpc ∷ p .processor .pc ∷ [])
+lineOf i p = line i (p .pages ∷ p .counter ∷ p .processor .mode ∷ p .processor .dpc ∷ p .processor .pc ∷ p .fault ∷ [])
 
 -- the lines of partitions that are numbered from i on
 unfoldable pub linesFrom : ℕ → List Partition → List ℕ

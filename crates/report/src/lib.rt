@@ -28,7 +28,7 @@ fn put_word(out: &mut [u8; 1024], at: usize, n: u32, behind: u8) -> usize
     put_field(out, at, n as u64, behind)
 }
 
-// A line of numbers: five words and the steps, at most 76 bytes.
+// A line of numbers: six words and the steps, at most 87 bytes.
 fn put_line(
     out: &mut [u8; 1024],
     at: usize,
@@ -38,20 +38,22 @@ fn put_line(
     mode: u32,
     dpc: u32,
     pc: u32,
+    fault: u32,
 ) -> usize
-    ensures { λ r. ⌜ Puts (now (out .entry)) at (now (out .exit)) r (line i (pages ∷ steps ∷ mode ∷ dpc ∷ pc ∷ [])) 76 ⌝ }
+    ensures { λ r. ⌜ Puts (now (out .entry)) at (now (out .exit)) r (line i (pages ∷ steps ∷ mode ∷ dpc ∷ pc ∷ fault ∷ [])) 87 ⌝ }
 {
     let first = put_word(out, at, i, b' ');
     let second = put_word(out, first, pages, b' ');
     let third = put_field(out, second, steps, b' ');
     let fourth = put_word(out, third, mode, b' ');
     let fifth = put_word(out, fourth, dpc, b' ');
-    put_word(out, fifth, pc, b'\n')
+    let sixth = put_word(out, fifth, pc, b' ');
+    put_word(out, sixth, fault, b'\n')
 }
 
 // Partition i's line.
 fn put_partition(out: &mut [u8; 1024], at: usize, i: u32, p: Partition) -> usize
-    ensures { λ r. ⌜ Puts (now (out .entry)) at (now (out .exit)) r (lineOf i p) 76 ⌝ }
+    ensures { λ r. ⌜ Puts (now (out .entry)) at (now (out .exit)) r (lineOf i p) 87 ⌝ }
 {
     put_line(
         out,
@@ -62,6 +64,7 @@ fn put_partition(out: &mut [u8; 1024], at: usize, i: u32, p: Partition) -> usize
         p.processor.mode,
         p.processor.dpc,
         p.processor.pc,
+        p.fault,
     )
 }
 
@@ -77,7 +80,7 @@ fn used(count: u32) -> u32
 
 // A line for each of the first count partitions; there are no more than 8.
 fn put_partitions(out: &mut [u8; 1024], at: usize, count: u32, parts: [Partition; 8]) -> usize
-    ensures { λ r. ⌜ Puts (now (out .entry)) at (now (out .exit)) r (linesFrom 0 (take count parts)) 608 ⌝ }
+    ensures { λ r. ⌜ Puts (now (out .entry)) at (now (out .exit)) r (linesFrom 0 (take count parts)) 696 ⌝ }
 {
     let n = used(count);
     let mut end = at;
@@ -96,7 +99,7 @@ pub fn report(h: House, out: &mut [u8; 1024]) -> usize
     ensures { λ r. ⌜ Counts r (now (out .exit)) ⌝ }
 {
     let parts = h.parts;
-    let at = put_text(out, 0, b"partition pages steps mode dpc pc\n");
+    let at = put_text(out, 0, b"partition pages steps mode dpc pc fault\n");
     put_partitions(out, at, h.count, parts)
 }
 

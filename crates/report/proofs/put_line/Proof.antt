@@ -21,15 +21,19 @@ put-word-requires-4 c κs = tt
 put-word-requires-5 : tie.Need-put-word-requires-5
 put-word-requires-5 c κs = tt
 
+put-word-requires-6 : tie.Need-put-word-requires-6
+put-word-requires-6 c κs = tt
+
 returns : tie.Need-returns
 unfolding line
 returns c =
-    c .before .before .before .before .before .before .before .before .before .before .put-word .ensures
-    then c .before .before .before .before .before .before .before .before .put-word2 .ensures
-    then c .before .before .before .before .before .before .put-field .ensures
-    then c .before .before .before .before .put-word3 .ensures
-    then c .before .before .put-word4 .ensures
-    then c .put-word5 .ensures
+    c .before .before .before .before .before .before .before .before .before .before .before .before .put-word .ensures
+    then c .before .before .before .before .before .before .before .before .before .before .put-word2 .ensures
+    then c .before .before .before .before .before .before .before .before .put-field .ensures
+    then c .before .before .before .before .before .before .put-word3 .ensures
+    then c .before .before .before .before .put-word4 .ensures
+    then c .before .before .put-word5 .ensures
+    then c .put-word6 .ensures
 
 pub put-line-spec : {M : Type 1} → statement M
 put-line-spec =
@@ -41,4 +45,5 @@ put-line-spec =
     put-word-requires-3
     put-word-requires-4
     put-word-requires-5
+    put-word-requires-6
     returns)

@@ -12,7 +12,7 @@ use Rattle.report.proofs.put_partitions.Statement.{statement}
 use Rattle.report.proofs.put_partitions.Tie as tie
 
 abbrev Inv-loop : tie.InvT-loop
-Inv-loop out₀ at count parts n end₀ i₀ out end i = Puts out₀ at out end (linesFrom 0 (take i parts)) (76 * i) × (i ≤ n) × (n ≤ 8)
+Inv-loop out₀ at count parts n end₀ i₀ out end i = Puts out₀ at out end (linesFrom 0 (take i parts)) (87 * i) × (i ≤ n) × (n ≤ 8)
 
 abbrev μ-loop : tie.MeasureT-loop
 μ-loop out₀ at count parts n end₀ i₀ out end i = n - i
@@ -53,7 +53,7 @@ returns c =
     let l = c .before .loop in
     let a = c .before .before .before .args in
     let d : length (a .t4) ≡ 8 = search (needs, unmapped) in
-    rw (← lines-done (a .t4) (l .i) (c .before .before .used .result) (a .count) d (c .before .before .used .ensures) (omega arith) (c .loop-test .left)) (roomy 608 (l .inv .0) (omega arith))
+    rw (← lines-done (a .t4) (l .i) (c .before .before .used .result) (a .count) d (c .before .before .used .ensures) (omega arith) (c .loop-test .left)) (roomy 696 (l .inv .0) (omega arith))
 
 pub put-partitions-spec : {M : Type 1} → statement M
 put-partitions-spec =
