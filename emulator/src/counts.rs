@@ -67,6 +67,10 @@ pub struct Counts {
     pub interrupts: [u64; 7],
     /// Interrupts where PC is not DPC + 4, as in a delay slot, by cause.
     pub slots: [u64; 7],
+    /// Faults of fetches, by number (1 to 7).
+    pub fetch_faults: [u64; 8],
+    /// Faults of data accesses, by number (1 to 7).
+    pub data_faults: [u64; 8],
     /// Interrupts raised by the first word of the handler: a guest in an interrupt loop.
     pub loops: u64,
     /// Loads that were done and extend the sign, and lw.
@@ -107,6 +111,11 @@ impl Counts {
     /// All guest steps.
     pub fn all_steps(&self) -> u64 {
         self.steps.iter().sum()
+    }
+
+    /// Faults of both kinds, by number.
+    pub fn faults(&self) -> [u64; 8] {
+        std::array::from_fn(|number| self.fetch_faults[number] + self.data_faults[number])
     }
 
     /// A load was done.
@@ -165,12 +174,20 @@ fn entries_text(f: &mut fmt::Formatter<'_>, of: &str, counts: [u64; 4]) -> fmt::
     )
 }
 
+/// Faults as `number:count` pairs.
+fn faults_text(counts: &[u64; 8]) -> String {
+    let pair = |number: usize| format!("{number}:{}", counts[number]);
+    (1..counts.len()).map(pair).collect::<Vec<_>>().join(" ")
+}
+
 impl fmt::Display for Counts {
     fn fmt(&self, f: &mut fmt::Formatter<'_>) -> fmt::Result {
         writeln!(f, "steps by mode: system:{} user:{}", self.steps[0], self.steps[1])?;
         writeln!(f, "interrupts by cause: {}", causes_text(&self.interrupts))?;
         writeln!(f, "interrupts with PC not DPC + 4, by cause: {}", causes_text(&self.slots))?;
         writeln!(f, "interrupts from the handler's first word: {}", self.loops)?;
+        writeln!(f, "faults of fetches by number: {}", faults_text(&self.fetch_faults))?;
+        writeln!(f, "faults of loads and stores by number: {}", faults_text(&self.data_faults))?;
         let parts = self.parts().map(|(name, count)| format!("{name}:{count}")).join(" ");
         let (lw, sw) = (self.signed_loads.words, self.stores.words);
         writeln!(f, "loads and stores done: {parts} lw:{lw} sw:{sw}")?;
@@ -201,6 +218,8 @@ impl AddAssign<&Counts> for Counts {
         add_all(&mut self.steps, &other.steps);
         add_all(&mut self.interrupts, &other.interrupts);
         add_all(&mut self.slots, &other.slots);
+        add_all(&mut self.fetch_faults, &other.fetch_faults);
+        add_all(&mut self.data_faults, &other.data_faults);
         add_all(&mut self.sends, &other.sends);
         add_all(&mut self.takes, &other.takes);
         add_all(&mut self.answers, &other.answers);

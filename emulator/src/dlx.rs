@@ -1,7 +1,7 @@
 //! The guest machine: registers, decoding, one step, interrupts.
 
 use crate::counts::Counts;
-use crate::memory::{Access, Place, Space, Table, Width};
+use crate::memory::{Access, Fault, Place, Space, Table, Width};
 use crate::tickets::{number, Tickets, SEND, TAKE};
 
 /// Numbers of the special registers.
@@ -283,7 +283,7 @@ fn decode_r_type(word: u32) -> Option<Instruction> {
     }
 }
 
-/// A partition: the guest's registers, its step counter, its pages and shadow.
+/// A partition: the guest's registers, its step counter and latest fault, its pages and shadow.
 #[derive(Clone, Debug, PartialEq, Eq)]
 pub struct Guest {
     /// Delayed PC: the address of the instruction.
@@ -296,6 +296,8 @@ pub struct Guest {
     pub registers: [u32; 32],
     /// Guest steps done, modulo 2^64.
     pub counter: u64,
+    /// The number of the latest fault, 0 while there was none. The guest cannot see it.
+    pub fault: u32,
     /// Pages and shadow.
     pub space: Space,
 }
@@ -308,6 +310,7 @@ impl Guest {
         specials: [0; special::COUNT],
         registers: [0; 32],
         counter: 0,
+        fault: 0,
         space: Space::ZERO,
     };
 
@@ -364,9 +367,10 @@ impl Guest {
         if !self.dpc.is_multiple_of(4) {
             return Err(Interrupt::plain(Cause::Mal));
         }
-        let place = self
-            .locate(memory, self.dpc, Access::Load, counts)
-            .ok_or(Interrupt::with_data(Cause::Pff, self.dpc))?;
+        let place = self.locate(memory, self.dpc, Access::Load, counts).map_err(|fault| {
+            counts.fetch_faults[fault as usize] += 1;
+            Interrupt::with_data(Cause::Pff, self.dpc)
+        })?;
         Ok(self.space.word(memory, place))
     }
 
@@ -383,21 +387,25 @@ impl Guest {
             counts.odd_halves += u64::from(width == Width::Half);
             return Err(Interrupt::plain(Cause::Mal));
         }
-        self.locate(memory, address, access, counts).ok_or_else(|| {
+        self.locate(memory, address, access, counts).map_err(|fault| {
+            counts.data_faults[fault as usize] += 1;
             counts.odd_faults += u64::from(address % 2 == 1);
             Interrupt::with_data(Cause::Pfls, address)
         })
     }
 
+    /// The place of an access; a fault becomes the latest.
     fn locate(
         &mut self,
         memory: &[u32],
         address: u32,
         access: Access,
         counts: &mut Counts,
-    ) -> Option<Place> {
+    ) -> Result<Place, Fault> {
         let table = self.user().then(|| self.table());
-        self.space.locate(memory, table, address, access, counts)
+        self.space
+            .locate(memory, table, address, access, counts)
+            .inspect_err(|&fault| self.fault = fault as u32)
     }
 
     fn execute(

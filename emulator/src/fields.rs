@@ -6,8 +6,8 @@ use crate::house::{House, PARTITIONS};
 use crate::memory::{ENTRIES, LIST_PLACES};
 use crate::tickets::PLACES;
 
-/// Scalars of a partition: pages, DPC, PC, ten specials, counter low and high.
-pub const SCALARS: u32 = 15;
+/// Scalars of a partition: pages, DPC, PC, ten specials, counter low and high, latest fault.
+pub const SCALARS: u32 = 16;
 /// First index of the running flags.
 pub const RUNNING: u32 = 5;
 /// First index of the partitions' scalars.
@@ -48,6 +48,8 @@ pub const SPECIALS: u32 = 3;
 pub const COUNTER_LOW: u32 = SPECIALS + special::COUNT as u32;
 /// Place of the counter's high word among a partition's scalars.
 pub const COUNTER_HIGH: u32 = COUNTER_LOW + 1;
+/// Place of the latest fault among a partition's scalars.
+pub const LATEST_FAULT: u32 = COUNTER_HIGH + 1;
 
 /// Index of a scalar of a partition.
 pub fn scalar(partition: u32, place: u32) -> u32 {
@@ -171,6 +173,7 @@ const SCALAR_NAMES: [&str; SCALARS as usize] = [
     "emode",
     "counter low",
     "counter high",
+    "latest fault",
 ];
 
 fn get_scalar(guest: &Guest, place: u32) -> u32 {
@@ -180,6 +183,7 @@ fn get_scalar(guest: &Guest, place: u32) -> u32 {
         PC => guest.pc,
         COUNTER_LOW => guest.counter as u32,
         COUNTER_HIGH => (guest.counter >> 32) as u32,
+        LATEST_FAULT => guest.fault,
         _ => guest.specials[(place - SPECIALS) as usize],
     }
 }
@@ -191,6 +195,7 @@ fn set_scalar(guest: &mut Guest, place: u32, value: u32) {
         PC => guest.pc = value,
         COUNTER_LOW => guest.counter = guest.counter >> 32 << 32 | u64::from(value),
         COUNTER_HIGH => guest.counter = guest.counter & 0xFFFF_FFFF | u64::from(value) << 32,
+        LATEST_FAULT => guest.fault = value,
         _ => guest.specials[(place - SPECIALS) as usize] = value,
     }
 }
@@ -207,8 +212,9 @@ mod tests {
             set(&mut house, index, 1);
             assert_eq!(get(&house, index), Some(1), "index {index}");
         }
-        assert_eq!((FRAMES, SHADOWS), (389, 2_437));
-        assert_eq!((QUEUES, WAITING, END), (10_629, 10_885, 10_893));
+        assert_eq!((scalar(1, LATEST_FAULT), REGISTERS), (44, 141));
+        assert_eq!((FRAMES, SHADOWS), (397, 2_445));
+        assert_eq!((QUEUES, WAITING, END), (10_637, 10_893, 10_901));
         assert_eq!(get(&house, END), None);
     }
 

@@ -41,11 +41,14 @@ pub struct File {
 pub const ANSWERS_EACH: u64 = 50;
 /// How often each load and store of a byte or half word must be done in a million steps.
 pub const PARTS_EACH: u64 = 5_000;
+/// How often each fault must come in a million steps.
+pub const FAULTS_EACH: u64 = 200;
 /// The numbers that scripts give: all but 15, which is the house file's.
 pub const SCRIPT_NUMBERS: [usize; 16] = [0, 1, 2, 3, 4, 5, 6, 7, 8, 9, 10, 11, 12, 13, 14, 16];
 
 /// Random scripts, until their guests have done `steps` steps, every house number of theirs was
-/// answered often enough, and bytes and half words were loaded and stored often enough.
+/// answered often enough, bytes and half words were loaded and stored often enough, and every fault
+/// came often enough.
 pub fn scripts(seed: u64, steps: u64) -> Vec<Script> {
     let mut scripts = Vec::new();
     let mut total = Counts::default();
@@ -63,8 +66,10 @@ pub fn scripts(seed: u64, steps: u64) -> Vec<Script> {
 fn too_few(counts: &Counts, steps: u64) -> bool {
     let answers = steps * ANSWERS_EACH / 1_000_000;
     let parts = steps * PARTS_EACH / 1_000_000;
+    let faults = steps * FAULTS_EACH / 1_000_000;
     SCRIPT_NUMBERS.iter().any(|&number| counts.answers[number] < answers)
         || counts.parts().iter().any(|&(_, done)| done < parts)
+        || counts.faults()[1..].iter().any(|&came| came < faults)
 }
 
 /// Writes one script of the kind whose turn it is; tells the kind.

@@ -3,7 +3,7 @@
 use crate::counts::Counts;
 use crate::dlx::special::{EMODE, MODE};
 use crate::dlx::{Cause, Guest};
-use crate::memory::{Place, Space, FRAME_WORDS, PAGE_BYTES, PROTECTED, VALID};
+use crate::memory::{Fault, Place, Space, FRAME_WORDS, PAGE_BYTES, PROTECTED, VALID};
 use crate::tickets::{Queue, Tickets};
 
 /// The most partitions of a house.
@@ -327,12 +327,14 @@ impl House {
     }
 }
 
-/// Register 0, MODE, EMODE, the frame list's unused places and the shadow of a partition.
+/// Register 0, MODE, EMODE, the latest fault, the frame list's unused places and the shadow of a
+/// partition.
 fn guest_damaged(guest: &Guest) -> bool {
     let space = &guest.space;
     guest.registers[0] != 0
         || guest.specials[MODE] > 1
         || guest.specials[EMODE] > 1
+        || guest.fault > Fault::LAST
         || space.frames[space.pages as usize..].iter().any(|&frame| frame != 0)
         || space.shadow.iter().any(|&entry| !shadow_sound(space, entry))
 }

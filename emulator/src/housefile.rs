@@ -153,10 +153,11 @@ fn attempt(bytes: &[u8], counts: &mut Counts) -> Result<House, (u32, u64)> {
 
 /// The header, then one line for each partition in order.
 fn report(house: &House) -> String {
-    let mut text = String::from("partition pages steps mode dpc pc\n");
+    let mut text = String::from("partition pages steps mode dpc pc fault\n");
     for (partition, guest) in house.guests[..house.count as usize].iter().enumerate() {
         let (pages, steps, mode) = (guest.space.pages, guest.counter, guest.specials[MODE]);
-        writeln!(text, "{partition} {pages} {steps} {mode} {} {}", guest.dpc, guest.pc)
+        let (dpc, pc, fault) = (guest.dpc, guest.pc, guest.fault);
+        writeln!(text, "{partition} {pages} {steps} {mode} {dpc} {pc} {fault}")
             .expect("writing to a string");
     }
     text

@@ -20,16 +20,56 @@ pub const PROTECTED: u32 = 1 << 10;
 /// The answer of address composition for a fault.
 pub const FAULT: u32 = u32::MAX;
 
+/// Why an access faults, by its number: the first that applies.
+#[derive(Clone, Copy, Debug, PartialEq, Eq)]
+pub enum Fault {
+    /// px is not below PTL.
+    Length = 1,
+    /// px is above 1,023.
+    Limit = 2,
+    /// The entry lies outside guest memory.
+    Outside = 3,
+    /// The entry is not valid.
+    Invalid = 4,
+    /// The entry's page number is not below the page count.
+    Page = 5,
+    /// A store, and the page is protected.
+    Protected = 6,
+    /// In system mode: the address is beyond the pages.
+    System = 7,
+}
+
+impl Fault {
+    /// The highest number.
+    pub const LAST: u32 = Fault::System as u32;
+}
+
+/// The guest page of a table entry, or the first of its faults.
+fn entry_page(entry: u32, pages: u32, access: Access) -> Result<u32, Fault> {
+    if entry & VALID == 0 {
+        return Err(Fault::Invalid);
+    }
+    let page = entry >> 12;
+    if page >= pages {
+        return Err(Fault::Page);
+    }
+    check_protection(entry, access)?;
+    Ok(page)
+}
+
+/// No store where bit 10 is 1.
+fn check_protection(entry: u32, access: Access) -> Result<(), Fault> {
+    if access == Access::Store && entry & PROTECTED != 0 {
+        return Err(Fault::Protected);
+    }
+    Ok(())
+}
+
 /// Address composition: the guest page of a table entry, or [`FAULT`]. `store` 0 is a load, all
 /// else a store.
 pub fn compose(entry: u32, pages: u32, store: u32) -> u32 {
-    let page = entry >> 12;
-    let forbidden = store != 0 && entry & PROTECTED != 0;
-    if entry & VALID == 0 || page >= pages || forbidden {
-        FAULT
-    } else {
-        page
-    }
+    let access = if store == 0 { Access::Load } else { Access::Store };
+    entry_page(entry, pages, access).unwrap_or(FAULT)
 }
 
 /// The shadow entry for a host frame, with the protection of the guest's own entry.
@@ -121,8 +161,8 @@ impl Space {
         &self.frames[..self.pages as usize]
     }
 
-    /// The place of an access, or none for a fault. Only an access in user mode, which has a
-    /// table, is translated.
+    /// The place of an access, or its fault. Only an access in user mode, which has a table, is
+    /// translated.
     pub fn locate(
         &mut self,
         memory: &[u32],
@@ -130,20 +170,20 @@ impl Space {
         address: u32,
         access: Access,
         counts: &mut Counts,
-    ) -> Option<Place> {
+    ) -> Result<Place, Fault> {
         match table {
             None => self.untranslated(address),
             Some(table) => {
                 let page = self.translated(memory, table, address >> 12, access, counts)?;
-                Some(Place { page, ..Place::of(address) })
+                Ok(Place { page, ..Place::of(address) })
             }
         }
     }
 
     /// System mode: the address must be below 4,096 times the page count.
-    fn untranslated(&self, address: u32) -> Option<Place> {
+    fn untranslated(&self, address: u32) -> Result<Place, Fault> {
         let inside = u64::from(address) < PAGE_BYTES * u64::from(self.pages);
-        inside.then(|| Place::of(address))
+        inside.then(|| Place::of(address)).ok_or(Fault::System)
     }
 
     /// User mode: a valid shadow entry alone decides, otherwise the guest's table does.
@@ -154,15 +194,13 @@ impl Space {
         px: u32,
         access: Access,
         counts: &mut Counts,
-    ) -> Option<u32> {
-        let shadow = *self.shadow.get(px as usize)?;
-        let (page, protection) = if shadow & VALID != 0 {
-            (self.page_of(shadow >> 12), shadow)
-        } else {
-            self.fill(memory, table, px, counts)?
+    ) -> Result<u32, Fault> {
+        let (page, protection) = match self.shadow.get(px as usize) {
+            Some(&shadow) if shadow & VALID != 0 => (self.page_of(shadow >> 12), shadow),
+            _ => self.fill(memory, table, px, counts)?,
         };
-        let forbidden = access == Access::Store && protection & PROTECTED != 0;
-        (!forbidden).then_some(page)
+        check_protection(protection, access)?;
+        Ok(page)
     }
 
     /// Fills shadow `px` from the guest's table if all tests but protection pass.
@@ -172,25 +210,25 @@ impl Space {
         table: Table,
         px: u32,
         counts: &mut Counts,
-    ) -> Option<(u32, u32)> {
+    ) -> Result<(u32, u32), Fault> {
         let entry = self.entry(memory, table, px)?;
-        let page = match compose(entry, self.pages, 0) {
-            FAULT => return None,
-            page => page,
-        };
+        let page = entry_page(entry, self.pages, Access::Load)?;
         self.shadow[px as usize] = shadow_entry(self.frames[page as usize], entry);
         counts.fills.add(px as usize);
-        Some((page, entry))
+        Ok((page, entry))
     }
 
     /// The word at 4,096 PTO + 4 px, worked out without wrapping.
-    fn entry(&self, memory: &[u32], table: Table, px: u32) -> Option<u32> {
+    fn entry(&self, memory: &[u32], table: Table, px: u32) -> Result<u32, Fault> {
         if px >= table.ptl {
-            return None;
+            return Err(Fault::Length);
+        }
+        if px as usize >= ENTRIES {
+            return Err(Fault::Limit);
         }
         let address = PAGE_BYTES * u64::from(table.pto) + 4 * u64::from(px);
         let inside = address < PAGE_BYTES * u64::from(self.pages);
-        inside.then(|| self.word(memory, Place::of(address as u32)))
+        inside.then(|| self.word(memory, Place::of(address as u32))).ok_or(Fault::Outside)
     }
 
     /// The guest page of a frame is the frame's place in the list.

@@ -3,6 +3,7 @@
 
 mod bytes;
 mod far_pages;
+mod faults;
 mod house_frame;
 mod pairs;
 mod tickets;
@@ -150,6 +151,7 @@ pub fn scripts() -> Vec<Script> {
         translation(),
         shadows(),
         far_pages::group(),
+        faults::group(),
         turns(),
         tickets::group(),
         calls(),
@@ -607,6 +609,10 @@ fn damages() -> Story {
         (fields::shadow(2, 0), shadow_entry(1, 0), 0),
         (fields::shadow(7, 255), shadow_entry(1, 0), 0),
         (fields::shadow(7, 1_023), shadow_entry(1, 0), 0),
+        (fields::scalar(0, fields::LATEST_FAULT), 8, 0),
+        (fields::scalar(1, fields::LATEST_FAULT), u32::MAX, 0),
+        (fields::scalar(2, fields::LATEST_FAULT), 1, 0),
+        (fields::scalar(7, fields::LATEST_FAULT), 7, 0),
         (WAITING, 33, 0),
         (WAITING + 1, u32::MAX, 0),
         (fields::ticket(0, 0), 1, 0),
@@ -623,6 +629,7 @@ fn damages() -> Story {
         .run(0)
         .field(fields::shadow(0, 9), shadow_entry(2, PROTECTED))
         .field(fields::shadow(0, 1_023), shadow_entry(1, 0))
+        .field(fields::scalar(1, fields::LATEST_FAULT), 7)
         .field(fields::special(0, PTO), u32::MAX)
         .field(fields::special(0, MODE), 1)
         .field(Q, 10_000)
@@ -635,17 +642,31 @@ fn two_with_one_stopped() -> Story {
     Story::house(&[2, 1], 5).stop(1)
 }
 
+/// A kind 1 record.
+fn turn(q: u32, steps: u32) -> Vec<u8> {
+    record_bytes(1, &word_bytes(&[q, steps]))
+}
+
+/// A kind 2 record.
+fn list(frames: &[u32]) -> Vec<u8> {
+    record_bytes(2, &word_bytes(frames))
+}
+
+/// A kind 3 record: a frame with these words, and zeros behind them.
+fn load(frame: u32, words: &[u32]) -> Vec<u8> {
+    let mut page = vec![frame];
+    page.extend(words);
+    page.resize(1 + FRAME_WORDS, 0);
+    record_bytes(3, &word_bytes(&page))
+}
+
+/// A kind 4 record.
+fn end() -> Vec<u8> {
+    record_bytes(4, &[])
+}
+
 /// All named house files.
 pub fn files() -> Vec<File> {
-    let turn = |q, steps| record_bytes(1, &word_bytes(&[q, steps]));
-    let list = |frames: &[u32]| record_bytes(2, &word_bytes(frames));
-    let load = |frame, words: &[u32]| {
-        let mut page = vec![frame];
-        page.extend(words);
-        page.resize(1 + FRAME_WORDS, 0);
-        record_bytes(3, &word_bytes(&page))
-    };
-    let end = || record_bytes(4, &[]);
     let first = [0x2001_0005, 0xAC01_0008];
     let one = |q, steps| [turn(q, steps), list(&[1]), load(1, &first), end()].concat();
     let second_list = |records: usize| {
@@ -720,5 +741,5 @@ pub fn files() -> Vec<File> {
         ("extra byte above 128 KiB", [long(32), vec![0]].concat()),
     ];
     let named = |(name, bytes): (&str, Vec<u8>)| File { name: name.into(), bytes };
-    files.into_iter().map(named).collect()
+    files.into_iter().chain(faults::files()).map(named).collect()
 }

@@ -317,12 +317,13 @@ fn describe_guest(text: &mut String, partition: usize, guest: &Guest) {
     line(
         text,
         format_args!(
-            "partition {partition} {} {} {} {}{}",
+            "partition {partition} {} {} {} {}{} {}",
             space.pages,
             guest.counter,
             guest.dpc,
             guest.pc,
-            Numbers(&guest.specials)
+            Numbers(&guest.specials),
+            guest.fault
         ),
     );
     line(text, format_args!("registers{}", Numbers(&guest.registers)));

@@ -40,7 +40,7 @@ fn the_third_step_is_ill() {
 
 #[test]
 fn the_report_of_the_first_example() {
-    assert_eq!(report("first example"), "partition pages steps mode dpc pc\n0 1 3 0 0 4\n");
+    assert_eq!(report("first example"), "partition pages steps mode dpc pc fault\n0 1 3 0 0 4 0\n");
 }
 
 #[test]
@@ -195,7 +195,10 @@ fn house_files() {
         ("kind 2 of 6 bytes", format!("refused 15 {first_list}\n")),
         ("kind 2 frame 16", "refused 6 1\n".into()),
         ("kind 3 frame 16", format!("refused 15 {second}\n")),
-        ("a later kind 3 replaces", "partition pages steps mode dpc pc\n0 1 3 0 12 16\n".into()),
+        (
+            "a later kind 3 replaces",
+            "partition pages steps mode dpc pc fault\n0 1 3 0 12 16 0\n".into(),
+        ),
         ("frame twice", "refused 7 2\n".into()),
         ("frame 0", "refused 16 2\n".into()),
         ("frame 0 twice", "refused 16 1\n".into()),
@@ -204,16 +207,23 @@ fn house_files() {
         ("frame 0 and q 0", "refused 3 0\n".into()),
         ("frame 0 and too long a run", "refused 16 0\n".into()),
         ("frame 0 and an extra byte", "refused 15 30\n".into()),
-        ("a kind 3 fills frame 0", "partition pages steps mode dpc pc\n0 1 3 0 0 4\n".into()),
+        (
+            "a kind 3 fills frame 0",
+            "partition pages steps mode dpc pc fault\n0 1 3 0 0 4 0\n".into(),
+        ),
         ("q 0", "refused 3 0\n".into()),
         ("q 10,001 and an extra byte", "refused 15 4136\n".into()),
-        ("run of 0 steps", "partition pages steps mode dpc pc\n0 1 0 0 0 4\n".into()),
+        ("run of 0 steps", "partition pages steps mode dpc pc fault\n0 1 0 0 0 4 0\n".into()),
         ("run of 1,000,001 steps", "refused 14 0\n".into()),
         ("wrong q and too long a run", "refused 3 0\n".into()),
-        ("bytes make an address", "partition pages steps mode dpc pc\n0 1 7 0 4664 4668\n".into()),
+        (
+            "bytes make an address",
+            "partition pages steps mode dpc pc fault\n0 1 7 0 4664 4668 0\n".into(),
+        ),
         (
             "tickets until one is refused",
-            "partition pages steps mode dpc pc\n0 1 101 0 20 16\n1 1 101 0 20 16\n".into(),
+            "partition pages steps mode dpc pc fault\n0 1 101 0 20 16 0\n1 1 101 0 20 16 0\n"
+                .into(),
         ),
     ];
     for (name, expected) in cases {

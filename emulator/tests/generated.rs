@@ -1,11 +1,14 @@
 //! What the random scripts and files reach, and what must hold for each of them.
 
 use std::collections::{BTreeMap, BTreeSet};
+use std::sync::OnceLock;
 
 use emulator::counts::Counts;
 use emulator::dlx::{decode, Guest, Instruction};
 use emulator::fields;
-use emulator::generate::{files, scripts, Script, ANSWERS_EACH, PARTS_EACH, SCRIPT_NUMBERS};
+use emulator::generate::{
+    files, scripts, Script, ANSWERS_EACH, FAULTS_EACH, PARTS_EACH, SCRIPT_NUMBERS,
+};
 
 use emulator::house::{numbers, House, HOUSE_FRAME};
 use emulator::housefile::night;
@@ -18,6 +21,18 @@ const SEED: u64 = 1;
 const STEPS: u64 = 1_000_000;
 const FILES: usize = 2_000;
 
+/// The random scripts of the default run, composed once for all tests.
+fn default_scripts() -> &'static [Script] {
+    static SCRIPTS: OnceLock<Vec<Script>> = OnceLock::new();
+    SCRIPTS.get_or_init(|| scripts(SEED, STEPS))
+}
+
+/// What they meet.
+fn default_counts() -> &'static Counts {
+    static COUNTS: OnceLock<Counts> = OnceLock::new();
+    COUNTS.get_or_init(|| counts_of(default_scripts()))
+}
+
 fn counts_of(scripts: &[Script]) -> Counts {
     let mut counts = Counts::default();
     for one in scripts {
@@ -26,9 +41,15 @@ fn counts_of(scripts: &[Script]) -> Counts {
     counts
 }
 
+/// What those of one kind meet.
+fn counts_of_kind(kind: &str) -> Counts {
+    let of_kind = default_scripts().iter().filter(|one| one.name.starts_with(kind)).cloned();
+    counts_of(&of_kind.collect::<Vec<_>>())
+}
+
 #[test]
 fn the_default_run_reaches_every_rule() {
-    let counts = counts_of(&scripts(SEED, STEPS));
+    let counts = default_counts();
     let steps = counts.all_steps();
     assert!(steps >= STEPS);
     assert!(counts.steps[1] >= steps / 4, "user mode: {:?}", counts.steps);
@@ -45,7 +66,7 @@ fn the_default_run_reaches_every_rule() {
 
 #[test]
 fn the_default_run_has_bytes_and_half_words() {
-    let counts = counts_of(&scripts(SEED, STEPS));
+    let counts = default_counts();
     assert_eq!(PARTS_EACH, 5_000);
     assert!(counts.parts().iter().all(|&(_, done)| done >= PARTS_EACH), "{:?}", counts.parts());
     assert!(counts.odd_halves >= 300, "{}", counts.odd_halves);
@@ -53,22 +74,32 @@ fn the_default_run_has_bytes_and_half_words() {
     assert!(counts.emptied_by_part >= 1_000, "{}", counts.emptied_by_part);
 }
 
+#[test]
+fn the_default_run_has_every_fault() {
+    assert_eq!(FAULTS_EACH, 200);
+    let programs = counts_of_kind("programs").faults();
+    assert!(programs[1..].iter().all(|&came| came >= FAULTS_EACH), "{programs:?}");
+    // Only a store can be protected.
+    let counts = default_counts();
+    let (fetches, data) = (counts.fetch_faults, counts.data_faults);
+    let fetched = [1, 2, 3, 4, 5, 7].iter().all(|&number: &usize| fetches[number] >= 50);
+    assert!(fetched && fetches[6] == 0, "{fetches:?}");
+    assert!(data[1..].iter().all(|&came| came >= 10), "{data:?}");
+}
+
 /// PC is not DPC + 4: in programs behind a jump or branch, and where rfe comes back to that; in
 /// states also where the pair was set by hand.
 #[test]
 fn every_cause_comes_in_delay_slots() {
-    let scripts = scripts(SEED, STEPS);
     for (kind, least) in [("programs", 80), ("states", 30)] {
-        let of_kind = scripts.iter().filter(|one| one.name.starts_with(kind)).cloned();
-        let slots = counts_of(&of_kind.collect::<Vec<_>>()).slots;
+        let slots = counts_of_kind(kind).slots;
         assert!(slots[1..].iter().all(|&count| count >= least), "{kind}: {slots:?}");
     }
 }
 
 #[test]
 fn the_default_run_has_ticket_traffic() {
-    let scripts = scripts(SEED, STEPS);
-    let counts = counts_of(&scripts);
+    let counts = default_counts();
     let ([sent, full, no_partition, _], [taken, .., none]) = (counts.sends, counts.takes);
     let answers = [sent, full, no_partition, taken, none];
     assert!(answers.iter().sum::<u64>() >= 20_000, "{answers:?}");
@@ -76,10 +107,10 @@ fn the_default_run_has_ticket_traffic() {
     assert!(counts.sends_to_oneself >= 2_000, "{}", counts.sends_to_oneself);
     assert!(counts.sends_to_stopped >= 300, "{}", counts.sends_to_stopped);
     assert!(counts.user_tickets >= 500, "{}", counts.user_tickets);
-    let (programs, _): (Vec<Script>, _) =
-        scripts.into_iter().partition(|one| one.name.starts_with("programs"));
-    let with_tickets = |one: &&Script| {
-        let counts = counts_of(std::slice::from_ref(one));
+    let programs: Vec<&Script> =
+        default_scripts().iter().filter(|one| one.name.starts_with("programs")).collect();
+    let with_tickets = |one: &&&Script| {
+        let counts = counts_of(std::slice::from_ref(**one));
         counts.sends.iter().chain(&counts.takes).sum::<u64>() > 0
     };
     let count = programs.iter().filter(with_tickets).count();
@@ -212,7 +243,7 @@ fn row(instruction: Instruction) -> String {
 
 /// Plays the default run, and looks at the player before each command.
 fn before_each_command(mut look: impl FnMut(&Player, &Command)) {
-    for one in scripts(SEED, STEPS) {
+    for one in default_scripts() {
         let mut player = Player::new();
         for command in &one.commands {
             look(&player, command);
@@ -316,6 +347,34 @@ fn queues_are_damaged_in_every_way() {
     assert_eq!(met.len(), 5, "{met:?}");
 }
 
+#[test]
+fn the_latest_fault_is_damaged_in_every_way() {
+    let mut met = BTreeMap::new();
+    before_each_command(|player, command| {
+        if command.call_name().is_none_or(|name| name == "boot") {
+            return;
+        }
+        let mut whole = player.house.clone();
+        whole.guests.iter_mut().for_each(|guest| guest.fault = 0);
+        if whole.damaged() {
+            return;
+        }
+        for (partition, guest) in player.house.guests.iter().enumerate() {
+            let used = partition < player.house.count as usize;
+            let way = match guest.fault {
+                0 => continue,
+                1..=7 if used => "sound",
+                8 if used => "8",
+                _ if used => "above 8",
+                _ => "of an unused partition",
+            };
+            *met.entry(way).or_insert(0) += 1;
+        }
+    });
+    assert_eq!(met.len(), 4, "{met:?}");
+    assert!(met.values().all(|&times| times >= 5), "{met:?}");
+}
+
 /// The current partition.
 fn current(player: &Player) -> &Guest {
     &player.house.guests[player.house.current as usize]
@@ -333,6 +392,6 @@ fn next_instruction(player: &Player) -> Option<Instruction> {
         return None;
     }
     let counts = &mut Counts::default();
-    let place = space.locate(player.lent(), table, guest.dpc, Access::Load, counts)?;
+    let place = space.locate(player.lent(), table, guest.dpc, Access::Load, counts).ok()?;
     decode(space.word(player.lent(), place))
 }

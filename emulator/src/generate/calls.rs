@@ -64,14 +64,14 @@ fn wrong_boot(draft: &mut Draft) {
     let (mut q, mut words) = (draft.turn_length(), enough);
     for _ in 0..draft.rng.pick(&[1, 1, 1, 2, 3]) {
         let rng = &mut draft.rng;
-        match rng.below(11) {
+        match rng.below(12) {
             0 => pages.resize(rng.pick(&[0, 9, 9, 10, 16]), 1),
             1 => wrong_page_count(rng, &mut pages, &mut frames),
             2 => q = rng.pick(&[0, 10_001, u32::MAX]),
             3 => words = rng.pick(&[0, 1, 1_023, enough + 1, enough - 1, 65_535]),
             4 => wrong_list_length(rng, &mut frames),
             5 => wrong_frames(rng, &mut frames, words / 1_024),
-            6 | 7 => name_house_frame(rng, &mut frames, words / 1_024),
+            6..=8 => name_house_frame(rng, &mut frames, words / 1_024),
             _ => repeat_frames(rng, &mut frames),
         }
     }
@@ -272,7 +272,7 @@ pub fn damage_and_repair(draft: &mut Draft) {
 /// One of the ways in which a house can be damaged; some values lie just inside the limits.
 fn damage(rng: &mut Rng, house: &House) -> Vec<Change> {
     let partition = rng.below(house.count);
-    match rng.below(20) {
+    match rng.below(22) {
         0 => vec![(COUNT, rng.pick(&[0, 9, u32::MAX, house.count - 1, house.count + 1]))],
         1 => vec![(Q, rng.pick(&[0, 10_000, 10_001, u32::MAX, house.left]))],
         2 => vec![(WORDS, wrong_words(rng, house.words))],
@@ -287,6 +287,7 @@ fn damage(rng: &mut Rng, house: &House) -> Vec<Change> {
         13 => vec![unused_frame(rng, partition, house)],
         14 | 15 => vec![wrong_shadow(rng, partition, house)],
         16 | 17 => vec![wrong_queue(rng, partition, house)],
+        18 | 19 => vec![wrong_fault(rng, partition)],
         _ => vec![unused_partition(rng, house)],
     }
 }
@@ -323,6 +324,12 @@ fn wrong_pages(rng: &mut Rng, partition: u32, house: &House) -> Change {
 fn wrong_mode(rng: &mut Rng, partition: u32) -> Change {
     let special = rng.pick(&[MODE, EMODE]);
     (fields::special(partition, special), rng.pick(&[1, 2, 3, u32::MAX]))
+}
+
+/// A latest fault; from 8 on there is none.
+fn wrong_fault(rng: &mut Rng, partition: u32) -> Change {
+    let value = rng.pick(&[8, 8, 9, 256, 1 << 31, u32::MAX, 7, 0]);
+    (fields::scalar(partition, fields::LATEST_FAULT), value)
 }
 
 /// A frame number beyond the memory, the house's own, or one that stands elsewhere too.
@@ -392,8 +399,9 @@ fn unused_partition(rng: &mut Rng, house: &House) -> Change {
         return (fields::register(7, 0), 1);
     }
     let partition = rng.between(house.count, 7);
-    let index = match rng.below(9) {
+    let index = match rng.below(10) {
         0 | 1 => fields::scalar(partition, rng.below(fields::SCALARS)),
+        9 => fields::scalar(partition, fields::LATEST_FAULT),
         2 => fields::register(partition, rng.below(32)),
         3 => fields::frame(partition, rng.below(256)),
         4 | 5 => fields::ticket(partition, rng.below(32)),

@@ -15,7 +15,7 @@ use crate::tickets::{SEND, TAKE};
 /// Code ends before this word of a page; from here on pages hold data.
 const DATA_WORD: u32 = 768;
 /// Accesses begin no later, so that short loops stay in the page.
-const LAST_DATA_WORD: u32 = 970;
+const LAST_DATA_WORD: u32 = 950;
 /// Where the handler counts interrupts, in page 0.
 const COUNTER: u32 = 4 * 760;
 /// First word of the code for user mode. If the table is in the same page, no page of user addresses
@@ -126,10 +126,11 @@ impl Plan {
         }
         for (at, &px) in self.odd.iter().enumerate() {
             let good = entry(rng.below(self.pages), false);
+            let beyond = entry(self.pages + rng.below(3), rng.chance(50));
             let odd = match at {
-                0 => good & !VALID,
+                0 => rng.pick(&[good, good, beyond]) & !VALID,
                 1 => good | PROTECTED,
-                _ => entry(self.pages + rng.below(3), false),
+                _ => beyond,
             };
             entries.push((px, odd));
         }
@@ -141,8 +142,8 @@ impl Plan {
         let last = self.entries.iter().map(|&(px, _)| px).max().unwrap_or(0);
         match rng.below(8) {
             0 => self.code_px + 1,
-            1 | 2 => rng.pick(&[257, 1_023, 1_024, 1_025, u32::MAX]),
-            3 => self.code_px.max(self.window) + 1,
+            1..=4 => rng.pick(&[257, 1_023, 1_024, 1_025, 1_025, u32::MAX, u32::MAX]),
+            5 => self.code_px.max(self.window) + 1,
             _ => last + 1,
         }
     }
@@ -195,10 +196,10 @@ fn data_pages(rng: &mut Rng, shared: bool) -> Vec<u32> {
     (first..first + count).collect()
 }
 
-/// Five other pages: mostly low, some around 255 and 256, at the end or anywhere.
+/// Six other pages: mostly low, some around 255 and 256, at the end or anywhere.
 fn other_pages(rng: &mut Rng, data: &[u32], shared: bool) -> Vec<u32> {
     let mut chosen = Vec::new();
-    while chosen.len() < 5 {
+    while chosen.len() < 6 {
         let px = match rng.below(10) {
             0 | 1 => rng.between(1_016, 1_023),
             2 => rng.between(252, 259),
@@ -312,9 +313,14 @@ fn from_system(code: &mut Code, again: usize) {
     code.push(&[rfe()]);
 }
 
-/// What a trap in user mode asks for: some work in system mode.
+/// What a trap in user mode asks for: some work in system mode. Now and then it puts the table outside
+/// the pages, and the next fetch in user mode faults.
 fn service(rng: &mut Rng, plan: &Plan, code: &mut Code) {
     let snippets = rng.below(3);
+    if rng.chance(20) {
+        let outside = [plan.pages, plan.pages + 1, 1 << 20 | plan.table, u32::MAX];
+        code.special(PTO, 12, rng.pick(&outside));
+    }
     let mut writer = Writer { rng, plan, user: false, base: 0 };
     if writer.rng.chance(40) {
         writer.tickets(code);
@@ -422,15 +428,15 @@ impl Writer<'_> {
             return (0..count).for_each(|_| code.push(&[words::instruction(self.rng)]));
         }
         match self.rng.below(100) {
-            0..=11 => self.compute(code),
-            12..=14 => self.interrupted_slot(code),
+            0..=9 => self.compute(code),
+            10..=14 => self.interrupted_slot(code),
             15..=17 => self.tickets(code),
-            18..=25 => self.overflow(code),
-            26..=42 => self.access(code),
-            43..=48 => self.change_in_a_loop(code),
-            49..=65 => self.sweep(code),
-            66..=67 => self.counted(code),
-            68..=73 => self.forward(code),
+            18..=23 => self.overflow(code),
+            24..=39 => self.access(code),
+            40..=45 => self.change_in_a_loop(code),
+            46..=62 => self.sweep(code),
+            63..=68 => self.counted(code),
+            69..=73 => self.forward(code),
             74..=78 => self.subroutine(code),
             79..=81 => code.push(&[trap(self.rng.word())]),
             82..=83 => code.push(&[words::ill(self.rng)]),
@@ -512,8 +518,8 @@ impl Writer<'_> {
     fn user_address(&mut self) -> u32 {
         let offset = self.data_offset();
         match self.rng.below(100) {
-            0..=78 => 4_096 * self.rng.pick(&self.plan.data) + offset,
-            79..=83 => 4_096 * self.rng.pick(&self.plan.odd) + offset,
+            0..=76 => 4_096 * self.rng.pick(&self.plan.data) + offset,
+            77..=83 => 4_096 * self.rng.pick(&self.plan.odd) + offset,
             84..=87 => 4_096 * self.plan.window + 4 * self.plan.table_word(self.rng),
             88..=90 => 4_096 * self.rng.pick(&[255, 256, 1_023, 1_024]) + offset,
             91..=94 => 4_096 * self.plan.code_px + offset,
@@ -548,8 +554,11 @@ impl Writer<'_> {
         ]);
         let width = words::width(load);
         code.constant(pointer, self.sweep_start() + width * self.rng.below(4 / width));
-        let row = if width == 4 { 30 } else { 90 };
-        let (step, most) = self.rng.pick(&[(4_096, 5), (4_096, 5), (width, row), (3 * width, 12)]);
+        let row = if width == 4 { 40 } else { 120 };
+        // In system mode at most one page behind the last.
+        let pages = if self.user { 5 } else { (self.plan.pages + 1).min(5) };
+        let steps = [(4_096, pages), (4_096, pages), (width, row), (3 * width, row / 4)];
+        let (step, most) = self.rng.pick(&steps);
         code.constant(stride, step);
         code.constant(count, self.rng.between(2, most));
         let (value, top) = (self.rng.between(1, 12), code.here());
@@ -562,9 +571,10 @@ impl Writer<'_> {
 
     fn sweep_start(&mut self) -> u32 {
         let offset = self.data_offset();
-        match (self.user, self.rng.below(4)) {
+        match (self.user, self.rng.below(16)) {
             (false, _) => offset,
-            (true, 0) => 4_096 * self.rng.below(6) + offset,
+            (true, 0..=3) => 4_096 * self.rng.below(6) + offset,
+            (true, 4) => 4_096 * self.rng.between(1_021, 1_024) + offset,
             (true, _) => 4_096 * self.plan.data[0] + offset,
         }
     }

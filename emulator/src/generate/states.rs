@@ -6,7 +6,7 @@ use crate::counts::Counts;
 use crate::dlx::special::{EDPC, EMODE, EPC, ESR, MODE, PTL, PTO, SR};
 use crate::dlx::{decode, Instruction};
 use crate::fields;
-use crate::memory::{shadow_entry, Access, ENTRIES, PROTECTED, VALID};
+use crate::memory::{shadow_entry, Access, Fault, ENTRIES, PROTECTED, VALID};
 use crate::script::Command;
 
 /// Low pages of user addresses that the tables have.
@@ -32,9 +32,12 @@ fn write_table(draft: &mut Draft, partition: u32, pages: u32, table: u32) {
     draft.field(fields::special(partition, PTO), table);
     for px in (0..MAPPED).chain(FAR) {
         let page = if px == 1 { table } else { draft.rng.below(pages) };
-        let entry = match draft.rng.below(10) {
+        let protection = draft.rng.pick(&[0, PROTECTED]);
+        let beyond = (pages + draft.rng.below(2)) << 12 | protection;
+        let entry = match draft.rng.below(12) {
             0 => page << 12,
-            1 => (pages + draft.rng.below(2)) << 12 | VALID,
+            10 => beyond,
+            1 | 11 => beyond | VALID,
             2 => page << 12 | VALID | PROTECTED,
             _ => page << 12 | VALID | draft.rng.below(1 << 10),
         };
@@ -47,7 +50,7 @@ fn one_case(draft: &mut Draft) {
     let partition = draft.player.house.current;
     set_specials(draft, partition);
     set_pair(draft, partition);
-    if draft.rng.chance(25) {
+    if draft.rng.chance(35) {
         set_shadow(draft, partition);
     }
     let instruction = match draft.rng.below(20) {
@@ -91,11 +94,11 @@ fn set_specials(draft: &mut Draft, partition: u32) {
         changes.push((SR, rng.pick(&[0, 64, u32::MAX])));
     }
     if rng.chance(40) {
-        let edges = [3, MAPPED, 256, 257, 1_023, 1_024, 1_025, u32::MAX, 0];
+        let edges = [3, MAPPED, 256, 257, 1_023, 1_024, 1_025, u32::MAX, u32::MAX, 0];
         changes.push((PTL, rng.pick(&edges)));
     }
-    if rng.chance(6) {
-        changes.push((PTO, rng.pick(&[0, 1, 2, 5, 0x10_0000, u32::MAX])));
+    if rng.chance(10) {
+        changes.push((PTO, rng.pick(&[0, 1, 2, 5, 6, 0x10_0000, u32::MAX])));
     }
     if rng.chance(20) {
         changes.extend([(EMODE, rng.below(2)), (ESR, rng.word())]);
@@ -103,6 +106,10 @@ fn set_specials(draft: &mut Draft, partition: u32) {
     }
     for (special, value) in changes {
         draft.field(fields::special(partition, special), value);
+    }
+    if draft.rng.chance(20) {
+        let fault = draft.rng.below(Fault::LAST + 1);
+        draft.field(fields::scalar(partition, fields::LATEST_FAULT), fault);
     }
     if draft.rng.chance(5) {
         draft.field(fields::scalar(partition, fields::COUNTER_LOW), u32::MAX);
@@ -137,15 +144,17 @@ fn any_page(draft: &mut Draft) -> u32 {
     let rng = &mut draft.rng;
     match rng.below(20) {
         0..=3 => rng.pick(&FAR),
-        4 => rng.pick(&[1_024, 1_025, 0xF_FFFF]),
-        5 => rng.below(ENTRIES as u32),
+        4 | 5 => rng.pick(&[1_024, 1_025, 0xF_FFFF]),
+        6 => rng.below(ENTRIES as u32),
         _ => rng.below(MAPPED - 4),
     }
 }
 
+/// A shadow entry, often that of the instruction's own page.
 fn set_shadow(draft: &mut Draft, partition: u32) {
-    let list = draft.player.house.guests[partition as usize].space.list().to_vec();
-    let px = any_page(draft).min(1_023);
+    let guest = &draft.player.house.guests[partition as usize];
+    let (own, list) = (guest.dpc >> 12, guest.space.list().to_vec());
+    let px = if draft.rng.chance(70) { own } else { any_page(draft) }.min(1_023);
     let entry = match draft.rng.below(4) {
         0 => 0,
         _ => shadow_entry(draft.rng.pick(&list), draft.rng.word()),
@@ -218,7 +227,7 @@ fn place_instruction(draft: &mut Draft, partition: u32, instruction: u32) {
     let mut space = guest.space.clone();
     let place =
         space.locate(draft.player.lent(), table, guest.dpc, Access::Load, &mut Counts::default());
-    if let Some(place) = place {
+    if let Ok(place) = place {
         draft.poke_guest(partition, 1_024 * place.page + place.word, instruction);
     }
 }

@@ -35,6 +35,11 @@ impl After {
         self.guest().specials[number]
     }
 
+    /// The number of the latest fault.
+    pub fn fault(&self) -> u32 {
+        self.guest().fault
+    }
+
     pub fn shadow(&self, px: usize) -> u32 {
         self.guest().space.shadow[px]
     }
