@@ -18,7 +18,7 @@ use Rattle.decimal.specs.Texts.{ascii}
 use Rattle.drill_text.specs.Numbers.{joined, numberOf}
 use Rattle.drill_text.specs.Lines.{rowOf}
 
--- the most bytes that tell of one partition, 325 of them in its own line
+-- the most bytes that tell of one partition, 346 of them in its own line
 abbrev pub longest : ℕ
 longest = 6418 + 42 * entries
 
