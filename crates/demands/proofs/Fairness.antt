@@ -21,18 +21,12 @@ use Rattle.demands.specs.Histories.{Boot, booted, Call, run, start, stop
 use Rattle.house.specs.declared.House.{House}
 use Rattle.house.specs.declared.Turn.{Turn}
 use Rattle.house.proofs.Lists.Bounded.{or-left, and-right, one-way, any-yes}
-use Rattle.house.proofs.Turns.Kept.{next-below, distance, distance-some, next-nearer, steps-keep, InTurn, in-turn, in-turn-on}
+use Rattle.house.proofs.Turns.Kept.{next-below, distance, distance-some, distance-other, next-nearer, steps-keep, InTurn, in-turn, in-turn-on}
 use Rattle.house.proofs.Turns.SameLayout.{steps-layout}
 use Rattle.demands.proofs.Histories.Standing.{Standing}
 use Rattle.demands.proofs.Histories.Grown.{standing, standing-after}
 use Rattle.house.proofs.Damage.Undamaged.{undamaged-gives}
 use Rattle.house.proofs.Calls.Verdicts.{run-done, one-done}
-
--- ---- how far the turn is
-
-distance-other : (n c i : ℕ) → c < n → i < n → (c ≡ i → ⊥) → distance n c i < n
-unfolding distance
-distance-other n c i l m o = either (λ d. d < n) (ltb c i) (λ t. let k = ltb-true c i t in omega arith) (λ t. let k = ltb-false c i t in omega arith)
 
 -- ---- how long i waits
 

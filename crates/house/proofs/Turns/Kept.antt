@@ -56,6 +56,10 @@ module _ (n c i : ℕ) (l : c < n) where
     unfolding distance
     distance-most = either (λ d. d ≤ n) (ltb c i) (λ t. omega arith) (λ t. let k = ltb-false c i t in omega arith)
 
+    pub distance-other : (c ≡ i → ⊥) → distance n c i < n
+    unfolding distance
+    distance-other o = either (λ d. d < n) (ltb c i) (λ t. let k = ltb-true c i t in omega arith) (λ t. let k = ltb-false c i t in omega arith)
+
     -- the one that follows is i, or nearer
     nearer : (following n c ≡ i → ⊥) → distance n (following n c) i < distance n c i
     unfolding distance
