@@ -67,7 +67,7 @@ passed-waits r n q i c m l e =
 
 -- ---- host steps of others
 
-abbrev Turning : House → Type 0
+abbrev pub Turning : House → Type 0
 Turning h = InTurn (h .running) (h .count) (h .q) (turn (h .current) (h .left))
 
 turn-waits : (r : List Bool) (n q i c l : ℕ) (calls : Bool) → InTurn r n q (turn c l) → i < n → getD r i false ≡ true → (c ≡ i → ⊥) → let t = turnOf r n q c l 1 calls in
@@ -87,7 +87,7 @@ step-waits w i s m e o =
     let calls = guestStep w (h .current) .0 .calls in
     (in-turn-on (h .running) (h .count) (h .q) (h .current) (h .left) calls s, turn-waits (h .running) (h .count) (h .q) i (h .current) (h .left) calls s m e o)
 
-steps-running : (k : ℕ) (w : World) → hostSteps k w .house .running ≡ w .house .running
+pub steps-running : (k : ℕ) (w : World) → hostSteps k w .house .running ≡ w .house .running
 unfolding hostStep stepWith settledHouse
 steps-running k w = steps-keep (λ x. x .house .running ≡ w .house .running) (λ x e. e) k w refl
 
@@ -112,7 +112,7 @@ steps-wait (suc k) w i s m e z =
 -- ---- calls
 
 -- in a house that is not damaged one is current while i runs
-turning : (h : House) (i : ℕ) → damaged h ≡ false → i < h .count → runs h i ≡ true → Turning h
+pub turning : (h : House) (i : ℕ) → damaged h ≡ false → i < h .count → runs h i ≡ true → Turning h
 turning h i e m r =
     let u = undamaged-gives h e in
     in-turn h u (λ z. one-way (runs h i) r (u .idle z .1 i (omega (arith, u .few))))

@@ -5,3 +5,4 @@ pub mod Histories
 pub mod Instances
 pub mod Isolation
 pub mod ReadOut
+pub mod Shares

@@ -1,6 +1,6 @@
 -- The three demands, as statements about the definitions that the calls' contracts cite. proofs/Demands.antt proves each.
 use mathlib.Core.Path.{_≡_}
-use mathlib.Core.Bool.{Bool, false, not}
+use mathlib.Core.Bool.{Bool, true, false, not}
 use mathlib.Core.List.{List, _++_}
 use Prim.Native.Nat.{ℕ, _+_, _-_, _*_, _/_, _%_, _^_, _<_, _≤_}
 use lib.Dec.{eqb}
@@ -11,12 +11,12 @@ use Rattle.translate.specs.Entries.{number, valid, protection, refused, protect
 use Rattle.translate.specs.Memory.{wordIn, loneFound, loneMemory, served}
 use Rattle.translate.specs.Premises.{Own}
 use Rattle.house.specs.Lists.{listFrom}
-use Rattle.house.specs.House.{noHouse, partition, pagesOf, registersOf, framesOf, shadowOf, queuesOf, turn}
+use Rattle.house.specs.House.{noHouse, partition, pagesOf, runs, registersOf, framesOf, shadowOf, queuesOf, turn}
 use Rattle.house.specs.Damage.{damaged}
 use Rattle.house.specs.Turns.{World, world, turnOf, guest, hostStep, hostSteps}
 use Rattle.house.specs.Sound.{Shaped, LaidOut}
 use Rattle.house.specs.Calls.{Answered, bootCall, runCall, startCall, stopCall, emptyCall, readCall}
-use Rattle.demands.specs.Histories.{Boot, booted, Call, history, Grown, turnsMade, stepsMade, StaysRunning, loneOf, loneAtBoot, queueIn, loneAsks, loneAnswer, logOf, ticketsTo, ticketsOff, feedOf}
+use Rattle.demands.specs.Histories.{Boot, booted, Call, history, Grown, turnsMade, stepsMade, StaysRunning, earlyEnds, startsAndStops, loneOf, loneAtBoot, queueIn, loneAsks, loneAnswer, logOf, ticketsTo, ticketsOff, feedOf}
 use Rattle.tickets.specs.Queues.{waitingOf, queueOf, lined, Moved}
 use Rattle.house.specs.declared.House.{House}
 
@@ -216,3 +216,11 @@ ReadsThosePages = (b : Boot) (w : World) → Grown b w → (i a n : ℕ) (out : 
 abbrev pub Fairness : Type 0
 Fairness = (b : Boot) (w : World) → Grown b w → (cs : List Call) (i : ℕ) → i < length (b .pages) → StaysRunning cs w i →
     (length (b .pages) - 1) * b .q + 1 ≤ stepsMade cs w → 0 < turnsMade cs w i
+
+-- Fair shares: over any stretch of a history in which no start or stop changes who runs and no turn ends early by a trap, any two partitions running make
+-- step counts that differ by at most q. Runs, emptyings and read-outs may stand in it, done or refused, in any number and lengths. A refused start or stop
+-- changes nothing, so it may stand in it too, as may a start of one that runs and a stop of one that is stopped.
+abbrev pub FairShares : Type 0
+FairShares = (b : Boot) (w : World) → Grown b w → (cs : List Call) → startsAndStops cs w ≡ 0 → earlyEnds cs w ≡ 0 →
+    (i j : ℕ) → i < length (b .pages) → j < length (b .pages) → runs (w .house) i ≡ true → runs (w .house) j ≡ true →
+    (turnsMade cs w i ≤ turnsMade cs w j + b .q) × (turnsMade cs w j ≤ turnsMade cs w i + b .q)

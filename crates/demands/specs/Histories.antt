@@ -1,9 +1,9 @@
 -- Histories: a boot that is done, then any calls, house and memory handed on untouched; and the lone machine of each partition.
 use mathlib.Core.Path.{_≡_}
-use mathlib.Core.Bool.{true}
+use mathlib.Core.Bool.{Bool, true, not, _&&_}
 use mathlib.Core.List.{List, [], _∷_, _++_}
 use Prim.Native.Nat.{ℕ, zero, suc, _+_, _*_, _/_, _%_}
-use lib.Dec.{eqb}
+use lib.Dec.{eqb, ltb}
 use lib.ListN.{length, getD, replicate}
 use Rattle.dlx.specs.Choice.{if_then_else_}
 use Rattle.dlx.specs.Processor.{freshProcessor}
@@ -14,7 +14,7 @@ use Rattle.house.specs.Lists.{listFrom}
 use Rattle.house.specs.House.{partition, pagesOf, runs, registersOf, framesOf, queuesOf}
 use Rattle.tickets.specs.Queues.{queueOf, ruled, sentTo, takenBy}
 use Rattle.house.specs.Boot.{bootVerdict, bootedHouse, offset}
-use Rattle.house.specs.Turns.{World, world, hostSteps}
+use Rattle.house.specs.Turns.{World, world, guestStep, hostSteps}
 use Rattle.house.specs.Calls.{runCall, startCall, stopCall, emptyCall, readCall}
 
 -- ---- histories
@@ -80,6 +80,33 @@ turnsMade (c ∷ cs) w i = turnsIn (stepsOf c w) w i + turnsMade cs (after c w) 
 -- partition i stays running: it runs after every prefix of the calls
 abbrev pub StaysRunning : List Call → World → ℕ → Type 0
 StaysRunning cs w i = (first rest : List Call) → cs ≡ first ++ rest → runs (history first w .house) i ≡ true
+
+-- ---- what changes shares
+
+-- the step from w ends its turn early: some are left, and its guest calls the hypervisor by a trap taken in system mode, which no ticket call is
+unfoldable pub endsEarly : World → Bool
+endsEarly w = ltb 1 (w .house .left) && guestStep w (w .house .current) .0 .calls
+
+-- of k host steps, those that end their turn early
+unfoldable pub earlyEndsIn : ℕ → World → ℕ
+earlyEndsIn zero w = 0
+earlyEndsIn (suc k) w = (if endsEarly (hostSteps k w) then 1 else 0) + earlyEndsIn k w
+
+unfoldable pub earlyEnds : List Call → World → ℕ
+earlyEnds [] w = 0
+earlyEnds (c ∷ cs) w = earlyEndsIn (stepsOf c w) w + earlyEnds cs (after c w)
+
+-- the starts and stops that change who runs: of one that is stopped, or of one that runs, and done
+unfoldable pub startOrStop : Call → World → ℕ
+startOrStop (run k) w = 0
+startOrStop (start i) w = if eqb (startCall w i .verdict .number) 0 && not (runs (w .house) i) then 1 else 0
+startOrStop (stop i) w = if eqb (stopCall w i .verdict .number) 0 && runs (w .house) i then 1 else 0
+startOrStop (empty i) w = 0
+startOrStop (readOut i a n out) w = 0
+
+unfoldable pub startsAndStops : List Call → World → ℕ
+startsAndStops [] w = 0
+startsAndStops (c ∷ cs) w = startOrStop c w + startsAndStops cs (after c w)
 
 -- ---- the lone machine of partition i: its registers and special registers, its table, and the words of its pages
 

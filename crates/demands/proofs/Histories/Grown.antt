@@ -2,7 +2,7 @@
 use mathlib.Core.Path.{_≡_, refl, sym, ap, subst, _∙_}
 use mathlib.Core.Bool.{Bool, true, false, not, _&&_, and-false}
 use mathlib.Core.List.{List, [], _∷_, _++_}
-use Prim.Native.Nat.{ℕ, _<_}
+use Prim.Native.Nat.{ℕ, _<_, _≤_}
 use native.Mathlib.Omega.{arith}
 use borrow.Author.Tests.{eq-eqb, ne-eqb, le-ltb}
 use lib.Dec.{eqb}
@@ -39,6 +39,7 @@ standing-boot b = record {
   shaped = booted-shaped b;
   layout = same-layout (booted b .house);
   here = booted-undamaged b .some;
+  turns = omega arith;
   size = refl;
   most = λ j. omega (arith, getD-replicate-same 8 0 j);
   right = λ i l. fresh-right (booted b) i (booted-shadow b i (omega (arith, booted-undamaged b .few)));
@@ -49,11 +50,15 @@ standing-steps b = steps-keep (Standing b) (standing-step b)
 
 module _ (b : Boot) (w : World) (st : Standing b w) where
   -- who runs, and whose turn it is
-  standing-turn : (running : List Bool) (t : Turn) → length running ≡ 8 → t .current < w .house .count → Standing b (world (withTurn (w .house) running t) (w .memory))
+  abbrev InLimits : Turn → Type 0
+  InLimits t = (t .current < w .house .count) × (t .left ≤ w .house .q)
+
+  standing-turn : (running : List Bool) (t : Turn) → length running ≡ 8 → InLimits t → Standing b (world (withTurn (w .house) running t) (w .memory))
   standing-turn running t l c = record {
     shaped = turn-shaped (w .house) (st .shaped) running t l;
     layout = layout-on (booted b .house) (w .house) _ (st .layout) (changed-layout (w .house) running t _);
-    here = c;
+    here = c .0;
+    turns = c .1;
     size = st .size;
     most = st .most;
     right = st .right;
@@ -64,18 +69,18 @@ module _ (b : Boot) (w : World) (st : Standing b w) where
     unfolding started
     standing-started =
         standing-turn (set (w .house .running) i true) _ (length-set (w .house .running) i true ∙ st .shaped .running)
-        (either (λ (t : Turn). t .current < w .house .count) (eqb (w .house .left) 0) (λ _. l) (λ _. st .here))
+        (either InLimits (eqb (w .house .left) 0) (λ _. (l, omega arith)) (λ _. (st .here, st .turns)))
 
     standing-stopped : Standing b (world (stopped (w .house) i) (w .memory))
     unfolding stopped
     standing-stopped =
         let r = set (w .house .running) i false in
         standing-turn r _ (length-set (w .house .running) i false ∙ st .shaped .running)
-        (either (λ (t : Turn). t .current < w .house .count) (not (eqb (w .house .left) 0) && eqb (w .house .current) i)
-        (λ _. either (λ (t : Turn). t .current < w .house .count) (any (λ j. getD r j false) (w .house .count))
-        (λ _. next-below r (w .house .count) i (w .house .count) l)
-        (λ _. omega arith))
-        (λ _. st .here))
+        (either InLimits (not (eqb (w .house .left) 0) && eqb (w .house .current) i)
+        (λ _. either InLimits (any (λ j. getD r j false) (w .house .count))
+        (λ _. (next-below r (w .house .count) i (w .house .count) l, omega arith))
+        (λ _. (omega arith, omega arith)))
+        (λ _. (st .here, st .turns)))
 
     standing-emptied : Standing b (world (emptiedHouse (w .house) i) (w .memory))
     unfolding emptiedHouse
@@ -86,6 +91,7 @@ module _ (b : Boot) (w : World) (st : Standing b w) where
           shaped = emptied-shaped (w .house) i (st .shaped) small;
           layout = layout-on (booted b .house) (w .house) _ (st .layout) (changed-layout (w .house) _ (turn (w .house .current) (w .house .left)) _);
           here = st .here;
+          turns = st .turns;
           size = st .size;
           most = st .most;
           right = λ j m. by-eq j i
@@ -111,7 +117,7 @@ standing b w g = subst (Standing b) (sym (g .1)) (history-keeps (Standing b) (st
 
 -- ---- the steps of a run that is done
 
-history-then : (cs ds : List Call) (w : World) → history (cs ++ ds) w ≡ history ds (history cs w)
+pub history-then : (cs ds : List Call) (w : World) → history (cs ++ ds) w ≡ history ds (history cs w)
 unfolding history
 history-then [] ds w = refl
 history-then (c ∷ cs) ds w = history-then cs ds (after c w)

@@ -34,7 +34,7 @@ use Rattle.dlx.proofs.Parts.{inner-length}
 use Rattle.house.proofs.Lists.ByRule.{length-listFrom, listFrom-at, listFrom-same}
 use Rattle.tickets.specs.Queues.{Queued}
 use Rattle.tickets.proofs.Queues.{desk-ruled, desk-kept}
-use Rattle.house.proofs.Turns.Kept.{queued-of, queued-next, queued-shaped, turn-here, step-registers, settled-shaped, settled-partition, settled-registers, settled-shadow, other-partition, other-registers, other-shadow}
+use Rattle.house.proofs.Turns.Kept.{queued-of, queued-next, queued-shaped, turn-here, turn-most, step-registers, settled-shaped, settled-partition, settled-registers, settled-shadow, other-partition, other-registers, other-shadow}
 use Rattle.house.proofs.Turns.SameLayout.{layout-on, step-layout}
 use Rattle.house.proofs.Damage.Undamaged.{sound-partition}
 use Rattle.demands.proofs.Booted.FreshHouse.{booted-shaped, booted-undamaged, booted-whole}
@@ -48,6 +48,7 @@ pub record Standing (b : Boot) (w : World) : Type 0 where
   pub shaped : Shaped (w .house)
   pub layout : LaidOut (booted b .house) (w .house)
   pub here : w .house .current < w .house .count
+  pub turns : w .house .left ≤ w .house .q
   pub size : length (w .memory) ≡ length (b .memory)
   pub most : (j : ℕ) → waitingOf (queuesOf (w .house)) j ≤ 32
   pub right : (i : ℕ) → i < w .house .count → RightShadow w i
@@ -212,6 +213,7 @@ module _ (b : Boot) (w : World) (st : Standing b w) where
     shaped = settled-shaped on (w .house .current) on-shaped (standing-small (st .here)) made regs shadow next;
     layout = layout-on (booted b .house) (w .house) _ (st .layout) (step-layout w);
     here = turn-here (w .house .running) (w .house .count) (w .house .q) (w .house .current) (w .house .left) (made .0 .calls) (st .here);
+    turns = turn-most (w .house .running) (w .house .count) (w .house .q) (w .house .current) (w .house .left) (made .0 .calls) (st .turns);
     size = both .rest .size ∙ st .size;
     most = on-queued .most;
     right = λ j l. by-eq j (w .house .current)

@@ -1,13 +1,13 @@
 -- Start, stop and empty keep a house undamaged.
-use mathlib.Core.Path.{_≡_, refl, _∙_}
+use mathlib.Core.Path.{_≡_, refl, sym, ap, _∙_}
 use mathlib.Core.Bool.{Bool, true, false, not, _&&_}
 use mathlib.Core.List.{List}
 use Prim.Native.Nat.{ℕ, _*_, _^_, _<_}
 use native.Mathlib.Omega.{arith}
-use borrow.Author.Tests.{eqb-false, ltb-true, ltb-false, ne-eqb}
+use borrow.Author.Tests.{eqb-false, ltb-true, ltb-false, eq-eqb, ne-eqb}
 use lib.Dec.{ltb, eqb}
 use lib.ListN.{getD, set, length-set}
-use lib.Seq.{getD-set-same, getD-set-other}
+use lib.Seq.{set-getD, getD-set-same, getD-set-other}
 use Rattle.dlx.proofs.Kept.{getD-set-elim}
 use Rattle.translate.specs.Walk.{entries}
 use Rattle.translate.specs.Memory.{freshShadow}
@@ -22,11 +22,32 @@ use Rattle.house.specs.declared.House.{House}
 use Rattle.house.proofs.Damage.Conditions.{empty-proper}
 use Rattle.house.proofs.Calls.Emptied.{fresh-count, emptied-shaped, emptied-own, emptied-other}
 use Rattle.dlx.proofs.Parts.{outer-each}
-use Rattle.house.proofs.Lists.Bounded.{any-at, any-none}
+use Rattle.house.proofs.Lists.Bounded.{one-way, any-at, any-none}
 use Rattle.house.proofs.Turns.Kept.{next-below, next-runs}
 use Rattle.house.proofs.Damage.Undamaged.{undamaged-gives}
 use Rattle.house.proofs.Damage.Changed.{FlagsRight, TurnRight, ShadowsRight, same-flags, same-shadows, changed-stays}
 use Rattle.house.proofs.Calls.Verdicts.{OneDone}
+
+-- Starting a running one or stopping a stopped one changes nothing.
+module _ (h : House) (i : ℕ) (d : OneDone h i) where
+  pub started-running : runs h i ≡ true → started h i ≡ h
+  unfolding started
+  started-running r =
+      let u = undamaged-gives h (d .whole) in
+      let n : h .left ≡ 0 → ⊥ = λ z. one-way (runs h i) r (u .idle z .1 i (omega (arith, d .there, u .few))) in
+      let e : set (h .running) i true ≡ h .running = ap (set (h .running) i) (sym r) ∙ set-getD (h .running) i false in
+      rw (ne-eqb (h .left) 0 n, e)
+
+  pub stopped-still : runs h i ≡ false → stopped h i ≡ h
+  unfolding stopped
+  stopped-still r =
+      let u = undamaged-gives h (d .whole) in
+      let e : set (h .running) i false ≡ h .running = ap (set (h .running) i) (sym r) ∙ set-getD (h .running) i false in
+      let t : (not (eqb (h .left) 0) && eqb (h .current) i) ≡ false =
+          by-eq (h .left) 0
+          (λ z. rw (eq-eqb (h .left) 0 z))
+          (λ n. rw (ne-eqb (h .left) 0 n, ne-eqb (h .current) i (λ z. one-way (runs h (h .current)) (u .busy n .1) (ap (runs h) z ∙ r)))) in
+      rw (t, e)
 
 module _ (w : World) (i : ℕ) (y : Typed w) (d : OneDone (w .house) i) where
   abbrev h : House

@@ -125,6 +125,10 @@ module _ (r : List Bool) (n q c l : ℕ) (calls : Bool) where
   unfolding turnOf
   turn-left p s = either (λ (t : Turn). 0 < t .left) (eqb l 1 || calls) (λ _. p) (λ e. let k = eqb-false l 1 (or-left (eqb l 1) calls e) in omega arith)
 
+  pub turn-most : l ≤ q → turnOf r n q c l 1 calls .left ≤ q
+  unfolding turnOf
+  turn-most m = either (λ (t : Turn). t .left ≤ q) (eqb l 1 || calls) (λ _. omega arith) (λ _. omega arith)
+
 -- a turn of one of n that runs, with 1 to q steps left
 pub record InTurn (r : List Bool) (n q : ℕ) (t : Turn) : Type 0 where
   pub here : t .current < n
@@ -141,7 +145,7 @@ in-turn-on r n q c l calls s = record {
   here = turn-here r n q c l calls (s .here);
   runs = either (λ (t : Turn). getD r (t .current) false ≡ true) (eqb l 1 || calls) (λ _. next-runs r n c (s .here) (s .runs) c (s .here)) (λ _. s .runs);
   some = turn-left r n q c l calls (omega (arith, s .some, s .most)) (s .some);
-  most = either (λ (t : Turn). t .left ≤ q) (eqb l 1 || calls) (λ _. omega arith) (λ _. omega (arith, s .most));
+  most = turn-most r n q c l calls (s .most);
 }
 
 -- ---- the house after partition i came to o
