@@ -18,7 +18,7 @@ use Rattle.house.specs.Boot.{bootVerdict}
 use Rattle.house.specs.Turns.{World, world}
 use Rattle.house.specs.Calls.{bootCall, runVerdict, runCall, oneVerdict, startCall, stopCall, emptyCall, readVerdict, readCall}
 use Rattle.demands.specs.Histories.{booted, history, turnsMade, loneAtBoot, queueIn, logOf, ticketsOff, feedOf}
-use Rattle.demands.specs.Demands.{RefusedMeansUntouched, Isolation, RunIsolation, Frame0, EveryBoot, NeverDamaged, Step, WithinRuns, Reach, Histories, EqualGuests, EqualCounters, Tickets, TicketCounts, ReadsThosePages, Fairness}
+use Rattle.demands.specs.Demands.{RefusedMeansUntouched, Isolation, RunIsolation, Frame0, EveryBoot, NeverDamaged, Step, WithinRuns, Reach, Histories, EqualGuests, EqualCounters, Tickets, TicketCounts, ReadsThosePages, Fairness, FairShares}
 use Rattle.house.proofs.Lists.Bounded.{one-way}
 use Rattle.house.proofs.Calls.Verdicts.{run-done}
 use Rattle.house.proofs.Damage.Undamaged.{undamaged-gives, sound}
@@ -35,6 +35,7 @@ use Rattle.tickets.proofs.Queues.{queue-count}
 use Rattle.house.proofs.Turns.Kept.{queued-of}
 use Rattle.demands.proofs.ReadOut.{reads-pages}
 use Rattle.demands.proofs.Fairness.{others-most}
+use Rattle.demands.proofs.Shares.{shares-most}
 
 -- ---- demand 1
 
@@ -132,3 +133,6 @@ reads-those-pages b w g = reads-pages w
 pub fairness-demand : Fairness
 fairness-demand b w g cs i m e l =
     by-eq (turnsMade cs w i) 0 (λ z. omega (arith, others-most b w g cs i m e z)) (λ n. omega arith)
+
+pub fair-shares : FairShares
+fair-shares b w g cs z y i j m o r s = (shares-most b w g cs z y i j m o r s, shares-most b w g cs z y j i o m s r)

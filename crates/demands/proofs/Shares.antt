@@ -24,7 +24,7 @@ use Rattle.house.proofs.Turns.Shares.{lead, lead-most, leadIn, step-shares}
 use Rattle.house.proofs.Calls.StartStopEmpty.{started-running, stopped-still}
 use Rattle.house.proofs.Calls.Verdicts.{run-done, one-done}
 use Rattle.demands.proofs.Histories.Standing.{Standing}
-use Rattle.demands.proofs.Histories.Grown.{standing, standing-after, history-then}
+use Rattle.demands.proofs.Histories.Grown.{standing}
 use Rattle.demands.proofs.Fairness.{Turning, turning, steps-running}
 
 -- ---- host steps
@@ -57,10 +57,7 @@ steps-runs k w i r = record {
 }
 
 module _ (i j : ℕ) (d : i ≡ j → ⊥) where
-  -- i made as many steps as j, but for what j was ahead of it then and is now
-  pub Told : (World → World → (ℕ → ℕ) → Type 0)
-  Told w v made = made j + leadIn (w .house) i j ≡ made i + leadIn (v .house) i j
-
+  -- i made as many steps as j, but for those that j was ahead then and is now
   steps-told : (k : ℕ) (w : World) → Runs (w .house) i → Runs (w .house) j → Turning (w .house) → earlyEndsIn k w ≡ 0
       → turnsIn k w j + leadIn (w .house) i j ≡ turnsIn k w i + leadIn (hostSteps k w .house) i j
   unfolding hostSteps turnsIn
@@ -71,3 +68,76 @@ module _ (i j : ℕ) (d : i ≡ j → ⊥) where
       let y = steps-runs k w j s in
       let one = step-shares (hostSteps k w) i j (x .there) (y .there) d (x .runs) (y .runs) (steps-turn k w t) (unfold endsEarly in n .0) in
       omega (arith, one, steps-told k w r s t (n .1))
+
+-- ---- calls
+
+not-counted : (done b : Bool) → _≡_ {A = ℕ} (if done && b then 1 else 0) 0 → done ≡ true → b ≡ false
+not-counted true true z e = absurd (omega arith)
+not-counted true false z e = refl
+not-counted false b z e = one-way false e refl
+
+-- a start or stop that does not change who runs, done or refused, changes nothing
+module _ (w : World) (p : ℕ) where
+  abbrev done : Bool
+  done = eqb (oneVerdict (w .house) p .number) 0
+
+  start-none : startOrStop (start p) w ≡ 0 → after (start p) w ≡ w
+  unfolding startOrStop after startCall
+  start-none z =
+      either (λ (x : World). x ≡ w) done
+      (λ e. ap (λ (h : House). world h (w .memory))
+      (started-running (w .house) p (one-done (w .house) p (eqb-true _ 0 e)) (by-test (runs (w .house) p) (λ r. r) (λ r. one-way (not (runs (w .house) p)) (ap not r) (not-counted done _ z e)))))
+      (λ _. refl)
+
+  stop-none : startOrStop (stop p) w ≡ 0 → after (stop p) w ≡ w
+  unfolding startOrStop after stopCall
+  stop-none z =
+      either (λ (x : World). x ≡ w) done
+      (λ e. ap (λ (h : House). world h (w .memory)) (stopped-still (w .house) p (one-done (w .house) p (eqb-true _ 0 e)) (not-counted done _ z e)))
+      (λ _. refl)
+
+-- a call after which the same partitions run
+call-runs : (c : Call) (w : World) → startOrStop c w ≡ 0 → (i : ℕ) → Runs (w .house) i → Runs (after c w .house) i
+unfolding after runCall emptyCall readCall emptiedHouse
+call-runs (run k) w z i r = either (λ (x : World). Runs (x .house) i) (eqb (runVerdict w k .number) 0) (λ _. steps-runs k w i r) (λ _. r)
+call-runs (start p) w z i r = subst (λ (x : World). Runs (x .house) i) (sym (start-none w p z)) r
+call-runs (stop p) w z i r = subst (λ (x : World). Runs (x .house) i) (sym (stop-none w p z)) r
+call-runs (empty p) w z i r = either (λ (x : World). Runs (x .house) i) (eqb (oneVerdict (w .house) p .number) 0) (λ _. record { there = r .there; runs = r .runs }) (λ _. r)
+call-runs (readOut p a n out) w z i r = r
+
+module _ (i j : ℕ) (d : i ≡ j → ⊥) where
+  call-told : (c : Call) (w : World) → Runs (w .house) i → Runs (w .house) j → startOrStop c w ≡ 0 → earlyEndsIn (stepsOf c w) w ≡ 0
+      → turnsIn (stepsOf c w) w j + leadIn (w .house) i j ≡ turnsIn (stepsOf c w) w i + leadIn (after c w .house) i j
+  unfolding after stepsOf runCall emptyCall readCall emptiedHouse turnsIn
+  call-told (run k) w r s z y =
+      either-both (λ (n : ℕ) (x : World). earlyEndsIn n w ≡ 0 → turnsIn n w j + leadIn (w .house) i j ≡ turnsIn n w i + leadIn (x .house) i j) (eqb (runVerdict w k .number) 0)
+      (λ t y. steps-told i j d k w r s (turning (w .house) i (run-done w k (eqb-true _ 0 t) .whole) (r .there) (r .runs)) y)
+      (λ _ _. refl) y
+  call-told (start p) w r s z y = ap (λ (x : World). 0 + leadIn (x .house) i j) (sym (start-none w p z))
+  call-told (stop p) w r s z y = ap (λ (x : World). 0 + leadIn (x .house) i j) (sym (stop-none w p z))
+  call-told (empty p) w r s z y = either (λ (x : World). 0 + leadIn (w .house) i j ≡ 0 + leadIn (x .house) i j) (eqb (oneVerdict (w .house) p .number) 0) (λ _. refl) (λ _. refl)
+  call-told (readOut p a n out) w r s z y = refl
+
+  -- ---- histories
+
+  pub shares-told : (cs : List Call) (w : World) → Runs (w .house) i → Runs (w .house) j → startsAndStops cs w ≡ 0 → earlyEnds cs w ≡ 0
+      → turnsMade cs w j + leadIn (w .house) i j ≡ turnsMade cs w i + leadIn (history cs w .house) i j
+  unfolding history turnsMade startsAndStops earlyEnds
+  shares-told [] w r s z y = refl
+  shares-told (c ∷ cs) w r s z y =
+      let z0 : startOrStop c w ≡ 0 = omega arith in
+      let now = call-told c w r s z0 (omega arith) in
+      let on = shares-told cs (after c w) (call-runs c w z0 i r) (call-runs c w z0 j s) (omega arith) (omega arith) in
+      omega (arith, now, on)
+
+-- the bound, of any two
+pub shares-most : (b : Boot) (w : World) → Grown b w → (cs : List Call) → startsAndStops cs w ≡ 0 → earlyEnds cs w ≡ 0 → (i j : ℕ) → i < length (b .pages) → j < length (b .pages)
+    → runs (w .house) i ≡ true → runs (w .house) j ≡ true → turnsMade cs w i ≤ turnsMade cs w j + b .q
+unfolding bootedHouse
+shares-most b w g cs z y i j m o r s =
+    let st = standing b w g in
+    by-eq i j
+    (λ e. subst (λ (x : ℕ). turnsMade cs w i ≤ turnsMade cs w x + b .q) e (omega arith))
+    (λ d.
+    let told = shares-told i j d cs w (record { there = omega (arith, st .layout .count); runs = r }) (record { there = omega (arith, st .layout .count); runs = s }) z y in
+    omega (arith, told, lead-most (w .house .count) (w .house .q) i j (w .house .current) (w .house .left) (st .turns), st .layout .q))
