@@ -1,4 +1,5 @@
 pub mod ClosedCalls
+pub mod FairShares
 pub mod ThreeGuests
 pub mod Tickets
 pub mod TwoGuests

@@ -44,9 +44,9 @@ module _ (h : House) (i : ℕ) (d : OneDone h i) where
       let u = undamaged-gives h (d .whole) in
       let e : set (h .running) i false ≡ h .running = ap (set (h .running) i) (sym r) ∙ set-getD (h .running) i false in
       let t : (not (eqb (h .left) 0) && eqb (h .current) i) ≡ false =
-          by-eq (h .left) 0
-          (λ z. rw (eq-eqb (h .left) 0 z))
-          (λ n. rw (ne-eqb (h .left) 0 n, ne-eqb (h .current) i (λ z. one-way (runs h (h .current)) (u .busy n .1) (ap (runs h) z ∙ r)))) in
+      by-eq (h .left) 0
+      (λ z. rw (eq-eqb (h .left) 0 z))
+      (λ n. rw (ne-eqb (h .left) 0 n, ne-eqb (h .current) i (λ z. one-way (runs h (h .current)) (u .busy n .1) (ap (runs h) z ∙ r)))) in
       rw (t, e)
 
 module _ (w : World) (i : ℕ) (y : Typed w) (d : OneDone (w .house) i) where

@@ -1,0 +1,156 @@
+-- Three guests with turns of 2 steps: a stretch in which fair shares reach their bound exactly, and one in which a turn ends early by a trap and the bound does not hold.
+use mathlib.Core.Path.{_≡_, refl, _∙_}
+use mathlib.Core.List.{List, [], _∷_, _++_}
+use Prim.Native.Nat.{ℕ, suc, _+_, _^_, _<_, _≤_}
+use native.Mathlib.Omega.{arith}
+use lib.Count.{trailingZeros}
+use lib.ListN.{length, getD, replicate}
+use Rattle.dlx.specs.Words.{extendedBy, readIn, holds}
+use Rattle.dlx.specs.Instructions.{registerType, partType, instructionOf}
+use Rattle.dlx.specs.Fields.{field, put, width, brought, placed}
+use Rattle.dlx.specs.Processor.{specialOf, withSpecial}
+use Rattle.dlx.specs.Interrupts.{levelOf, interrupted}
+use Rattle.dlx.specs.Execute.{written, valueOf, overflowsOf, operated, reached, loads, stores, movedTo, trapOf, effectOf}
+use Rattle.dlx.specs.Machine.{executed, fetched, loaded, stored, accessed, received, afterRead, afterWrite, settled, retabled, step, asked, requestOf as effectRequest}
+use Rattle.dlx.specs.Parts.{inner, outer}
+use Rattle.translate.specs.Entries.{judged}
+use Rattle.translate.specs.Walk.{walked, direct}
+use Rattle.translate.specs.Memory.{hosted, given, filled, looked, served, hostRead, emptied, hostWritten, hostReads, hostWrites}
+use Rattle.tickets.specs.Queues.{sending, taking, desk}
+use Rattle.house.specs.Lists.{listFrom, any, firstFrom}
+use Rattle.house.specs.House.{freshShadows}
+use Rattle.house.specs.Boot.{sum, firstOf, bootVerdict, laid, offset, bootedHouse}
+use Rattle.house.specs.Turns.{World, world, nextFrom, turnOf, requestNow, replyNow, queuesNext, guestStep, settledHouse, stepWith, hostStep, hostSteps}
+use Rattle.house.specs.Calls.{startCall, started, emptiedHouse}
+use Rattle.demands.specs.Histories.{Boot, booted, Call, run, start, empty, after, history, stepsOf, turnsMade, turnsIn, endsEarly, earlyEndsIn, earlyEnds, startOrStop, startsAndStops}
+use Rattle.demands.proofs.Booted.FreshHouse.{booted-whole, booted-ready}
+use Rattle.demands.proofs.Instances.ClosedCalls.{below, below-at, Fit, fit-after, one-verdict, no-verdict, after-run, after-start, after-empty, after-refused}
+use Rattle.demands.proofs.Demands.{fair-shares}
+
+abbrev zeros : ℕ → List ℕ
+zeros n = replicate n 0
+
+-- partition 0: register 1 = 5, then word 0, which is ill
+-- partition 1: takes a ticket, which ends no turn; register 1 = 5; a trap, the first step of its second turn
+-- partition 2: register 1 = 5, then a trap, the last step of its turn
+abbrev memory : List ℕ
+memory = zeros 1024 ++ (0x20010005 ∷ zeros 1023 ++ (0xF8000101 ∷ 0x20010005 ∷ 0xF8000007 ∷ zeros 1021 ++ (0x20010005 ∷ 0xF8000007 ∷ zeros 1022)))
+
+unfoldable pub turn-takers : Boot
+unfolding bootVerdict firstOf any firstFrom sum
+turn-takers = record { pages = 1 ∷ 1 ∷ 1 ∷ []; q = 2; frames = 1 ∷ 2 ∷ 3 ∷ []; memory = memory; done = refl }
+
+abbrev begun : World
+begun = booted turn-takers
+
+computing : ℕ
+unfolding freshShadows turn-takers inner outer listFrom any laid offset bootedHouse nextFrom turnOf requestNow replyNow queuesNext desk sending taking asked effectRequest guestStep settledHouse stepWith hostStep hostSteps started emptiedHouse judged walked direct hosted given filled looked served hostRead emptied hostWritten hostReads hostWrites step fetched executed loaded stored accessed received afterRead afterWrite settled retabled instructionOf registerType effectOf written valueOf overflowsOf operated reached loads stores movedTo trapOf specialOf withSpecial interrupted levelOf trailingZeros extendedBy readIn holds partType field put width brought placed turnsIn endsEarly earlyEndsIn
+computing = 0
+
+some : {n : ℕ} (k : ℕ) → n ≡ suc k → n ≡ 0 → ⊥
+some k e z = omega arith
+
+words : (i : ℕ) → getD (turn-takers .memory) i 0 < 2 ^ 32
+unfolding turn-takers below
+words = below-at memory refl
+
+fit-begun : Fit 3 begun
+unfolding bootedHouse turn-takers
+fit-begun = record { typed = booted-ready turn-takers words .typed; whole = booted-whole turn-takers; size = refl; count = refl }
+
+-- ---- the bound is reached
+
+abbrev five : World
+five = hostSteps 5 begun
+
+abbrev same : World
+same = world (started (five .house) 1) (five .memory)
+
+abbrev cleared : World
+cleared = world (emptiedHouse (same .house) 0) (same .memory)
+
+-- 0 twice, 1 twice, 2 once; a start of a partition that is not there, refused; a start of one that runs; an emptying; 2 once, 0 twice
+abbrev calls : List Call
+calls = run 5 ∷ start 3 ∷ start 1 ∷ empty 0 ∷ run 3 ∷ []
+
+to-five : (after (run 5) begun ≡ five) × (stepsOf (run 5) begun ≡ 5)
+to-five = after-run begun fit-begun 5 (omega arith) (some 1 (unfold computing in refl))
+
+fit-five : Fit 3 five
+fit-five = fit-after begun fit-begun (run 5) (to-five .0)
+
+refused : after (start 3) five ≡ five
+refused = after-refused five fit-five 3 (omega arith)
+
+to-same : after (start 1) five ≡ same
+to-same = after-start five fit-five 1 (omega arith)
+
+fit-same : Fit 3 same
+fit-same = fit-after five fit-five (start 1) to-same
+
+to-cleared : after (empty 0) same ≡ cleared
+to-cleared = after-empty same fit-same 0 (omega arith)
+
+fit-cleared : Fit 3 cleared
+fit-cleared = fit-after same fit-same (empty 0) to-cleared
+
+to-end : (after (run 3) cleared ≡ hostSteps 3 cleared) × (stepsOf (run 3) cleared ≡ 3)
+to-end = after-run cleared fit-cleared 3 (omega arith) (some 0 (unfold computing in refl))
+
+made : (i : ℕ) → turnsMade calls begun i ≡ turnsIn 5 begun i + turnsIn 3 cleared i
+unfolding turnsMade
+made i = simp (to-five .0, refused, to-same, to-cleared, to-five .1, to-end .1) (unfold stepsOf turnsIn in omega arith)
+
+pub no-starts : startsAndStops calls begun ≡ 0
+unfolding startsAndStops startOrStop startCall
+no-starts = simp (to-five .0, refused, no-verdict five fit-five 3 (omega arith), one-verdict five fit-five 1 (omega arith)) (unfold computing in refl)
+
+pub none-early : earlyEnds calls begun ≡ 0
+unfolding earlyEnds
+none-early = simp (to-five .0, refused, to-same, to-cleared, to-five .1, to-end .1) (unfold computing stepsOf in refl)
+
+-- partition 0 made 4 steps and partition 2 made 2, which are q apart
+pub four : turnsMade calls begun 0 ≡ 4
+four = made 0 ∙ (unfold computing in refl)
+
+pub two : turnsMade calls begun 2 ≡ 2
+two = made 2 ∙ (unfold computing in refl)
+
+there : (i : ℕ) → i < 3 → i < length (turn-takers .pages)
+unfolding turn-takers
+there i l = l
+
+-- the demand alone gives as much: 0 made 4, so 2 made 2 or more
+pub shared : 2 ≤ turnsMade calls begun 2
+unfolding history turn-takers
+shared =
+    let both = fair-shares turn-takers begun ([], refl) calls no-starts none-early 0 2 (there 0 (omega arith)) (there 2 (omega arith)) (unfold computing in refl) (unfold computing in refl) in
+    omega (arith, both .0, four)
+
+-- ---- why no turn may end early
+
+-- from the second round: 0 twice; 1 once, its trap; 2 twice; 0 twice
+abbrev second : World
+second = hostSteps 6 begun
+
+to-second : (after (run 6) begun ≡ second) × (stepsOf (run 6) begun ≡ 6)
+to-second = after-run begun fit-begun 6 (omega arith) (some 1 (unfold computing in refl))
+
+fit-second : Fit 3 second
+fit-second = fit-after begun fit-begun (run 6) (to-second .0)
+
+to-trap : (after (run 7) second ≡ hostSteps 7 second) × (stepsOf (run 7) second ≡ 7)
+to-trap = after-run second fit-second 7 (omega arith) (some 1 (unfold computing in refl))
+
+pub one-early : (startsAndStops (run 7 ∷ []) second ≡ 0) × (earlyEnds (run 7 ∷ []) second ≡ 1)
+unfolding earlyEnds startsAndStops startOrStop
+one-early = (refl, simp (to-trap .1) (unfold computing in refl))
+
+-- 4 steps of partition 0 and 1 of partition 1, which are more than q apart
+pub made-apart : (turnsMade (run 7 ∷ []) second 0 ≡ 4) × (turnsMade (run 7 ∷ []) second 1 ≡ 1)
+unfolding turnsMade
+made-apart = (simp (to-trap .1) (unfold computing in refl), simp (to-trap .1) (unfold computing in refl))
+
+pub apart : turnsMade (run 7 ∷ []) second 0 ≤ turnsMade (run 7 ∷ []) second 1 + turn-takers .q → ⊥
+unfolding turn-takers
+apart l = omega (arith, made-apart .0, made-apart .1)
