@@ -2,11 +2,11 @@
 -- start of the stretch.
 use mathlib.Core.Path.{_≡_, refl, sym, ap, subst, _∙_}
 use mathlib.Core.Bool.{Bool, true, false, not, _&&_}
-use mathlib.Core.List.{List, [], _∷_, _++_}
+use mathlib.Core.List.{List, [], _∷_}
 use Prim.Native.Nat.{ℕ, zero, suc, _+_, _<_, _≤_}
 use native.Mathlib.Omega.{arith}
 use borrow.Author.Tests.{eqb-true}
-use lib.Dec.{eqb, ltb}
+use lib.Dec.{eqb}
 use lib.ListN.{length, getD}
 use Rattle.dlx.specs.Choice.{if_then_else_}
 use Rattle.dlx.proofs.Kept.{either}
@@ -14,16 +14,15 @@ use Rattle.dlx.proofs.Tests.{either-both, by-test, by-eq}
 use Rattle.house.specs.House.{runs}
 use Rattle.house.specs.Boot.{bootedHouse}
 use Rattle.house.specs.Turns.{World, world, guestStep, settledHouse, stepWith, hostStep, hostSteps}
-use Rattle.house.specs.Calls.{runVerdict, runCall, oneVerdict, started, stopped, emptiedHouse, startCall, stopCall, emptyCall, readCall}
-use Rattle.demands.specs.Histories.{Boot, booted, Call, run, start, stop, empty, readOut, after, history, Grown, turnsIn, stepsOf, turnsMade, endsEarly, earlyEndsIn, earlyEnds, startOrStop, startsAndStops}
+use Rattle.house.specs.Calls.{runVerdict, runCall, oneVerdict, emptiedHouse, startCall, stopCall, emptyCall, readCall}
+use Rattle.demands.specs.Histories.{Boot, Call, run, start, stop, empty, readOut, after, history, Grown, turnsIn, stepsOf, turnsMade, endsEarly, earlyEndsIn, earlyEnds, startOrStop, startsAndStops}
 use Rattle.house.specs.declared.House.{House}
 use Rattle.house.proofs.Lists.Bounded.{one-way}
 use Rattle.house.proofs.Turns.Kept.{in-turn-on}
 use Rattle.house.proofs.Turns.SameLayout.{steps-layout}
-use Rattle.house.proofs.Turns.Shares.{lead, lead-most, leadIn, step-shares}
+use Rattle.house.proofs.Turns.Shares.{lead-most, leadIn, step-shares}
 use Rattle.house.proofs.Calls.StartStopEmpty.{started-running, stopped-still}
 use Rattle.house.proofs.Calls.Verdicts.{run-done, one-done}
-use Rattle.demands.proofs.Histories.Standing.{Standing}
 use Rattle.demands.proofs.Histories.Grown.{standing}
 use Rattle.demands.proofs.Fairness.{Turning, turning, steps-running}
 

@@ -30,7 +30,7 @@ use Rattle.house.specs.Damage.{outsideLimits, frameTwice, turnWrong, reg
 use Rattle.house.specs.Boot.{firstOf, sum, bootVerdict, laid, offset, bootedHouse}
 use Rattle.house.specs.Turns.{nextFrom, turnOf, requestNow, replyNow, queuesNext, guestStep, settledHouse, stepWith, hostStep, hostSteps}
 use Rattle.house.specs.Calls.{bootCall, runVerdict, runCall, oneVerdict, started, stopped, emptiedHouse, startCall, stopCall, emptyCall, readVerdict, readOut, readCall}
-use Rattle.house.specs.Examples.{alone, two, idle, three, uneven, seven, busy, pair, interrupt, current, answers, flags, fields, numbers, sameHouse, sameWorld, ran, once, mapped, papers, plain, unbooted, boots, widest, after, trapped, six, counts, stepping, comes, turns, missized, refuses, does, reading, gives, calls, beyond, within, twice, once-each, outOfTurn, inTurn, misset, set-right, astray, used, damages, places, leaves, across, exchanges, whole}
+use Rattle.house.specs.Examples.{alone, two, idle, three, uneven, seven, busy, pair, interrupt, current, answers, flags, fields, numbers, sameHouse, sameWorld, ran, once, mapped, papers, plain, unbooted, boots, widest, after, trapped, six, counts, stepping, comes, turns, shares, missized, refuses, does, reading, gives, calls, beyond, within, twice, once-each, outOfTurn, inTurn, misset, set-right, astray, used, damages, places, leaves, across, exchanges, whole}
 use Rattle.house.proofs.Damage.Updates.{fresh-long, fresh-at}
 use Rattle.house.proofs.Lists.Bounded.{and-right}
 use Rattle.house.proofs.Lists.ByRule.{getD-listFrom, length-listFrom}
@@ -67,7 +67,7 @@ joined (x ∷ a) b e f = rw (and-left x (all a) e) (joined a b (and-right x (all
 
 -- all that the examples compute with, but damage
 computing : ℕ
-unfolding freshShadows all papers boots widest turns calls whole damages places exchanges leaves across alone two idle three uneven seven busy pair interrupt current answers same flags fields numbers sameHouse sameWorld ran once mapped plain unbooted after trapped six counts stepping comes missized refuses does reading gives beyond within twice once-each outOfTurn inTurn misset set-right astray used inner outer listFrom any firstFrom firstOf sum bootVerdict laid offset bootedHouse nextFrom turnOf requestNow replyNow queuesNext desk sending taking asked requestOf guestStep settledHouse stepWith hostStep hostSteps bootCall runVerdict runCall oneVerdict started stopped emptiedHouse startCall stopCall emptyCall readVerdict readOut readCall judged composed walked direct hosted given filled looked served hostRead emptied hostWritten hostReads hostWrites step fetched executed loaded stored accessed received afterRead afterWrite settled retabled instructionOf registerType effectOf written valueOf overflowsOf operated reached loads stores movedTo trapOf specialOf withSpecial interrupted levelOf trailingZeros extendedBy readIn holds partType field put width brought placed
+unfolding freshShadows all papers boots widest turns shares calls whole damages places exchanges leaves across alone two idle three uneven seven busy pair interrupt current answers same flags fields numbers sameHouse sameWorld ran once mapped plain unbooted after trapped six counts stepping comes missized refuses does reading gives beyond within twice once-each outOfTurn inTurn misset set-right astray used inner outer listFrom any firstFrom firstOf sum bootVerdict laid offset bootedHouse nextFrom turnOf requestNow replyNow queuesNext desk sending taking asked requestOf guestStep settledHouse stepWith hostStep hostSteps bootCall runVerdict runCall oneVerdict started stopped emptiedHouse startCall stopCall emptyCall readVerdict readOut readCall judged composed walked direct hosted given filled looked served hostRead emptied hostWritten hostReads hostWrites step fetched executed loaded stored accessed received afterRead afterWrite settled retabled instructionOf registerType effectOf written valueOf overflowsOf operated reached loads stores movedTo trapOf specialOf withSpecial interrupted levelOf trailingZeros extendedBy readIn holds partType field put width brought placed
 computing = 0
 
 -- how a call comes to its answer
@@ -86,10 +86,10 @@ damaging = 0
 apart : any (λ i. any (λ j. eqb (getD (listFrom (λ i. i + 1) 0 256) j 0) (getD (listFrom (λ i. i + 1) 0 256) i 0)) i) 256 ≡ false
 apart = simp rule-at (unfold any in refl)
 
-pub checked : all (papers ++ (boots ++ (widest ++ (turns ++ (calls ++ (damages ++ (places ++ (exchanges ++ whole)))))))) ≡ true
+pub checked : all (papers ++ (boots ++ (widest ++ (turns ++ (shares ++ (calls ++ (damages ++ (places ++ (exchanges ++ whole))))))))) ≡ true
 checked =
     joined papers _ of-papers (joined boots _ of-boots (joined widest _ of-widest (joined turns _ of-turns
-    (joined calls _ of-calls (joined damages _ of-damages (joined places _ of-places (joined exchanges whole of-exchanges of-whole)))))))
+    (joined shares _ of-shares (joined calls _ of-calls (joined damages _ of-damages (joined places _ of-places (joined exchanges whole of-exchanges of-whole))))))))
   where
     of-papers : all papers ≡ true
     of-papers = unfold computing in refl
@@ -102,6 +102,9 @@ checked =
 
     of-turns : all turns ≡ true
     of-turns = unfold computing in refl
+
+    of-shares : all shares ≡ true
+    of-shares = unfold computing in refl
 
     -- Damage reads thousands of places: first each is turned into what stands there, then all is computed.
     two-whole : damaged two ≡ false

@@ -450,6 +450,13 @@ turns =
     (withShadows (busy alternate 1 5) (take 2048 (busy alternate 1 0 .shadows) ++ (zeros entries ++ drop 3072 (busy alternate 1 0 .shadows))))
     ∷ []
 
+-- three partitions with turns of 2 steps, over two rounds
+unfoldable pub shares : List Bool
+shares =
+    -- [turn: shares] each of them makes q steps a round, in the second as in the first
+    same (counter (after 12 three) 0 ∷ counter (after 12 three) 1 ∷ counter (after 12 three) 2 ∷ []) (4 ∷ 4 ∷ 4 ∷ [])
+    ∷ []
+
 -- ---- the calls
 
 abbrev ofTwo : World

@@ -123,7 +123,7 @@ module _ (r : List Bool) (n q c l : ℕ) (calls : Bool) where
 
   pub turn-left : 0 < q → 0 < l → 0 < turnOf r n q c l 1 calls .left
   unfolding turnOf
-  turn-left p s = either (λ (t : Turn). 0 < t .left) (eqb l 1 || calls) (λ _. p) (λ e. let k = eqb-false l 1 (or-left (eqb l 1) calls e) in omega arith)
+  turn-left p s = either (λ (t : Turn). 0 < t .left) (eqb l 1 || calls) (λ _. omega arith) (λ e. let k = eqb-false l 1 (or-left (eqb l 1) calls e) in omega arith)
 
   pub turn-most : l ≤ q → turnOf r n q c l 1 calls .left ≤ q
   unfolding turnOf
@@ -257,8 +257,8 @@ module _ (w : World) (s : Sound w) where
         shaped = settled-shaped (queuedOn w) i shaped-here here-small o (step-registers w (s .shaped) here-small) (step-keeps .shadowed .count) t;
         few = s .few;
         each = λ j l. settled-each j l t;
-        here = turn-here (h .running) (h .count) (h .q) i (h .left) (o .0 .calls) (s .here);
-        left = turn-left (h .running) (h .count) (h .q) i (h .left) (o .0 .calls) (s .turns) (s .left);
+        here = turn-here _ (h .count) (h .q) i (h .left) (o .0 .calls) (s .here);
+        left = turn-left _ (h .count) (h .q) i (h .left) (o .0 .calls) (s .turns) (s .left);
         turns = s .turns;
         most = queued-here .most;
       }

@@ -1,11 +1,11 @@
 -- Shares: how many steps a running partition is ahead of another is told by whose turn it is and how many are left, and a host step that does not end its
 -- turn early keeps to it.
-use mathlib.Core.Path.{_≡_, refl, sym, ap, subst, _∙_}
+use mathlib.Core.Path.{_≡_, sym, subst, _∙_}
 use mathlib.Core.Bool.{Bool, true, false, _&&_, _||_}
 use mathlib.Core.List.{List}
 use Prim.Native.Nat.{ℕ, _+_, _-_, _<_, _≤_}
 use native.Mathlib.Omega.{arith}
-use borrow.Author.Tests.{eqb-true, eqb-false, ltb-true, ltb-false, eq-eqb, ne-eqb, lt-ltb, le-ltb}
+use borrow.Author.Tests.{eqb-false, ltb-true, ltb-false, eq-eqb, ne-eqb, lt-ltb, le-ltb}
 use lib.Dec.{eqb, ltb}
 use lib.ListN.{getD}
 use Rattle.dlx.specs.Choice.{if_then_else_}
@@ -169,4 +169,4 @@ pub step-shares : (w : World) (i j : ℕ) → i < w .house .count → j < w .hou
 unfolding hostStep stepWith settledHouse
 step-shares w i j m o d e f s early =
     let h = w .house in
-    turn-shares (h .count) (h .q) i j m o d (h .running) e f (h .current) (s .here) (h .left) (guestStep w (h .current) .0 .calls) s early
+    omega (arith, turn-shares (h .count) (h .q) i j m o d (h .running) e f (h .current) (s .here) (h .left) (guestStep w (h .current) .0 .calls) s early)
