@@ -81,13 +81,14 @@ turnsMade (c ∷ cs) w i = turnsIn (stepsOf c w) w i + turnsMade cs (after c w) 
 abbrev pub StaysRunning : List Call → World → ℕ → Type 0
 StaysRunning cs w i = (first rest : List Call) → cs ≡ first ++ rest → runs (history first w .house) i ≡ true
 
--- ---- what changes shares
+-- ---- what fair shares leave out
 
--- the step from w ends its turn early: some are left, and its guest calls the hypervisor by a trap taken in system mode, which no ticket call is
+-- the host step from w ends its turn early: it is not the last of the turn, and the guest calls the hypervisor, by a trap taken in system mode. A ticket sent
+-- or taken does not call it.
 unfoldable pub endsEarly : World → Bool
 endsEarly w = ltb 1 (w .house .left) && guestStep w (w .house .current) .0 .calls
 
--- of k host steps, those that end their turn early
+-- of k host steps, those that do
 unfoldable pub earlyEndsIn : ℕ → World → ℕ
 earlyEndsIn zero w = 0
 earlyEndsIn (suc k) w = (if endsEarly (hostSteps k w) then 1 else 0) + earlyEndsIn k w
@@ -96,7 +97,7 @@ unfoldable pub earlyEnds : List Call → World → ℕ
 earlyEnds [] w = 0
 earlyEnds (c ∷ cs) w = earlyEndsIn (stepsOf c w) w + earlyEnds cs (after c w)
 
--- the starts and stops that change who runs: of one that is stopped, or of one that runs, and done
+-- a start of a stopped partition or a stop of a running one, that is done: any other start or stop changes nothing
 unfoldable pub startOrStop : Call → World → ℕ
 startOrStop (run k) w = 0
 startOrStop (start i) w = if eqb (startCall w i .verdict .number) 0 && not (runs (w .house) i) then 1 else 0

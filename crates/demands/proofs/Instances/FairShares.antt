@@ -1,5 +1,6 @@
 -- Three guests with turns of 2 steps: a stretch in which fair shares reach their bound exactly, and one in which a turn ends early by a trap and the bound does not hold.
 use mathlib.Core.Path.{_≡_, refl, _∙_}
+use mathlib.Core.Bool.{true}
 use mathlib.Core.List.{List, [], _∷_, _++_}
 use Prim.Native.Nat.{ℕ, suc, _+_, _^_, _<_, _≤_}
 use native.Mathlib.Omega.{arith}
@@ -18,7 +19,7 @@ use Rattle.translate.specs.Walk.{walked, direct}
 use Rattle.translate.specs.Memory.{hosted, given, filled, looked, served, hostRead, emptied, hostWritten, hostReads, hostWrites}
 use Rattle.tickets.specs.Queues.{sending, taking, desk}
 use Rattle.house.specs.Lists.{listFrom, any, firstFrom}
-use Rattle.house.specs.House.{freshShadows}
+use Rattle.house.specs.House.{freshShadows, runs}
 use Rattle.house.specs.Boot.{sum, firstOf, bootVerdict, laid, offset, bootedHouse}
 use Rattle.house.specs.Turns.{World, world, nextFrom, turnOf, requestNow, replyNow, queuesNext, guestStep, settledHouse, stepWith, hostStep, hostSteps}
 use Rattle.house.specs.Calls.{startCall, started, emptiedHouse}
@@ -120,12 +121,16 @@ there : (i : ℕ) → i < 3 → i < length (turn-takers .pages)
 unfolding turn-takers
 there i l = l
 
--- the demand alone gives as much: 0 made 4, so 2 made 2 or more
-pub shared : 2 ≤ turnsMade calls begun 2
+-- the demand alone gives as much, by either of its parts: 0 made 4, so 2 made 2 or more
+pub shared : (2 ≤ turnsMade calls begun 2) × (2 ≤ turnsMade calls begun 2)
 unfolding history turn-takers
 shared =
-    let both = fair-shares turn-takers begun ([], refl) calls no-starts none-early 0 2 (there 0 (omega arith)) (there 2 (omega arith)) (unfold computing in refl) (unfold computing in refl) in
-    omega (arith, both .0, four)
+    let runs-0 : runs (begun .house) 0 ≡ true = unfold computing in refl in
+    let runs-2 : runs (begun .house) 2 ≡ true = unfold computing in refl in
+    let ways = fair-shares turn-takers begun ([], refl) calls no-starts none-early in (
+      omega (arith, ways 0 2 (there 0 (omega arith)) (there 2 (omega arith)) runs-0 runs-2 .0, four),
+      omega (arith, ways 2 0 (there 2 (omega arith)) (there 0 (omega arith)) runs-2 runs-0 .1, four),
+    )
 
 -- ---- why no turn may end early
 
