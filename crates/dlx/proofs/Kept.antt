@@ -2,7 +2,7 @@
 use mathlib.Core.Path.{_≡_, refl, sym, ap}
 use mathlib.Core.Bool.{Bool, true, false, _&&_}
 use mathlib.Core.List.{List, [], _∷_}
-use Prim.Native.Nat.{ℕ, zero, suc, _-_, _*_, _%_, _^_, _<_, _≤_}
+use Prim.Native.Nat.{ℕ, zero, suc, _+_, _-_, _*_, _%_, _^_, _<_, _≤_}
 use Prim.{Unit, tt}
 use native.Mathlib.Nat.{mod-lt}
 use native.Mathlib.Omega.{arith}
@@ -14,13 +14,15 @@ use mir.Val.{boolByte}
 use Rattle.dlx.specs.Choice.{if_then_else_}
 use Rattle.dlx.specs.Words.{holds, readingOf, opcode, sa, function, extendedBy, extended}
 use Rattle.dlx.specs.Fields.{place, field, aligned, width, signed, brought, placed}
-use Rattle.dlx.specs.Processor.{user, specialOf, withSpecial, wentTo}
+use Rattle.dlx.specs.Processor.{user, specialOf, withSpecial, withCount, wentTo}
 use Rattle.dlx.specs.Interrupts.{unmasked, levelOf, interrupted, returned, savesOld, bringsDatum}
+use Rattle.dlx.specs.Timer.{ticked, raised}
 use Rattle.dlx.specs.Instructions.{instructionOf, registerType, partType, Formed}
 use Rattle.dlx.specs.Execute.{reg, written, valueOf, overflowsOf, operated, reached, loads, stores, inSystem, movedTo, trapOf, effectOf}
-use Rattle.dlx.specs.Machine.{Ops, Core, executed, failing, afterRead, afterWrite, fetched, loaded, stored, accessed, received, settled, retabled, step, Request, nothing, sends, takes, requestOf, asked}
+use Rattle.dlx.specs.Machine.{Ops, Core, executed, failing, afterRead, afterWrite, fetched, loaded, stored, accessed, received, left, handled, changed, settled, retabled, step, Request, nothing, sends, takes, requestOf, asked}
 use Rattle.dlx.specs.declared.partition.Table.{Table}
 use Rattle.dlx.specs.declared.partition.Processor.{Processor}
+use Rattle.dlx.specs.declared.partition.Timer.{Timer}
 use Rattle.dlx.specs.declared.instruction.Operation.{Operation}
 use Rattle.dlx.specs.declared.instruction.Operation.the-variants.{Add, Sub, And, Or, Xor, Test}
 use Rattle.dlx.specs.declared.instruction.Instruction.{Instruction}
@@ -67,8 +69,8 @@ near w = extended-lt (2 ^ 15) w (omega arith) (omega arith)
 far : (w : ℕ) → extended 26 w < 2 ^ 32
 far w = extended-lt (2 ^ 25) w (omega arith) (omega arith)
 
-special-formed : (w : ℕ) (i : Instruction) → (sa w ≤ 9 → Formed i) → Formed (if leb (sa w) 9 then i else Ill)
-special-formed w i f = either Formed (leb (sa w) 9) (λ e. f (leb-true (sa w) 9 e)) (λ _. tt)
+special-formed : (w : ℕ) (i : Instruction) → (sa w ≤ 11 → Formed i) → Formed (if leb (sa w) 11 then i else Ill)
+special-formed w i f = either Formed (leb (sa w) 11) (λ e. f (leb-true (sa w) 11 e)) (λ _. tt)
 
 register-formed : (w : ℕ) → Formed (registerType w)
 unfolding registerType
@@ -136,10 +138,15 @@ pub record Registers (r : List ℕ) : Type 0 where
   pub first : getD r 0 0 ≡ 0
   pub words : (k : ℕ) → getD r k 0 < 2 ^ 32
 
+pub record KeptTimer (k : Timer) : Type 0 where
+  pub tcount : k .tcount < 2 ^ 32
+  pub tload : k .tload < 2 ^ 32
+
 pub record Kept (c : Core) : Type 0 where
   pub processor : Numbers (c .processor)
   pub registers : Registers (c .registers)
   pub fault : c .fault < 8
+  pub timer : KeptTimer (c .timer)
 
 pub record KeptTable (t : Table) : Type 0 where
   pub pto : t .pto < 2 ^ 32
@@ -149,7 +156,7 @@ abbrev pub KeptChange : Change → Type 0
 KeptChange (Plain d v target) = (d < 32) × (v < 2 ^ 32) × (target < 2 ^ 32)
 KeptChange (Special n v) = v < 2 ^ 32
 KeptChange (Retable t) = KeptTable t
-KeptChange (Cause causes datum) = (causes < 2 ^ 32) × (datum < 2 ^ 32)
+KeptChange (Cause causes datum) = (causes < 2 ^ 13) × (datum < 2 ^ 32)
 KeptChange Return = Unit
 
 abbrev pub KeptEffect : Effect → Type 0
@@ -253,9 +260,9 @@ module _ (p : Processor) (h : Numbers p) where
     emode = h .emode;
   }
 
-  special-read : (t : Table) → KeptTable t → (n : ℕ) → specialOf p t n < 2 ^ 32
+  special-read : (t : Table) (o : Timer) → KeptTable t → KeptTimer o → (n : ℕ) → specialOf p t o n < 2 ^ 32
   unfolding specialOf
-  special-read t k n =
+  special-read t o k q n =
       either W (eqb n 0) (λ _. h .sr) λ _.
       either W (eqb n 1) (λ _. h .esr) λ _.
       either W (eqb n 2) (λ _. h .eca) λ _.
@@ -265,7 +272,9 @@ module _ (p : Processor) (h : Numbers p) where
       either W (eqb n 6) (λ _. omega (arith, h .mode)) λ _.
       either W (eqb n 7) (λ _. k .pto) λ _.
       either W (eqb n 8) (λ _. k .ptl) λ _.
-      omega (arith, h .emode)
+      either W (eqb n 9) (λ _. omega (arith, h .emode)) λ _.
+      either W (eqb n 10) (λ _. q .tcount) λ _.
+      q .tload
 
 -- ---- execute
 
@@ -285,7 +294,7 @@ value-lt (Test n) x y h k = byte-lt (holds n (readingOf x) (readingOf y))
 operated-kept : (op : Operation) (d x y sr next : ℕ) → d < 32 → x < 2 ^ 32 → y < 2 ^ 32 → next < 2 ^ 32 → KeptEffect (operated op d x y sr next)
 unfolding operated
 operated-kept op d x y sr next l h k n =
-    either KeptEffect (unmasked sr && overflowsOf op x y)
+    either KeptEffect (unmasked 6 sr && overflowsOf op x y)
     (λ _. (omega arith, omega arith))
     (λ _. (l, value-lt op x y h k, n))
 
@@ -318,7 +327,7 @@ moved-kept t n v k l =
     either KeptChange (eqb n 8) (λ _. record { pto = k .pto; ptl = l }) λ _.
     l
 
-module _ (p : Processor) (t : Table) (r : List ℕ) (h : Numbers p) (k : KeptTable t) (g : Registers r) where
+module _ (p : Processor) (t : Table) (o : Timer) (r : List ℕ) (h : Numbers p) (k : KeptTable t) (q : KeptTimer o) (g : Registers r) where
   system-kept : (e : Effect) → KeptEffect e → KeptEffect (inSystem p e)
   system-kept e f = either KeptEffect (user p) (λ _. (omega arith, omega arith)) (λ _. f)
 
@@ -330,10 +339,10 @@ module _ (p : Processor) (t : Table) (r : List ℕ) (h : Numbers p) (k : KeptTab
       either KeptEffect (eqb i 257) (λ _. tt) λ _.
       (omega arith, f)
 
-  pub effect-kept : (i : Instruction) → Formed i → KeptEffect (effectOf p t r i)
+  pub effect-kept : (i : Instruction) → Formed i → KeptEffect (effectOf p t o r i)
   unfolding effectOf
-  effect-kept (LoadBy o s i d) f = loads-kept o d _ i (f .1)
-  effect-kept (StoreBy o s i d) f = stores-kept o _ _ i
+  effect-kept (LoadBy b s i d) f = loads-kept b d _ i (f .1)
+  effect-kept (StoreBy b s i d) f = stores-kept b _ _ i
   effect-kept (Immediate op d s i) f = operated-kept op d _ _ _ _ (f .0) (g .words s) (f .2) (omega arith)
   effect-kept (Lhgi d i) f = (f .0, omega arith, omega arith)
   effect-kept (Beqz s i) f = (omega arith, omega arith, either W (eqb (reg r s) 0) (λ _. omega arith) (λ _. omega arith))
@@ -345,39 +354,76 @@ module _ (p : Processor) (t : Table) (r : List ℕ) (h : Numbers p) (k : KeptTab
   effect-kept (Trap i) f = trap-kept i f
   effect-kept Rfe f = system-kept _ tt
   effect-kept (Register op d s s′) f = operated-kept op d _ _ _ _ (f .0) (g .words s) (g .words s′) (omega arith)
-  effect-kept (Movs2i d n) f = system-kept _ (f .0, special-read p h t k n, omega arith)
+  effect-kept (Movs2i d n) f = system-kept _ (f .0, special-read p h t o k q n, omega arith)
   effect-kept (Movi2s n s) f = system-kept _ (moved-kept t n _ k (g .words s))
   effect-kept Ill f = (omega arith, omega arith)
 
 -- ---- the step
 
+-- what the timer raises is nothing, or its bit
+pub raised-lt : (k : Timer) (sr : ℕ) → raised k sr < 2 ^ 14
+unfolding raised
+raised-lt k sr = either (λ x. x < 2 ^ 14) (eqb (k .tcount) 1 && unmasked 13 sr) (λ _. omega arith) (λ _. omega arith)
+
+ticked-kept : (k : Timer) → KeptTimer k → KeptTimer (ticked k)
+unfolding ticked
+ticked-kept k h = record { tcount = either W (eqb (k .tcount) 1) (λ _. h .tload) (λ _. omega (arith, h .tcount)); tload = h .tload }
+
+count-kept : (k : Timer) (n v : ℕ) → KeptTimer k → v < 2 ^ 32 → KeptTimer (withCount k n v)
+unfolding withCount
+count-kept k n v h l = record { tcount = either W (eqb n 10) (λ _. l) (λ _. h .tcount); tload = either W (eqb n 11) (λ _. l) (λ _. h .tload) }
+
+module _ (raise : ℕ) (l : raise < 2 ^ 14) where
+  left-kept : (c : Core) → Kept c → Kept (left raise c .core)
+  unfolding left
+  left-kept c h =
+      either Kept (eqb raise 0) (λ _. h)
+      (λ _. record {
+        processor = interrupted-kept (c .processor) (h .processor) raise 0 (omega arith) (omega arith);
+        registers = h .registers;
+        fault = h .fault;
+        timer = h .timer;
+      })
+
+  changed-kept : (c : Core) (x : Change) → Kept c → KeptChange x → Kept (changed raise c x .core)
+  unfolding changed handled
+  changed-kept c (Plain d v target) h k = left-kept _ (record {
+    processor = went-kept (c .processor) (h .processor) target (k .2);
+    registers = written-kept (c .registers) d v (h .registers) (k .1);
+    fault = h .fault;
+    timer = h .timer;
+  })
+  changed-kept c (Special n v) h k = left-kept _ (record {
+    processor = went-kept _ (special-kept (c .processor) (h .processor) n v k) _ (omega arith);
+    registers = h .registers;
+    fault = h .fault;
+    timer = count-kept (c .timer) n v (h .timer) k;
+  })
+  changed-kept c (Retable t) h k = left-kept _ (record {
+    processor = went-kept (c .processor) (h .processor) _ (omega arith);
+    registers = h .registers;
+    fault = h .fault;
+    timer = h .timer;
+  })
+  changed-kept c (Cause causes datum) h k = record {
+    processor = interrupted-kept (c .processor) (h .processor) (causes + raise) datum (omega (arith, k .0)) (k .1);
+    registers = h .registers;
+    fault = h .fault;
+    timer = h .timer;
+  }
+  changed-kept c Return h k = left-kept _ (record {
+    processor = returned-kept (c .processor) (h .processor);
+    registers = h .registers;
+    fault = h .fault;
+    timer = h .timer;
+  })
+
 pub settled-kept : (c : Core) (x : Change) → Kept c → KeptChange x → Kept (settled c x .core)
 unfolding settled
-settled-kept c (Plain d v target) h k = record {
-  processor = went-kept (c .processor) (h .processor) target (k .2);
-  registers = written-kept (c .registers) d v (h .registers) (k .1);
-  fault = h .fault;
-}
-settled-kept c (Special n v) h k = record {
-  processor = went-kept _ (special-kept (c .processor) (h .processor) n v k) _ (omega arith);
-  registers = h .registers;
-  fault = h .fault;
-}
-settled-kept c (Retable t) h k = record {
-  processor = went-kept (c .processor) (h .processor) _ (omega arith);
-  registers = h .registers;
-  fault = h .fault;
-}
-settled-kept c (Cause causes datum) h k = record {
-  processor = interrupted-kept (c .processor) (h .processor) causes datum (k .0) (k .1);
-  registers = h .registers;
-  fault = h .fault;
-}
-settled-kept c Return h k = record {
-  processor = returned-kept (c .processor) (h .processor);
-  registers = h .registers;
-  fault = h .fault;
-}
+settled-kept c x h k =
+    changed-kept (raised (c .timer) (c .processor .sr)) (raised-lt (c .timer) _) _ x
+    (record { processor = h .processor; registers = h .registers; fault = h .fault; timer = ticked-kept (c .timer) (h .timer) })
+    k
 
 -- a memory that keeps I, whose words and table's registers are words, and whose faults are below 8
 pub record Keeps {S : Type 0} (I : S → Type 0) (O : Ops S) : Type 0 where
@@ -391,10 +437,10 @@ module _ {S : Type 0} (I : S → Type 0) (O : Ops S) (K : Keeps I O) where
   unfolding executed
   executed-kept c t (Fault n) h k = (omega arith, h .processor .dpc)
   executed-kept c t (Word w) h k =
-      effect-kept (c .processor) t (c .registers) (h .processor) k (h .registers) (instructionOf w) (instruction-formed w)
+      effect-kept (c .processor) t (c .timer) (c .registers) (h .processor) k (h .timer) (h .registers) (instructionOf w) (instruction-formed w)
 
   failing-kept : (c : Core) (n : ℕ) → Kept c → n < 8 → Kept (failing c n)
-  failing-kept c n h l = record { processor = h .processor; registers = h .registers; fault = l }
+  failing-kept c n h l = record { processor = h .processor; registers = h .registers; fault = l; timer = h .timer }
 
   after-read-kept : (c : Core) (x : Access) → Kept c → KeptAccess x → Kept (afterRead c x)
   unfolding afterRead
@@ -438,7 +484,7 @@ module _ {S : Type 0} (I : S → Type 0) (O : Ops S) (K : Keeps I O) where
   accessed-kept y k c (Done x) s m h i = (h, m, i)
   accessed-kept y k c (Send v to) s m h i = ((omega arith, k .code, omega arith), m, i)
   accessed-kept y k c Take s m h i =
-      ((omega arith, k .code, omega arith), record { processor = m .processor; registers = received-kept y k (c .registers) (m .registers); fault = m .fault }, i)
+      ((omega arith, k .code, omega arith), record { processor = m .processor; registers = received-kept y k (c .registers) (m .registers); fault = m .fault; timer = m .timer }, i)
   accessed-kept y k c (Load d a o) s m h i =
       let g = K .reads s i (user (c .processor)) a in
       (loaded-kept (c .processor) d a o _ (h .0) (h .1), after-read-kept c _ m (g .0), g .1)

@@ -7,3 +7,4 @@ pub mod Parts
 pub mod Places
 pub mod Signed
 pub mod Tests
+pub mod Spells

@@ -6,13 +6,15 @@ use lib.Dec.{ltb, eqb}
 use lib.ListN.{length, getD, set, replicate}
 use mir.Val.{boolByte}
 use Rattle.dlx.specs.Choice.{if_then_else_}
-use Rattle.dlx.specs.Processor.{freshProcessor, freshOf, withSpecial}
+use Rattle.dlx.specs.Processor.{freshProcessor, noTimer, freshOf, withSpecial}
 use Rattle.dlx.specs.Interrupts.{levelOf}
 use Rattle.dlx.specs.Execute.{reg}
 use Rattle.dlx.specs.Machine.{Ops, Core, core, Outcome, Request, nothing, sends, takes, asked, reply, Desk, step, steps, Stretch, stretchFrom}
 use Rattle.dlx.specs.declared.execute.Access.the-variants.{Fault, Word}
+use Rattle.dlx.specs.declared.execute.Reply.{Reply}
 use Rattle.dlx.specs.declared.partition.Table.{Table}
 use Rattle.dlx.specs.declared.partition.Processor.{Processor}
+use Rattle.dlx.specs.declared.partition.Timer.{Timer}
 
 -- ---- a memory for examples: a list of words, with no table
 
@@ -54,16 +56,20 @@ in-system = at 0 4 0 0
 abbrev in-user : Processor
 in-user = at 0 4 0 1
 
+-- a timer that stands still, TLOAD told apart
+abbrev still : Timer
+still = record { tcount = 0; tload = 94 }
+
 abbrev memory : List ℕ → Flat
 memory ws = record { table = record { pto = 97; ptl = 98 }; words = ws }
 
 -- one step of the word w at address 0
 unfoldable pub once : Processor → List ℕ → ℕ → Outcome × Flat
-once p r w = step flat (reply 0 0) (core p r 3, memory (w ∷ []))
+once p r w = step flat (reply 0 0) (core p r 3 still, memory (w ∷ []))
 
 -- n steps from boot with the program ws at address 0
 unfoldable pub booted : ℕ → List ℕ → Core × Flat
-booted n ws = steps flat (λ _. reply 0 0) n (core freshProcessor zeros 0, memory ws)
+booted n ws = steps flat (λ _. reply 0 0) n (core freshProcessor zeros 0 noTimer, memory ws)
 
 -- ---- what is looked at
 
@@ -119,7 +125,7 @@ papers =
     ∷ interrupt (once (at 0 4 64 0) (both 0x7FFFFFFF 1) 0x00221820) 64 4 8 95 64 0
     ∷ eqb (r 3 (once (at 0 4 64 0) (both 0x7FFFFFFF 1) 0x00221820)) 0
     -- 0x1000FFFC at DPC 8, PC 12: DPC 12, PC 8
-    ∷ pair (step flat (reply 0 0) (core (at 8 12 0 0) zeros 3, memory (0 ∷ 0 ∷ 0x1000FFFC ∷ []))) 12 8
+    ∷ pair (step flat (reply 0 0) (core (at 8 12 0 0) zeros 3 still, memory (0 ∷ 0 ∷ 0x1000FFFC ∷ []))) 12 8
     -- causes 3 and 6 (72): level 3; the level of 0 is 32
     ∷ eqb (levelOf 72) 3
     ∷ eqb (levelOf 0) 32
@@ -184,14 +190,18 @@ j-word opcode i = opcode * 2 ^ 26 + i
 
 -- one step of the word w at address 8, with an answer that only a ticket may use
 unfoldable pub tried : Processor → List ℕ → ℕ → Outcome × Watched
-tried p rs w = step watched (reply 0 77) (core p rs 3, record { table = tables; words = around w; seen = [] })
+tried p rs w = step watched (reply 0 77) (core p rs 3 still, record { table = tables; words = around w; seen = [] })
 
--- The whole state after a step: the processor's numbers, PTO and PTL, whether the guest calls, the accesses, the registers and the words.
-unfoldable pub leaves : Outcome × Watched → List ℕ → ℕ → ℕ → ℕ → List ℕ → List ℕ → List ℕ → Bool
-leaves m ps pto ptl calls seen rs ws =
-    same (numbers (m .0 .core .processor)) ps
+-- The whole state after a step: the timer, the processor's numbers, PTO and PTL, whether the guest calls, the accesses, the registers and the words.
+unfoldable pub leaves-timed : ℕ → ℕ → Outcome × Watched → List ℕ → ℕ → ℕ → ℕ → List ℕ → List ℕ → List ℕ → Bool
+leaves-timed tcount tload m ps pto ptl calls seen rs ws =
+    same (m .0 .core .timer .tcount ∷ m .0 .core .timer .tload ∷ numbers (m .0 .core .processor)) (tcount ∷ tload ∷ ps)
     && same (m .1 .table .pto ∷ m .1 .table .ptl ∷ boolByte (m .0 .calls) ∷ m .1 .seen) (pto ∷ ptl ∷ calls ∷ seen)
     && same (m .0 .core .registers) rs && same (m .1 .words) ws
+
+-- where the timer stands still
+unfoldable pub leaves : Outcome × Watched → List ℕ → ℕ → ℕ → ℕ → List ℕ → List ℕ → List ℕ → Bool
+leaves m ps pto ptl calls seen rs ws = leaves-timed 0 94 m ps pto ptl calls seen rs ws
 
 -- a plain step of w from DPC 8 and PC 20, with SR: PC' is the target, these are the registers, and nothing else changes
 unfoldable pub plain : ℕ → ℕ → ℕ → List ℕ → ℕ → List ℕ → Bool
@@ -453,10 +463,10 @@ ill-functions =
 
 unfoldable pub ill-specials : List Bool
 ill-specials =
-    -- [ill specials] a special number above 9
-    each (λ n. refuses 0 (s-word 16 n) && refuses 0 (s-word 17 n)) (10 ∷ 11 ∷ 12 ∷ 13 ∷ 14 ∷ 15 ∷ 16 ∷ 20 ∷ 24 ∷ 25 ∷ 31 ∷ [])
+    -- [ill specials] a special number above 11
+    each (λ n. refuses 0 (s-word 16 n) && refuses 0 (s-word 17 n)) (12 ∷ 13 ∷ 14 ∷ 15 ∷ 16 ∷ 20 ∷ 24 ∷ 25 ∷ 31 ∷ [])
     -- [ill in user mode] movs2i and movi2s of every special, and rfe
-    ∷ each (λ n. refuses 1 (s-word 16 n) && refuses 1 (s-word 17 n)) (0 ∷ 1 ∷ 2 ∷ 3 ∷ 4 ∷ 5 ∷ 6 ∷ 7 ∷ 8 ∷ 9 ∷ [])
+    ∷ each (λ n. refuses 1 (s-word 16 n) && refuses 1 (s-word 17 n)) (0 ∷ 1 ∷ 2 ∷ 3 ∷ 4 ∷ 5 ∷ 6 ∷ 7 ∷ 8 ∷ 9 ∷ 10 ∷ 11 ∷ [])
     ∷ refuses 1 (j-word 63 0)
     ∷ []
 
@@ -474,10 +484,15 @@ moves p n x ps pto ptl seen = leaves (tried p (given x 219) (s-word 17 n)) ps pt
 unfoldable pub becomes : ℕ → ℕ → List ℕ → Bool
 becomes n x ps = moves (at 8 20 64 0) n x ps 97 98 (8 ∷ [])
 
+-- a special of the timer, which stood still, from x: TCOUNT and TLOAD after it
+unfoldable pub counts : ℕ → ℕ → ℕ → ℕ → Bool
+counts n x tcount tload =
+    leaves-timed tcount tload (tried (at 8 20 64 0) (given x 219) (s-word 17 n)) (numbers (at 20 24 64 0)) 97 98 0 (8 ∷ []) (given x 219) (around (s-word 17 n))
+
 -- the accesses of two steps: a movi2s of x to special n, and the step behind it
 unfoldable pub behind-it : ℕ → ℕ → List ℕ
 behind-it n x =
-    steps watched (λ _. reply 0 77) 2 (core (at 8 20 64 0) (given x 219) 3, record { table = tables; words = around (s-word 17 n); seen = [] })
+    steps watched (λ _. reply 0 77) 2 (core (at 8 20 64 0) (given x 219) 3 still, record { table = tables; words = around (s-word 17 n); seen = [] })
     .1 .seen
 
 unfoldable pub specials : List Bool
@@ -518,13 +533,20 @@ specials =
     ∷ reads 9 1
     ∷ becomes 9 0xFEDCBA9A (20 ∷ 24 ∷ 64 ∷ 91 ∷ 92 ∷ 96 ∷ 100 ∷ 95 ∷ 0 ∷ 0 ∷ [])
     ∷ moves (moded 8 20 64 0 0) 9 0xFEDCBA97 (20 ∷ 24 ∷ 64 ∷ 91 ∷ 92 ∷ 96 ∷ 100 ∷ 95 ∷ 0 ∷ 1 ∷ []) 97 98 (8 ∷ [])
+    -- [special 10 TCOUNT]
+    ∷ reads 10 0
+    ∷ counts 10 0xFEDCBA98 0xFEDCBA98 94
+    -- [special 11 TLOAD]
+    ∷ reads 11 94
+    ∷ counts 11 0xFEDCBA98 0 0xFEDCBA98
     -- [special in the processor] changes nothing else of it; PTO and PTL do not stand in it
     ∷ same (numbers (withSpecial (at 8 20 64 0) 3 0xFEDCBA98)) (8 ∷ 20 ∷ 64 ∷ 91 ∷ 92 ∷ 0xFEDCBA98 ∷ 100 ∷ 95 ∷ 0 ∷ 1 ∷ [])
     ∷ same (numbers (withSpecial (at 8 20 64 0) 7 0xFEDCBA98)) (8 ∷ 20 ∷ 64 ∷ 91 ∷ 92 ∷ 96 ∷ 100 ∷ 95 ∷ 0 ∷ 1 ∷ [])
     ∷ same (numbers (withSpecial (at 8 20 64 0) 8 0xFEDCBA98)) (8 ∷ 20 ∷ 64 ∷ 91 ∷ 92 ∷ 96 ∷ 100 ∷ 95 ∷ 0 ∷ 1 ∷ [])
     -- [boot] all zero but PC = 4, no fault yet
     ∷ same (numbers (freshOf 3 .processor)) (0 ∷ 4 ∷ 0 ∷ 0 ∷ 0 ∷ 0 ∷ 0 ∷ 0 ∷ 0 ∷ 0 ∷ [])
-    ∷ same (freshOf 3 .pages ∷ freshOf 3 .table .pto ∷ freshOf 3 .table .ptl ∷ freshOf 3 .counter ∷ freshOf 3 .fault ∷ []) (3 ∷ 0 ∷ 0 ∷ 0 ∷ 0 ∷ [])
+    ∷ same (freshOf 3 .pages ∷ freshOf 3 .table .pto ∷ freshOf 3 .table .ptl ∷ freshOf 3 .counter ∷ []) (3 ∷ 0 ∷ 0 ∷ 0 ∷ [])
+    ∷ same (freshOf 3 .timer .tcount ∷ freshOf 3 .timer .tload ∷ freshOf 3 .fault ∷ []) (0 ∷ 0 ∷ 0 ∷ [])
     ∷ []
 
 -- ---- the causes: ECA, EDPC, EPC, EDATA, calls, accesses
@@ -578,6 +600,7 @@ causes =
     -- [level] the lowest set bit
     ∷ same (levelOf 1 ∷ levelOf 2 ∷ levelOf 4 ∷ levelOf 8 ∷ levelOf 16 ∷ levelOf 32 ∷ levelOf 64 ∷ []) (0 ∷ 1 ∷ 2 ∷ 3 ∷ 4 ∷ 5 ∷ 6 ∷ [])
     ∷ same (levelOf 96 ∷ levelOf 126 ∷ levelOf 0x80000000 ∷ levelOf 0xC0000000 ∷ levelOf 0 ∷ []) (5 ∷ 1 ∷ 31 ∷ 30 ∷ 32 ∷ [])
+    ∷ same (levelOf 8192 ∷ levelOf 8224 ∷ levelOf 8256 ∷ levelOf 8194 ∷ []) (13 ∷ 5 ∷ 6 ∷ 1 ∷ [])
     ∷ []
 
 unfoldable pub overflowing : List Bool
@@ -622,7 +645,7 @@ packed w = set (set (around w) 4 0x7F8001FE) 5 0x8013C57A
 
 -- one step of the word w at address 8, with those words
 unfoldable pub packing : Processor → List ℕ → ℕ → Outcome × Watched
-packing p rs w = step watched (reply 0 77) (core p rs 3, record { table = tables; words = packed w; seen = [] })
+packing p rs w = step watched (reply 0 77) (core p rs 3 still, record { table = tables; words = packed w; seen = [] })
 
 -- RS1 is x, and RD a word whose bytes differ
 abbrev holding : ℕ → List ℕ
@@ -776,7 +799,7 @@ trio x y z = set (both x y) 3 z
 
 -- one step of the word w at address 0, where registers 1, 2 and 3 are 7, 1 and 55, with an answer
 unfoldable pub answered : Processor → ℕ → ℕ → ℕ → Outcome × Flat
-answered p w code ticket = step flat (reply code ticket) (core p (trio 7 1 55) 3, memory (w ∷ []))
+answered p w code ticket = step flat (reply code ticket) (core p (trio 7 1 55) 3 still, memory (w ∷ []))
 
 -- at DPC and PC, all else of the processor as it was; these are the registers; the guest does not call
 unfoldable pub goes-on : Outcome × Flat → ℕ → ℕ → List ℕ → Bool
@@ -797,7 +820,7 @@ told takes = 2 ∷ []
 
 -- by one step of the word w, where registers 1 and 2 are v and to
 unfoldable pub asking : ℕ → ℕ → ℕ → ℕ → List ℕ
-asking mode w v to = told (asked flat (core (at 0 4 0 mode) (both v to) 3, memory (w ∷ [])))
+asking mode w v to = told (asked flat (core (at 0 4 0 mode) (both v to) 3 still, memory (w ∷ [])))
 
 unfoldable pub tickets : List Bool
 tickets =
@@ -828,6 +851,142 @@ tickets =
     ∷ ordinary 0 0xFA000101 0xFE000101
     ∷ []
 
+-- ---- the timer
+
+-- SR with bits 6 and 13: ovf and the timer unmasked
+abbrev open-both : ℕ
+open-both = 8256
+
+-- one step of the word w at address 8 with TCOUNT and TLOAD, and this answer to a ticket
+unfoldable pub counting : ℕ → ℕ → Reply → Processor → List ℕ → ℕ → Outcome × Watched
+counting tcount tload a p rs w =
+    step watched a (core p rs 3 (record { tcount = tcount; tload = tload }), record { table = tables; words = around w; seen = [] })
+
+-- the processor that the timer's entry leaves, with what it saves: SR, MODE, DPC, PC and EDATA as the instruction left them
+abbrev struck : ℕ → ℕ → ℕ → ℕ → ℕ → List ℕ
+struck sr mode dpc pc edata = 0 ∷ 4 ∷ 0 ∷ sr ∷ 8192 ∷ pc ∷ dpc ∷ edata ∷ 0 ∷ mode ∷ []
+
+-- a step of w from DPC 8 and PC 20 in which TCOUNT falls from 1, with TLOAD 94: the processor, the registers and the words after it
+unfoldable pub rings : ℕ → ℕ → ℕ → List ℕ → List ℕ → List ℕ → List ℕ → List ℕ → Bool
+rings sr mode w rs ps seen rs′ ws = leaves-timed 94 94 (counting 1 94 (reply 0 77) (at 8 20 sr mode) rs w) ps 97 98 0 seen rs′ ws
+
+-- movi2s of x to special n in such a step, SR being 8256: the processor after it, and the timer
+unfoldable pub sets : ℕ → ℕ → List ℕ → ℕ → ℕ → Bool
+sets n x ps tcount tload =
+    leaves-timed tcount tload (counting 1 94 (reply 0 77) (at 8 20 8256 0) (given x 219) (s-word 17 n)) ps 97 98 0 (8 ∷ []) (given x 219) (around (s-word 17 n))
+
+-- a cause beside the timer's, in such a step from p: ECA, EDPC, EPC and EDATA, whether the guest calls, and the accesses
+unfoldable pub beside : Processor → List ℕ → ℕ → ℕ → ℕ → ℕ → ℕ → ℕ → List ℕ → Bool
+beside p rs w eca edpc epc edata calls seen =
+    leaves-timed 94 94 (counting 1 94 (reply 0 77) p rs w) (0 ∷ 4 ∷ 0 ∷ p .sr ∷ eca ∷ epc ∷ edpc ∷ edata ∷ 0 ∷ p .mode ∷ []) 97 98 calls seen rs (around w)
+
+-- a ticket call of w in such a step, answered a: the registers after it
+unfoldable pub calling : ℕ → Reply → List ℕ → Bool
+calling w a rs′ = leaves-timed 94 94 (counting 1 94 a (at 8 20 8192 0) known w) (struck 8192 0 20 24 95) 97 98 0 (8 ∷ []) rs′ (around w)
+
+-- rfe at address 0, addi of 1 to register 27 from register 21 elsewhere
+abbrev handler : List ℕ
+handler = j-word 63 0 ∷ i-word 8 1 ∷ i-word 8 1 ∷ i-word 8 1 ∷ i-word 8 1 ∷ i-word 8 1 ∷ i-word 8 1 ∷ i-word 8 1 ∷ i-word 8 1 ∷ []
+
+-- n steps from DPC 8 and PC 12 with SR, TCOUNT and TLOAD: the timer and the processor after them
+unfoldable pub later : ℕ → ℕ → ℕ → ℕ → ℕ → ℕ → List ℕ → Bool
+later n sr tcount tload tcount′ tload′ ps =
+    let m = steps watched (λ _. reply 0 77) n (core (at 8 12 sr 0) known 3 (record { tcount = tcount; tload = tload }), record { table = tables; words = handler; seen = [] }) in
+    same (m .0 .timer .tcount ∷ m .0 .timer .tload ∷ numbers (m .0 .processor)) (tcount′ ∷ tload′ ∷ ps)
+
+unfoldable pub timing : List Bool
+timing =
+    -- [TCOUNT falls] by one in every step, and not from 0; nothing else comes of it before it reaches 0
+    later 1 open-both 5 94 4 94 (numbers (at 12 16 open-both 0))
+    ∷ later 3 open-both 5 94 2 94 (numbers (at 20 24 open-both 0))
+    ∷ later 1 open-both 0xFFFFFFFF 94 0xFFFFFFFE 94 (numbers (at 12 16 open-both 0))
+    ∷ later 3 open-both 0 94 0 94 (numbers (at 20 24 open-both 0))
+    -- in a step with a cause too
+    ∷ leaves-timed 4 94 (counting 5 94 (reply 0 77) (at 8 20 open-both 0) known 0) (0 ∷ 4 ∷ 0 ∷ 8256 ∷ 2 ∷ 20 ∷ 8 ∷ 95 ∷ 0 ∷ 0 ∷ []) 97 98 0 (8 ∷ []) known (around 0)
+    ∷ leaves-timed 4 94 (counting 5 94 (reply 0 77) (at 10 20 open-both 0) known 0) (0 ∷ 4 ∷ 0 ∷ 8256 ∷ 4 ∷ 20 ∷ 10 ∷ 95 ∷ 0 ∷ 0 ∷ []) 97 98 0 [] known (around 0)
+    -- [TCOUNT reaches 0] cause 13, and TLOAD again
+    ∷ later 1 8192 1 94 94 94 (struck 8192 0 12 16 95)
+    ∷ later 2 8192 2 94 94 94 (struck 8192 0 16 20 95)
+    -- [TLOAD 0] it fires once and stops
+    ∷ later 1 open-both 1 0 0 0 (struck open-both 0 12 16 95)
+    ∷ later 2 open-both 1 0 0 0 (12 ∷ 16 ∷ 8256 ∷ 8256 ∷ 8192 ∷ 16 ∷ 12 ∷ 95 ∷ 0 ∷ 0 ∷ [])
+    ∷ later 5 open-both 1 0 0 0 (24 ∷ 28 ∷ 8256 ∷ 8256 ∷ 8192 ∷ 16 ∷ 12 ∷ 95 ∷ 0 ∷ 0 ∷ [])
+    -- [TLOAD 1] it fires at every step that SR lets it: not in the handler, whose SR is 0, and at once behind its rfe
+    ∷ later 1 open-both 1 1 1 1 (struck open-both 0 12 16 95)
+    ∷ later 2 open-both 1 1 1 1 (12 ∷ 16 ∷ 8256 ∷ 8256 ∷ 8192 ∷ 16 ∷ 12 ∷ 95 ∷ 0 ∷ 0 ∷ [])
+    ∷ later 3 open-both 1 1 1 1 (struck open-both 0 16 20 95)
+    -- [masked timer] dropped, and not kept; it is loaded again all the same
+    ∷ later 1 0xFFFFDFFF 1 94 94 94 (numbers (at 12 16 0xFFFFDFFF 0))
+    ∷ later 2 0xFFFFDFFF 1 94 93 94 (numbers (at 16 20 0xFFFFDFFF 0))
+    ∷ rings 64 0 (s-word 17 0) (given open-both 219) (numbers (at 20 24 open-both 0)) (8 ∷ []) (given open-both 219) (around (s-word 17 0))
+    -- [movs2i of the timer] reads it before the fall
+    ∷ leaves-timed 4 94 (counting 5 94 (reply 0 77) (at 8 20 open-both 0) known (s-word 16 10)) (numbers (at 20 24 open-both 0)) 97 98 0 (8 ∷ []) (set known 27 5) (around (s-word 16 10))
+    ∷ rings open-both 0 (s-word 16 10) known (struck open-both 0 20 24 95) (8 ∷ []) (set known 27 1) (around (s-word 16 10))
+    ∷ rings open-both 0 (s-word 16 11) known (struck open-both 0 20 24 95) (8 ∷ []) (set known 27 94) (around (s-word 16 11))
+    -- [movi2s of the timer] sets it behind fall and reload, and 0 raises nothing; the reload is TLOAD before the step
+    ∷ leaves-timed 7 94 (counting 5 94 (reply 0 77) (at 8 20 open-both 0) (given 7 219) (s-word 17 10)) (numbers (at 20 24 open-both 0)) 97 98 0 (8 ∷ []) (given 7 219) (around (s-word 17 10))
+    ∷ leaves-timed 0 94 (counting 5 94 (reply 0 77) (at 8 20 open-both 0) (given 0 219) (s-word 17 10)) (numbers (at 20 24 open-both 0)) 97 98 0 (8 ∷ []) (given 0 219) (around (s-word 17 10))
+    ∷ leaves-timed 4 7 (counting 5 94 (reply 0 77) (at 8 20 open-both 0) (given 7 219) (s-word 17 11)) (numbers (at 20 24 open-both 0)) 97 98 0 (8 ∷ []) (given 7 219) (around (s-word 17 11))
+    ∷ sets 10 7 (struck open-both 0 20 24 95) 7 94
+    ∷ sets 10 0 (struck open-both 0 20 24 95) 0 94
+    ∷ sets 11 7 (struck open-both 0 20 24 95) 94 7
+    ∷ []
+
+unfoldable pub ringing : List Bool
+ringing =
+    -- [cause 13 timer] behind the instruction, in either mode; its whole effect stands, and what it left is saved
+    rings 8192 0 (i-word 8 5) known (struck 8192 0 20 24 95) (8 ∷ []) (set known 27 226) (around (i-word 8 5))
+    ∷ rings 0xFFFFFFFF 1 (i-word 8 5) known (struck 0xFFFFFFFF 1 20 24 95) (9 ∷ []) (set known 27 226) (around (i-word 8 5))
+    -- [13 behind a branch] taken, in a delay slot; and a jump
+    ∷ rings 8192 0 (i-word 4 40) (given 0 219) (struck 8192 0 20 60 95) (8 ∷ []) (given 0 219) (around (i-word 4 40))
+    ∷ rings 8192 1 (j-word 3 8) known (struck 8192 1 20 28 95) (9 ∷ []) (set known 31 24) (around (j-word 3 8))
+    -- [13 behind rfe] the state returned to is saved
+    ∷ rings 8192 0 (j-word 63 0) known (struck 91 1 100 96 95) (8 ∷ []) known (around (j-word 63 0))
+    -- [13 behind a load or a store]
+    ∷ rings 8192 1 (i-word 35 4) (given 16 219) (struck 8192 1 20 24 95) (21 ∷ 9 ∷ []) (set (given 16 219) 27 305) (around (i-word 35 4))
+    ∷ rings 8192 0 (i-word 43 4) (given 16 219) (struck 8192 0 20 24 95) (22 ∷ 8 ∷ []) (given 16 219) (set (around (i-word 43 4)) 5 227)
+    -- [13 behind movi2s] SR, MODE and EDATA as it left them; ESR, ECA, EPC, EDPC and EMODE are overwritten; a new table stands
+    ∷ sets 0 0xFEDCBA98 (struck 0xFEDCBA98 0 20 24 95) 94 94
+    ∷ sets 0 0 (struck 0 0 20 24 95) 94 94
+    ∷ sets 1 7 (struck open-both 0 20 24 95) 94 94
+    ∷ sets 2 7 (struck open-both 0 20 24 95) 94 94
+    ∷ sets 3 7 (struck open-both 0 20 24 95) 94 94
+    ∷ sets 4 7 (struck open-both 0 20 24 95) 94 94
+    ∷ sets 5 0xFEDCBA98 (struck open-both 0 20 24 0xFEDCBA98) 94 94
+    ∷ sets 6 1 (struck open-both 1 20 24 95) 94 94
+    ∷ sets 9 1 (struck open-both 0 20 24 95) 94 94
+    ∷ leaves-timed 94 94 (counting 1 94 (reply 0 77) (at 8 20 open-both 0) (given 7 219) (s-word 17 7)) (struck open-both 0 20 24 95) 7 98 0 (1 ∷ 8 ∷ []) (given 7 219) (around (s-word 17 7))
+    -- [13 behind a ticket call] a plain instruction: sent, refused, taken, none waiting
+    ∷ calling (j-word 62 256) (reply 0 77) (set known 3 0)
+    ∷ calling (j-word 62 256) (reply 1 77) (set known 3 1)
+    ∷ calling (j-word 62 256) (reply 2 77) (set known 3 2)
+    ∷ calling (j-word 62 257) (reply 0 77) (set (set known 1 77) 3 0)
+    ∷ calling (j-word 62 257) (reply 3 77) (set known 3 3)
+    ∷ []
+
+unfoldable pub joining : List Bool
+joining =
+    -- [13 beside a lower cause] the lower one is the level, its rule holds, and both bits stand in ECA
+    beside (at 8 20 8192 0) known 0 8194 8 20 95 0 (8 ∷ [])
+    ∷ beside (at 10 20 8192 1) known 0 8196 10 20 95 0 []
+    ∷ beside (at 8 20 8192 0) (given 17 219) (i-word 35 4) 8196 8 20 95 0 (8 ∷ [])
+    ∷ beside (at 48 20 8192 0) known 0 8200 48 20 48 0 (48 ∷ [])
+    ∷ beside (at 8 20 8192 1) (given 36 219) (i-word 35 12) 8208 8 20 48 0 (49 ∷ 9 ∷ [])
+    ∷ beside (at 8 20 8192 0) (given 36 219) (i-word 43 12) 8208 8 20 48 0 (50 ∷ 8 ∷ [])
+    -- a trap calls in system mode, and 256 is an ordinary one in user mode
+    ∷ beside (at 8 20 8192 0) known (j-word 62 7) 8224 20 24 7 1 (8 ∷ [])
+    ∷ beside (at 8 20 8192 1) known (j-word 62 7) 8224 20 24 7 0 (9 ∷ [])
+    ∷ beside (at 8 20 8192 1) known (j-word 62 256) 8224 20 24 256 0 (9 ∷ [])
+    -- [13 and ovf] each masked by its own bit; a masked ovf leaves the wrapped result
+    ∷ beside (at 8 20 open-both 0) (given 0x7FFFFFFF 1) (r-word 32) 8256 20 24 95 0 (8 ∷ [])
+    ∷ beside (at 8 20 64 0) (given 0x7FFFFFFF 1) (r-word 32) 64 20 24 95 0 (8 ∷ [])
+    ∷ rings 8192 0 (r-word 32) (given 0x7FFFFFFF 1) (struck 8192 0 20 24 95) (8 ∷ []) (set (given 0x7FFFFFFF 1) 27 0x80000000) (around (r-word 32))
+    ∷ rings 0 0 (r-word 32) (given 0x7FFFFFFF 1) (numbers (at 20 24 0 0)) (8 ∷ []) (set (given 0x7FFFFFFF 1) 27 0x80000000) (around (r-word 32))
+    -- beside a lower cause a masked one is dropped too
+    ∷ beside (at 8 20 64 0) known (j-word 62 7) 32 20 24 7 1 (8 ∷ [])
+    ∷ beside (at 8 20 0xFFFFDFFF 0) known 0 2 8 20 95 0 (8 ∷ [])
+    ∷ []
+
 -- ---- stretches
 
 -- a desk that writes down what it is asked, the last first; its ticket is the length of what stood there
@@ -845,7 +1004,7 @@ takings = j-word 62 257 ∷ j-word 62 257 ∷ j-word 62 257 ∷ []
 -- up to k steps more, where 10 are made, from DPC 0 and PC 4
 unfoldable pub stretched : ℕ → Stretch Watched (List ℕ)
 stretched k =
-    stretchFrom watched clerk k 10 (core (at 0 4 64 0) known 3, record { table = tables; words = three; seen = [] }) (60 ∷ 61 ∷ [])
+    stretchFrom watched clerk k 10 (core (at 0 4 64 0) known 3 still, record { table = tables; words = three; seen = [] }) (60 ∷ 61 ∷ [])
 
 -- how many are made, whether the last one called, the processor, the accesses, the desk and the registers after them
 unfoldable pub ends : ℕ → ℕ → ℕ → List ℕ → List ℕ → List ℕ → List ℕ → Bool
@@ -857,7 +1016,7 @@ ends k made called ps seen desk rs =
 -- n steps of three takes, answered by the step's number: the code n, the ticket 70 + n; the registers and the accesses
 unfoldable pub fed : ℕ → List ℕ → List ℕ → Bool
 fed n rs seen =
-    let m = steps watched (λ n. reply n (70 + n)) n (core (at 0 4 64 0) known 3, record { table = tables; words = takings; seen = [] }) in
+    let m = steps watched (λ n. reply n (70 + n)) n (core (at 0 4 64 0) known 3 still, record { table = tables; words = takings; seen = [] }) in
     same (m .0 .registers) rs && same (m .1 .seen) seen && same (numbers (m .0 .processor)) (numbers (at (4 * n) (4 * n + 4) 64 0))
 
 unfoldable pub stretches : List Bool

@@ -1,4 +1,4 @@
--- An instruction executed, with no memory in it: from the processor, the table and the registers to an effect.
+-- An instruction executed, with no memory in it: from the processor, the table, the timer and the registers to an effect.
 use mathlib.Core.Bool.{Bool, false, _&&_}
 use mathlib.Core.List.{List}
 use Prim.Native.Nat.{ℕ, _*_, _%_, _^_}
@@ -12,6 +12,7 @@ use Rattle.dlx.specs.Processor.{user, specialOf, behind}
 use Rattle.dlx.specs.Interrupts.{ill, mal, trap, ovf, unmasked}
 use Rattle.dlx.specs.declared.partition.Table.{Table}
 use Rattle.dlx.specs.declared.partition.Processor.{Processor}
+use Rattle.dlx.specs.declared.partition.Timer.{Timer}
 use Rattle.dlx.specs.declared.instruction.Operation.{Operation}
 use Rattle.dlx.specs.declared.instruction.Operation.the-variants.{Add, Sub, And, Or, Xor, Test}
 use Rattle.dlx.specs.declared.instruction.Instruction.{Instruction}
@@ -51,7 +52,7 @@ overflowsOf (Test k) x y = false
 -- masked, the wrapped result is written
 unfoldable pub operated : Operation → ℕ → ℕ → ℕ → ℕ → ℕ → Effect
 operated op d x y sr next =
-    if unmasked sr && overflowsOf op x y then Done (Cause ovf 0) else Done (Plain d (valueOf op x y) next)
+    if unmasked 6 sr && overflowsOf op x y then Done (Cause ovf 0) else Done (Plain d (valueOf op x y) next)
 
 -- ---- the table's lines
 
@@ -92,20 +93,20 @@ trapOf p v to i =
     if eqb i 257 then Take else
     Done (Cause trap i)
 
-unfoldable pub effectOf : Processor → Table → List ℕ → Instruction → Effect
-effectOf p t r (LoadBy o s i d) = loads o d (reg r s) i
-effectOf p t r (StoreBy o s i d) = stores o (reg r d) (reg r s) i
-effectOf p t r (Immediate op d s i) = operated op d (reg r s) i (p .sr) (behind p)
-effectOf p t r (Lhgi d i) = Done (Plain d (i % 2 ^ 16 * 2 ^ 16) (behind p))
-effectOf p t r (Beqz s i) = jumped (if eqb (reg r s) 0 then plus (p .pc) i else behind p)
-effectOf p t r (Bnez s i) = jumped (if eqb (reg r s) 0 then behind p else plus (p .pc) i)
-effectOf p t r (Jr s) = jumped (reg r s)
-effectOf p t r (Jalr s) = linked p (reg r s)
-effectOf p t r (J i) = jumped (plus (p .pc) i)
-effectOf p t r (Jal i) = linked p (plus (p .pc) i)
-effectOf p t r (Trap i) = trapOf p (reg r 1) (reg r 2) i
-effectOf p t r Rfe = inSystem p (Done Return)
-effectOf p t r (Register op d s s′) = operated op d (reg r s) (reg r s′) (p .sr) (behind p)
-effectOf p t r (Movs2i d n) = inSystem p (Done (Plain d (specialOf p t n) (behind p)))
-effectOf p t r (Movi2s n s) = inSystem p (Done (movedTo t n (reg r s)))
-effectOf p t r Ill = Done (Cause ill 0)
+unfoldable pub effectOf : Processor → Table → Timer → List ℕ → Instruction → Effect
+effectOf p t k r (LoadBy o s i d) = loads o d (reg r s) i
+effectOf p t k r (StoreBy o s i d) = stores o (reg r d) (reg r s) i
+effectOf p t k r (Immediate op d s i) = operated op d (reg r s) i (p .sr) (behind p)
+effectOf p t k r (Lhgi d i) = Done (Plain d (i % 2 ^ 16 * 2 ^ 16) (behind p))
+effectOf p t k r (Beqz s i) = jumped (if eqb (reg r s) 0 then plus (p .pc) i else behind p)
+effectOf p t k r (Bnez s i) = jumped (if eqb (reg r s) 0 then behind p else plus (p .pc) i)
+effectOf p t k r (Jr s) = jumped (reg r s)
+effectOf p t k r (Jalr s) = linked p (reg r s)
+effectOf p t k r (J i) = jumped (plus (p .pc) i)
+effectOf p t k r (Jal i) = linked p (plus (p .pc) i)
+effectOf p t k r (Trap i) = trapOf p (reg r 1) (reg r 2) i
+effectOf p t k r Rfe = inSystem p (Done Return)
+effectOf p t k r (Register op d s s′) = operated op d (reg r s) (reg r s′) (p .sr) (behind p)
+effectOf p t k r (Movs2i d n) = inSystem p (Done (Plain d (specialOf p t k n) (behind p)))
+effectOf p t k r (Movi2s n s) = inSystem p (Done (movedTo t n (reg r s)))
+effectOf p t k r Ill = Done (Cause ill 0)

@@ -31,7 +31,7 @@ register op w = Register op (rdRegister w) (rs1 w) (rs2 w)
 
 -- a special number above 9 is ill
 abbrev special : ℕ → Instruction → Instruction
-special w i = if leb (sa w) 9 then i else Ill
+special w i = if leb (sa w) 11 then i else Ill
 
 -- opcode 0, by function
 unfoldable pub registerType : ℕ → Instruction
@@ -94,6 +94,6 @@ Formed (Jal i) = i < 2 ^ 32
 Formed (Trap i) = i < 2 ^ 32
 Formed Rfe = Unit
 Formed (Register op d s t) = (d < 32) × (s < 32) × (t < 32)
-Formed (Movs2i d n) = (d < 32) × (n ≤ 9)
-Formed (Movi2s n s) = (n ≤ 9) × (s < 32)
+Formed (Movs2i d n) = (d < 32) × (n ≤ 11)
+Formed (Movi2s n s) = (n ≤ 11) × (s < 32)
 Formed Ill = Unit

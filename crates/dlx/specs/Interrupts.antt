@@ -1,4 +1,4 @@
--- Interrupts. A cause word has the bit of each cause: 1 ill, 2 mal, 3 pff, 4 pfls, 5 trap, 6 ovf.
+-- Interrupts. A cause word has the bit of each cause: 1 ill, 2 mal, 3 pff, 4 pfls, 5 trap, 6 ovf, 13 the timer's.
 use mathlib.Core.Bool.{Bool, _||_}
 use Prim.Native.Nat.{ℕ, _/_, _%_, _^_}
 use lib.Dec.{eqb}
@@ -25,17 +25,20 @@ trap = 2 ^ 5
 abbrev pub ovf : ℕ
 ovf = 2 ^ 6
 
--- only ovf is maskable, by SR bit 6: it interrupts where the bit is 1
-abbrev pub unmasked : ℕ → Bool
-unmasked sr = eqb (sr / 2 ^ 6 % 2) 1
+abbrev pub timer : ℕ
+timer = 2 ^ 13
+
+-- only ovf and the timer are maskable, cause n by SR bit n: it interrupts where the bit is 1
+abbrev pub unmasked : ℕ → ℕ → Bool
+unmasked n sr = eqb (sr / 2 ^ n % 2) 1
 
 -- the lowest set bit of the masked cause word, 32 for 0
 unfoldable pub levelOf : ℕ → ℕ
 levelOf causes = trailingZeros 32 causes
 
--- for 1, 2, 3 and 4 the saved pair is the old one, as in the board's log sheets
+-- for 1, 2, 3 and 4 the saved pair is the old one, as in the board's log sheets; for 13 too, since entry then comes behind the instruction, and finds the new one
 abbrev pub savesOld : ℕ → Bool
-savesOld l = eqb l 1 || eqb l 2 || eqb l 3 || eqb l 4
+savesOld l = eqb l 1 || eqb l 2 || eqb l 3 || eqb l 4 || eqb l 13
 
 -- trap brings its immediate, pff DPC, pfls the data address; else EDATA is kept
 abbrev pub bringsDatum : ℕ → Bool

@@ -5,6 +5,8 @@ pub mod Fields
 pub mod Instructions
 pub mod Processor
 pub mod Interrupts
+pub mod Timer
 pub mod Execute
 pub mod Machine
+pub mod Spells
 pub mod Examples

@@ -2,17 +2,19 @@
 use mathlib.Core.Path.{_≡_}
 use mathlib.Core.Bool.{Bool, true, false, not, _&&_}
 use mathlib.Core.List.{List}
-use Prim.Native.Nat.{ℕ, zero, suc, _<_}
+use Prim.Native.Nat.{ℕ, zero, suc, _+_, _^_, _<_}
 use Prim.{Unit}
 use lib.Dec.{eqb}
 use Rattle.dlx.specs.Choice.{if_then_else_}
 use Rattle.dlx.specs.Fields.{aligned, loading, storing, width, brought, placed}
-use Rattle.dlx.specs.Processor.{user, behind, withSpecial, wentTo}
+use Rattle.dlx.specs.Processor.{user, behind, withSpecial, withCount, wentTo}
 use Rattle.dlx.specs.Interrupts.{mal, pff, pfls, levelOf, interrupted, returned}
+use Rattle.dlx.specs.Timer.{ticked, raised}
 use Rattle.dlx.specs.Instructions.{instructionOf}
 use Rattle.dlx.specs.Execute.{written, effectOf}
 use Rattle.dlx.specs.declared.partition.Table.{Table}
 use Rattle.dlx.specs.declared.partition.Processor.{Processor}
+use Rattle.dlx.specs.declared.partition.Timer.{Timer}
 use Rattle.dlx.specs.declared.execute.Change.{Change}
 use Rattle.dlx.specs.declared.execute.Change.the-variants.{Plain, Special, Retable, Cause, Return}
 use Rattle.dlx.specs.declared.execute.Access.{Access}
@@ -39,9 +41,10 @@ pub record Core : Type 0 where
   pub processor : Processor
   pub registers : List ℕ
   pub fault : ℕ
+  pub timer : Timer
 
-abbrev pub core : Processor → List ℕ → ℕ → Core
-core p r n = record { processor = p; registers = r; fault = n }
+abbrev pub core : Processor → List ℕ → ℕ → Timer → Core
+core p r n k = record { processor = p; registers = r; fault = n; timer = k }
 
 -- `calls`: the guest calls the hypervisor, by a trap taken in system mode
 pub record Outcome : Type 0 where
@@ -55,11 +58,11 @@ outcome c b = record { core = c; calls = b }
 
 unfoldable pub executed : Core → Table → Access → Effect
 executed c t (Fault n) = Done (Cause pff (c .processor .dpc))
-executed c t (Word w) = effectOf (c .processor) t (c .registers) (instructionOf w)
+executed c t (Word w) = effectOf (c .processor) t (c .timer) (c .registers) (instructionOf w)
 
 -- the core after an access that was answered so: a fault is its latest, and only a fault changes that
 abbrev pub failing : Core → ℕ → Core
-failing c n = core (c .processor) (c .registers) n
+failing c n = core (c .processor) (c .registers) n (c .timer)
 
 unfoldable pub afterRead : Core → Access → Core
 afterRead c (Fault n) = failing c n
@@ -93,18 +96,30 @@ accessed O a c (Done x) s = ((x, c), s)
 accessed O a c (Load d x o) s = let g = O .read s (user (c .processor)) x in ((loaded (c .processor) d x o (g .0), afterRead c (g .0)), g .1)
 accessed O a c (Store o x v) s = let g = O .write s (user (c .processor)) x (placed o x v) in ((stored (c .processor) x (g .0), afterWrite c (g .0)), g .1)
 accessed O a c (Send v to) s = ((Plain 3 (a .code) (behind (c .processor)), c), s)
-accessed O a c Take s = ((Plain 3 (a .code) (behind (c .processor)), core (c .processor) (received (c .registers) a) (c .fault)), s)
+accessed O a c Take s = ((Plain 3 (a .code) (behind (c .processor)), core (c .processor) (received (c .registers) a) (c .fault) (c .timer)), s)
 
--- the change of the processor and the registers
-unfoldable pub settled : Core → Change → Outcome
-settled c (Plain d v target) = outcome (core (wentTo (c .processor) target) (written (c .registers) d v) (c .fault)) false
-settled c (Special n v) =
-    outcome (core (wentTo (withSpecial (c .processor) n v) (behind (c .processor))) (c .registers) (c .fault)) false
-settled c (Retable t) = outcome (core (wentTo (c .processor) (behind (c .processor))) (c .registers) (c .fault)) false
-settled c (Cause causes datum) =
-    outcome (core (interrupted (c .processor) causes datum) (c .registers) (c .fault))
+-- the core that an instruction left which raised no cause; where the timer's is there, it is the level, and the handler is entered from that core
+unfoldable pub left : ℕ → Core → Outcome
+left raise c = outcome (if eqb raise 0 then c else core (interrupted (c .processor) raise 0) (c .registers) (c .fault) (c .timer)) false
+
+-- a cause entered; a trap in system mode calls
+unfoldable pub handled : Core → ℕ → ℕ → Outcome
+handled c causes datum =
+    outcome (core (interrupted (c .processor) causes datum) (c .registers) (c .fault) (c .timer))
     (eqb (levelOf causes) 5 && not (user (c .processor)))
-settled c Return = outcome (core (returned (c .processor)) (c .registers) (c .fault)) false
+
+-- the change of the processor, the registers and the timer, where the timer raised this: a cause is entered with it, by the level of both
+unfoldable pub changed : ℕ → Core → Change → Outcome
+changed raise c (Plain d v target) = left raise (core (wentTo (c .processor) target) (written (c .registers) d v) (c .fault) (c .timer))
+changed raise c (Special n v) =
+    left raise (core (wentTo (withSpecial (c .processor) n v) (behind (c .processor))) (c .registers) (c .fault) (withCount (c .timer) n v))
+changed raise c (Retable t) = left raise (core (wentTo (c .processor) (behind (c .processor))) (c .registers) (c .fault) (c .timer))
+changed raise c (Cause causes datum) = handled c (causes + raise) datum
+changed raise c Return = left raise (core (returned (c .processor)) (c .registers) (c .fault) (c .timer))
+
+-- the count, the change, the entry: the timer falls, and what it raises is told by TCOUNT and SR before the step
+unfoldable pub settled : Core → Change → Outcome
+settled c x = changed (raised (c .timer) (c .processor .sr)) (core (c .processor) (c .registers) (c .fault) (ticked (c .timer))) x
 
 -- the change of PTO and PTL
 unfoldable pub retabled : {S : Type 0} → Ops S → Change → S → S
@@ -176,12 +191,12 @@ stretchFrom O D (suc k) made m t =
     if o .0 .0 .calls then record { made = suc made; called = true; core = o .0 .0 .core; memory = o .0 .1; desk = o .1 }
     else stretchFrom O D k (suc made) (o .0 .0 .core, o .0 .1) (o .1)
 
--- the register that a change names exists
+-- the register that a change names exists; its causes are below the timer's
 abbrev pub Places : Change → Type 0
 Places (Plain d v target) = d < 32
 Places (Special n v) = Unit
 Places (Retable t) = Unit
-Places (Cause causes datum) = Unit
+Places (Cause causes datum) = causes < 2 ^ 13
 Places Return = Unit
 
 -- so does the one that an effect names; a load and a store are asked for by an opcode of theirs, at an address that it may reach

@@ -1,6 +1,7 @@
 // What an instruction executed comes to: an effect in numbers, and what is left once it is put to work.
 use crate::partition::Processor;
 use crate::partition::Table;
+use crate::partition::Timer;
 
 // What a step comes to once its data access is done.
 pub enum Change {
@@ -38,8 +39,9 @@ pub enum Access {
     Word(u32),
 }
 
-// A step's processor, and whether the guest calls the hypervisor: a trap taken in system mode.
+// A step's processor and timer, and whether the guest calls the hypervisor: a trap taken in system mode.
 pub struct Settled {
     pub processor: Processor,
+    pub timer: Timer,
     pub calls: bool,
 }

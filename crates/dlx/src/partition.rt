@@ -1,4 +1,5 @@
-// The partition: its page count, its processor, its table's registers, its step counter and its latest translation fault. Its 32 registers are lent beside it.
+// The partition: its page count, its processor, its table's registers, its timer, its step counter and its latest translation fault. Its 32 registers are lent
+// beside it.
 ghost use mathlib.Core.Path.{_≡_};
 ghost use Rattle.dlx.specs.Processor.{freshOf};
 
@@ -8,7 +9,7 @@ pub struct Table {
     pub ptl: u32,
 }
 
-// The program counters and the special registers but PTO and PTL.
+// The program counters and the special registers but those of the table and the timer.
 pub struct Processor {
     pub dpc: u32,
     pub pc: u32,
@@ -22,10 +23,17 @@ pub struct Processor {
     pub emode: u32,
 }
 
+// TCOUNT and TLOAD: how many of its own steps a partition has until its timer's interrupt, 0 where none will come, and what TCOUNT becomes then.
+pub struct Timer {
+    pub tcount: u32,
+    pub tload: u32,
+}
+
 pub struct Partition {
     pub pages: u32,
     pub processor: Processor,
     pub table: Table,
+    pub timer: Timer,
     pub counter: u64,
     pub fault: u32,
 }
@@ -52,7 +60,11 @@ impl Partition {
 
     pub const EMODE: u32 = 9;
 
-    // The bits of the cause word: ill is bit 1, ovf bit 6.
+    pub const TCOUNT: u32 = 10;
+
+    pub const TLOAD: u32 = 11;
+
+    // The bits of the cause word: ill is bit 1, ovf bit 6, the timer's bit 13.
     pub const ILL: u32 = 2;
 
     pub const MAL: u32 = 4;
@@ -64,6 +76,8 @@ impl Partition {
     pub const TRAP: u32 = 32;
 
     pub const OVF: u32 = 64;
+
+    pub const TIMER: u32 = 8192;
 
     // The state of a partition with so many pages at boot.
     pub fn fresh(pages: u32) -> Partition
@@ -84,6 +98,10 @@ impl Partition {
                 emode: 0,
             },
             table: Table { pto: 0, ptl: 0 },
+            timer: Timer {
+                tcount: 0,
+                tload: 0,
+            },
             counter: 0,
             fault: 0,
         }
