@@ -1,4 +1,4 @@
-// An instruction executed: from the processor, the table's registers and the 32 registers to an effect in numbers, and the effect put to work.
+// An instruction executed: from the processor, the table's registers, the timer and the 32 registers to an effect in numbers, and the effect put to work.
 ghost use mathlib.Core.Path.{_≡_};
 ghost use lib.ListN.{length};
 ghost use Prim.Native.Nat.{ℕ, _<_};
@@ -9,12 +9,19 @@ ghost use Rattle.dlx.specs.Fields.{loading, storing};
 ghost use Rattle.dlx.specs.declared.execute.Change.the-variants.{Plain};
 ghost use Rattle.dlx.specs.declared.execute.Effect.the-variants.{Done};
 ghost use Rattle.dlx.specs.Execute.{valueOf, overflowsOf, operated, reached, loads, stores, jumped, inSystem, movedTo, trapOf, effectOf, written};
-ghost use Rattle.dlx.specs.Machine.{core, outcome, Places, settled};
+ghost use mathlib.Core.List.{List};
+ghost use Rattle.dlx.specs.declared.partition.Timer.{Timer};
+ghost use Rattle.dlx.specs.Timer.{ticked, raised};
+ghost use Rattle.dlx.specs.Machine.{core, outcome, Places, left, handled};
+ghost use Rattle.dlx.specs.Spells.{plainly, passed, turned, retimed, ended};
 use crate::interrupt::interrupt;
 use crate::interrupt::return_from_exception;
 use crate::special::go;
+use crate::special::set_count;
 use crate::special::set_special;
 use crate::special::special;
+use crate::timer::raise;
+use crate::timer::tick;
 use crate::words::difference_overflows;
 use crate::words::sum_overflows;
 use crate::words::test;
@@ -27,6 +34,7 @@ use dlx::interrupt::level;
 use dlx::partition::Partition;
 use dlx::partition::Processor;
 use dlx::partition::Table;
+use dlx::partition::Timer;
 
 fn value(op: Operation, x: u32, y: u32) -> u32
     ensures { λ r. ⌜ r ≡ valueOf op x y ⌝ }
@@ -150,9 +158,9 @@ fn trap(p: Processor, v: u32, to: u32, imm: u32) -> Effect
     Effect::Take
 }
 
-pub fn execute(p: Processor, t: Table, regs: &[u32], i: Instruction) -> Effect
+pub fn execute(p: Processor, t: Table, k: Timer, regs: &[u32], i: Instruction) -> Effect
     requires { ⌜ length (now regs) ≡ 32 ⌝ ∗ ⌜ Formed i ⌝ }
-    ensures { λ r. ⌜ r ≡ effectOf p t (now (regs .entry)) i ⌝ }
+    ensures { λ r. ⌜ r ≡ effectOf p t k (now (regs .entry)) i ⌝ }
 {
     let pc = p.pc;
     let next = std::num::wrapping_add_u32(pc, 4);
@@ -185,7 +193,7 @@ pub fn execute(p: Processor, t: Table, regs: &[u32], i: Instruction) -> Effect
             p.sr,
             next,
         ),
-        Instruction::Movs2i(rd, n) => privileged(p, plain(rd, special(p, t, n), next)),
+        Instruction::Movs2i(rd, n) => privileged(p, plain(rd, special(p, t, k, n), next)),
         Instruction::Movi2s(n, rs1) => privileged(p, Effect::Done(move_to(t, n, regs[rs1]))),
         Instruction::Ill => Effect::Done(Change::Cause(Partition::ILL, 0)),
     }
@@ -201,43 +209,126 @@ pub fn write(regs: &mut [u32], rd: usize, v: u32)
     }
 }
 
-// A change made of the processor and the registers. What becomes of the table and its shadow is the memory's; the latest fault stays.
-pub fn settle(p: Processor, regs: &mut [u32], c: Change) -> Settled
+// What a plain change leaves: the processor, and whether the change is none.
+pub struct Passed {
+    pub processor: Processor,
+    pub plain: bool,
+}
+
+// A plain change made of the processor and the registers, but for the timer. Any other is left alone.
+pub fn pass(p: Processor, regs: &mut [u32], c: Change) -> Passed
     requires { ⌜ length (now regs) ≡ 32 ⌝ ∗ ⌜ Places c ⌝ }
-    ensures { λ r. ⌜ ((latest : ℕ) → outcome (core (r .processor) (now (regs .exit)) latest) (r .calls) ≡ settled (core p (now (regs .entry)) latest) c) ⌝ }
+    ensures { λ r. ⌜ ((latest : ℕ) (k : Timer) → core (r .processor) (now (regs .exit)) latest k ≡ passed (core p (now (regs .entry)) latest k) c) ⌝ ∗ ⌜ r .plain ≡ plainly c ⌝ }
 {
     match c {
         Change::Plain(rd, v, target) => {
             write(regs, rd, v);
-            Settled {
+            Passed {
                 processor: go(p, target),
-                calls: false,
+                plain: true,
             }
         }
-        Change::Special(n, v) => Settled {
-            processor: go(set_special(p, n, v), std::num::wrapping_add_u32(p.pc, 4)),
-            calls: false,
+        Change::Special(_, _) => Passed {
+            processor: p,
+            plain: false,
         },
-        Change::Retable(_) => Settled {
-            processor: go(p, std::num::wrapping_add_u32(p.pc, 4)),
-            calls: false,
+        Change::Retable(_) => Passed {
+            processor: p,
+            plain: false,
         },
-        Change::Cause(causes, datum) => {
-            let handler = interrupt(p, causes, datum);
-            if level(causes) == 5 {
-                return Settled {
-                    processor: handler,
-                    calls: p.mode != 1,
-                };
-            }
-            Settled {
-                processor: handler,
-                calls: false,
-            }
-        }
-        Change::Return => Settled {
-            processor: return_from_exception(p),
-            calls: false,
+        Change::Cause(_, _) => Passed {
+            processor: p,
+            plain: false,
         },
+        Change::Return => Passed {
+            processor: p,
+            plain: false,
+        },
+    }
+}
+
+// What is left of a change that is no cause: of the processor, and of the timer behind its count.
+fn turn(p: Processor, c: Change) -> Processor
+    ensures { λ r. ⌜ r ≡ turned p c ⌝ }
+{
+    let next = std::num::wrapping_add_u32(p.pc, 4);
+    match c {
+        Change::Plain(_, _, _) => p,
+        Change::Special(n, v) => go(set_special(p, n, v), next),
+        Change::Retable(_) => go(p, next),
+        Change::Cause(_, _) => p,
+        Change::Return => return_from_exception(p),
+    }
+}
+
+fn retime(k: Timer, c: Change) -> Timer
+    ensures { λ r. ⌜ r ≡ retimed k c ⌝ }
+{
+    match c {
+        Change::Plain(_, _, _) => k,
+        Change::Special(n, v) => set_count(k, n, v),
+        Change::Retable(_) => k,
+        Change::Cause(_, _) => k,
+        Change::Return => k,
+    }
+}
+
+// The processor that an instruction without a cause left, with the timer k and SR as before it: where the timer's cause is raised, its handler is entered from there.
+fn leave(q: Processor, k: Timer, sr: u32, c: Change) -> Settled
+    ensures { λ r. ⌜ ((regs : List ℕ) (latest : ℕ) → outcome (core (r .processor) regs latest (r .timer)) (r .calls) ≡ left (raised k sr) (core q regs latest (retimed (ticked k) c))) ⌝ }
+{
+    if k.tcount == 0 {
+        return Settled {
+            processor: q,
+            timer: retime(k, c),
+            calls: false,
+        };
+    }
+    let timer = retime(tick(k), c);
+    let causes = raise(k, sr);
+    if causes == 0 {
+        return Settled {
+            processor: q,
+            timer,
+            calls: false,
+        };
+    }
+    Settled {
+        processor: interrupt(q, causes, 0),
+        timer,
+        calls: false,
+    }
+}
+
+// A cause entered.
+fn handle(p: Processor, k: Timer, causes: u32, datum: u32) -> Settled
+    ensures { λ r. ⌜ ((regs : List ℕ) (latest : ℕ) → outcome (core (r .processor) regs latest (r .timer)) (r .calls) ≡ handled (core p regs latest k) causes datum) ⌝ }
+{
+    let handler = interrupt(p, causes, datum);
+    if level(causes) == 5 {
+        return Settled {
+            processor: handler,
+            timer: k,
+            calls: p.mode != 1,
+        };
+    }
+    Settled {
+        processor: handler,
+        timer: k,
+        calls: false,
+    }
+}
+
+// What a spell's end comes to, by its change. What becomes of the table and its shadow is the memory's; the registers and the latest fault stay.
+pub fn settle(p: Processor, k: Timer, c: Change) -> Settled
+    requires { ⌜ Places c ⌝ }
+    ensures { λ r. ⌜ ((regs : List ℕ) (latest : ℕ) → outcome (core (r .processor) regs latest (r .timer)) (r .calls) ≡ ended (core p regs latest k) c) ⌝ }
+{
+    match c {
+        Change::Plain(_, _, _) => leave(turn(p, c), k, p.sr, c),
+        Change::Special(_, _) => leave(turn(p, c), k, p.sr, c),
+        Change::Retable(_) => leave(turn(p, c), k, p.sr, c),
+        Change::Cause(causes, datum) => handle(p, tick(k), causes + raise(k, p.sr), datum),
+        Change::Return => leave(turn(p, c), k, p.sr, c),
     }
 }

@@ -23,13 +23,13 @@ fn read_register_type(w: u32) -> Instruction
         38 => Instruction::Register(Operation::Xor, rd, rs1, rs2),
         40..=47 => Instruction::Register(Operation::Test(function - 40), rd, rs1, rs2),
         16 => {
-            if sa <= 9 {
+            if sa <= 11 {
                 return Instruction::Movs2i(rd, sa);
             }
             Instruction::Ill
         }
         17 => {
-            if sa <= 9 {
+            if sa <= 11 {
                 return Instruction::Movi2s(sa, rs1);
             }
             Instruction::Ill

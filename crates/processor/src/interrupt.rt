@@ -33,6 +33,7 @@ pub fn interrupt(p: Processor, causes: u32, datum: u32) -> Processor
         3 => enter(p, causes, p.dpc, p.pc, datum),
         4 => enter(p, causes, p.dpc, p.pc, datum),
         5 => enter(p, causes, p.pc, behind, datum),
+        13 => enter(p, causes, p.dpc, p.pc, p.edata),
         _ => enter(p, causes, p.pc, behind, p.edata),
     }
 }

@@ -4,4 +4,5 @@ pub mod fields;
 pub mod instruction;
 pub mod interrupt;
 pub mod special;
+pub mod timer;
 pub mod words;

@@ -1,13 +1,14 @@
-// The processor's registers: the special ones by number, and the two program counters.
+// The special registers by number, and the two program counters.
 ghost use mathlib.Core.Path.{_≡_};
-ghost use Rattle.dlx.specs.Processor.{specialOf, withSpecial, wentTo};
+ghost use Rattle.dlx.specs.Processor.{specialOf, withSpecial, withCount, wentTo};
 use dlx::partition::Partition;
 use dlx::partition::Processor;
 use dlx::partition::Table;
+use dlx::partition::Timer;
 
-// The special register of number n, at most 9, as movs2i reads it.
-pub fn special(p: Processor, t: Table, n: u32) -> u32
-    ensures { λ r. ⌜ r ≡ specialOf p t n ⌝ }
+// The special register of number n, at most 11, as movs2i reads it.
+pub fn special(p: Processor, t: Table, k: Timer, n: u32) -> u32
+    ensures { λ r. ⌜ r ≡ specialOf p t k n ⌝ }
 {
     match n {
         Partition::SR => p.sr,
@@ -19,11 +20,13 @@ pub fn special(p: Processor, t: Table, n: u32) -> u32
         Partition::MODE => p.mode,
         Partition::PTO => t.pto,
         Partition::PTL => t.ptl,
-        _ => p.emode,
+        Partition::EMODE => p.emode,
+        Partition::TCOUNT => k.tcount,
+        _ => k.tload,
     }
 }
 
-// The processor with v in the special register of number n. PTO and PTL do not stand in it.
+// The processor with v in the special register of number n. Those of the table and the timer do not stand in it.
 pub fn set_special(p: Processor, n: u32, v: u32) -> Processor
     ensures { λ r. ⌜ r ≡ withSpecial p n v ⌝ }
 {
@@ -59,6 +62,24 @@ pub fn set_special(p: Processor, n: u32, v: u32) -> Processor
         }
         Partition::EMODE => {
             r.emode = v % 2;
+            r
+        }
+        _ => r,
+    }
+}
+
+// The timer with v in the special register of number n, where it is one of its two.
+pub fn set_count(k: Timer, n: u32, v: u32) -> Timer
+    ensures { λ r. ⌜ r ≡ withCount k n v ⌝ }
+{
+    let mut r = k;
+    match n {
+        Partition::TCOUNT => {
+            r.tcount = v;
+            r
+        }
+        Partition::TLOAD => {
+            r.tload = v;
             r
         }
         _ => r,
