@@ -39,7 +39,7 @@ module _ (fr : List ℕ) (n size : ℕ) where
   accessed-whole y c (Store o a v) h w =
       record { long = writes-length fr n h _ a (placed o a v) ∙ w .long; shadowed = writes-shadowed fr n h (w .shadowed) _ a (placed o a v) }
 
-  retabled-whole : (c : Change) (h : Host) → Whole fr n size h → Whole fr n size (retabled (hostMemory fr n) c h)
+  pub retabled-whole : (c : Change) (h : Host) → Whole fr n size h → Whole fr n size (retabled (hostMemory fr n) c h)
   unfolding retabled
   retabled-whole (Plain d v target) h w = w
   retabled-whole (Special k v) h w = w

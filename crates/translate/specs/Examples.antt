@@ -6,7 +6,7 @@ use Prim.Native.Nat.{ℕ, zero, suc, _+_, _^_}
 use lib.Dec.{eqb}
 use lib.ListN.{set, take, drop, replicate}
 use mir.Val.{boolByte}
-use Rattle.dlx.specs.Processor.{freshProcessor}
+use Rattle.dlx.specs.Processor.{freshProcessor, noTimer}
 use Rattle.dlx.specs.Machine.{Core, core, Outcome, reply, step, steps}
 use Rattle.dlx.specs.Examples.{same}
 use Rattle.dlx.specs.declared.partition.Table.{Table}
@@ -315,7 +315,7 @@ zeros = replicate 32 0
 
 unfoldable pub booted : ℕ → List ℕ → Core × Host
 booted n ws =
-    steps (hostMemory (1 ∷ replicate 255 0) 1) (λ _. reply 0 0) n (core freshProcessor zeros 0, host (table 0 0) (replicate 1024 0 ++ (ws ++ replicate 1020 0)) freshShadow)
+    steps (hostMemory (1 ∷ replicate 255 0) 1) (λ _. reply 0 0) n (core freshProcessor zeros 0 noTimer, host (table 0 0) (replicate 1024 0 ++ (ws ++ replicate 1020 0)) freshShadow)
 
 abbrev program : List ℕ
 program = 0x20010005 ∷ 0xAC010008 ∷ 0 ∷ 0 ∷ []
@@ -340,7 +340,7 @@ nine = set zeros 1 9
 
 -- the word w at the host's word i, and a shadow
 unfoldable pub once : Processor → ℕ → ℕ → List ℕ → Outcome × Host
-once p i w sh = step (hostMemory frames 3) (reply 0 0) (core p nine 3, host (table 1 6) (set memory i w) sh)
+once p i w sh = step (hostMemory frames 3) (reply 0 0) (core p nine 3 noTimer, host (table 1 6) (set memory i w) sh)
 
 -- at guest address 0, in system or user mode
 unfoldable pub system : ℕ → List ℕ → Outcome × Host
@@ -438,6 +438,34 @@ parts =
     -- [fill: none on a misaligned half word]
     ∷ interrupt (user 0xA4012ABD freshShadow) 1 (saving 4 4 0 95) false 2048 0xA4012ABD (only 0 0x00002800)
     ∷ interrupt (user 0x84022ABF freshShadow) 1 (saving 4 4 0 95) false 2048 0x84022ABF (only 0 0x00002800)
+    ∷ []
+
+-- the word w at guest address 0 with SR 8195, in a step in which TCOUNT falls from 1, with TLOAD 94
+unfoldable pub struck : ℕ → ℕ → List ℕ → Outcome × Host
+struck mode w sh =
+    step (hostMemory frames 3) (reply 0 0) (
+      core (record { dpc = 0; pc = 4; sr = 8195; esr = 91; eca = 92; epc = 93; edpc = 94; edata = 95; mode = mode; emode = 0 }) nine 3 (record { tcount = 1; tload = 94 }),
+      host (table 1 6) (set memory 2048 w) sh,
+    )
+
+-- the timer is loaded again, the handler entered with ECA, EPC, EDPC and EDATA; the registers, the latest fault and the host after it
+unfoldable pub rings : Outcome × Host → ℕ → List ℕ → List ℕ → ℕ → Host → Bool
+rings m mode saved r fault h =
+    leaves m (0 ∷ 4 ∷ 0 ∷ 8195 ∷ saved ++ (0 ∷ mode ∷ [])) r fault false h && eqb (m .0 .core .timer .tcount) 94
+
+unfoldable pub ringing : List Bool
+ringing =
+    -- [13 behind a fill] a load in user mode: register 2, and the fetch's fill beside its own
+    rings (struck 1 0x8C022ABC freshShadow) 1 (saving 8192 8 4 95) (set nine 2 (word 1711)) 3
+    (host (table 1 6) (set memory 2048 0x8C022ABC) (set (only 0 0x00002800) 2 0x00001C00))
+    -- [13 behind an emptying] a store into entry 0 empties the entry that its own fetch filled
+    ∷ rings (struck 1 0xAC011000 freshShadow) 1 (saving 8192 8 4 95) nine 3
+    (host (table 1 6) (set (set memory 2048 0xAC011000) 3072 9) (only 1 0x00003800))
+    -- [13 behind a new table] movi2s to PTO empties all
+    ∷ rings (struck 0 0x002001D1 full) 0 (saving 8192 8 4 95) nine 3 (host (table 9 6) (set memory 2048 0x002001D1) freshShadow)
+    -- [13 beside a fault] a protected store: pfls is the level, its fill stands, nothing is written
+    ∷ rings (struck 1 0xAC012ABC freshShadow) 1 (saving 8208 4 0 0x2ABC) nine 6
+    (host (table 1 6) (set memory 2048 0xAC012ABC) (set (only 0 0x00002800) 2 0x00001C00))
     ∷ []
 
 unfoldable pub all : List Bool → Bool
