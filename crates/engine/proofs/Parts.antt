@@ -1,39 +1,53 @@
--- A step put together from its parts, and what each part hands on to the next. Each part's answer is a variable here, so that the code's proofs
+-- A stretch put together from its parts, and what each part hands on to the next. Each part's answer is a variable here, so that the code's proofs
 -- only hand their equations over.
-use mathlib.Core.Path.{_≡_, sym, ap, subst, _∙_}
-use mathlib.Core.Bool.{Bool, true, false}
+use mathlib.Core.Path.{_≡_, refl, sym, ap, subst, _∙_}
+use mathlib.Core.Bool.{Bool, true, false, not}
 use mathlib.Core.List.{List}
-use Prim.Native.Nat.{ℕ, suc, _+_, _-_, _<_, _≤_}
+use Prim.Native.Nat.{ℕ, zero, suc, _+_, _-_, _<_, _≤_}
 use native.Mathlib.Nat.{sub-zero}
 use native.Mathlib.Omega.{arith}
+use borrow.Author.Tests.{eqb-true, eqb-false, ltb-true, ltb-false}
+use lib.Dec.{eqb, ltb}
 use lib.ListN.{length}
+use Rattle.dlx.specs.Choice.{if_then_else_}
 use Rattle.dlx.specs.Fields.{brought}
 use Rattle.dlx.specs.Processor.{user, behind}
-use Rattle.dlx.specs.Machine.{Ops, Core, Outcome, outcome, fetched, afterRead, accessed, loaded, settled, retabled, step, requestOf, asked, Desk, accessedAt, stepAt, stretchFrom, Places, Asks}
+use Rattle.dlx.specs.Machine.{Ops, Core, core, Outcome, outcome, fetched, afterRead, accessed, loaded, retabled, requestOf, Desk, accessedAt, Stretch, stretchFrom, Places, Asks}
+use Rattle.dlx.specs.Spells.{sunk, timed, plainly, passed, ended, Spell, spell, passedAt, spellFrom, Leg, legAt}
+use Rattle.dlx.specs.declared.partition.Processor.{Processor}
+use Rattle.dlx.specs.declared.partition.Timer.{Timer}
 use Rattle.dlx.specs.declared.execute.Access.{Access}
 use Rattle.dlx.specs.declared.execute.Access.the-variants.{Word}
 use Rattle.dlx.specs.declared.execute.Change.{Change}
 use Rattle.dlx.specs.declared.execute.Change.the-variants.{Plain}
 use Rattle.dlx.specs.declared.execute.Effect.{Effect}
 use Rattle.dlx.specs.declared.execute.Effect.the-variants.{Load}
+use Rattle.dlx.proofs.Kept.{either}
 use Rattle.dlx.proofs.Places.{fetched-places, accessed-places, accessed-count}
+use Rattle.dlx.proofs.Spells.{Within, spell-places, spell-some, leg-stretch}
 use Rattle.tickets.specs.Queues.{Queues, Seated, desk}
 use Rattle.tickets.proofs.Queues.{desk-queued}
 use Rattle.translate.specs.Memory.{Host, hostReads, hostMemory}
-use Rattle.translate.proofs.Steps.{Whole, fetched-whole, step-whole}
+use Rattle.translate.proofs.Steps.{Whole, fetched-whole, accessed-whole, retabled-whole}
+use Rattle.engine.specs.Answers.{paceOf, roomOf}
 
+-- a step of a spell
 module _ {S T : Type 0} (O : Ops S) (D : Desk T) where
-  pub step-is : (c c₁ c₂ : Core) (s s₁ s₂ s₃ : S) (q q₁ : T) (e : Effect) (x : Change) (o : Outcome) → ((e, c₁), s₁) ≡ fetched O (c, s) → (((x, c₂), s₂), q₁) ≡ accessedAt O D c₁ e s₁ q → o ≡ settled c₂ x → s₃ ≡ retabled O x s₂ → ((o, s₃), q₁) ≡ stepAt O D (c, s) q
-  unfolding step asked
-  step-is c c₁ c₂ s s₁ s₂ s₃ q q₁ e x o f a t r =
-      let a₀ : ((x, c₂), s₂) ≡ accessed O (D q (requestOf e) .0) c₁ e s₁ = ap (λ (g : ((Change × Core) × S) × T). g .0) a in
-      let a₁ : q₁ ≡ D q (requestOf e) .1 = ap (λ (g : ((Change × Core) × S) × T). g .1) a in
-      simp (← f, ← a₀, ← a₁, t, r)
+  pub passed-is : (c c₁ c₂ c₃ : Core) (s s₁ s₂ : S) (q q₁ : T) (e : Effect) (x : Change) → ((e, c₁), s₁) ≡ fetched O (c, s) → (((x, c₂), s₂), q₁) ≡ accessedAt O D c₁ e s₁ q → c₃ ≡ passed c₂ x → (((x, c₃), s₂), q₁) ≡ passedAt O D (c, s) q
+  unfolding passedAt
+  passed-is c c₁ c₂ c₃ s s₁ s₂ q q₁ e x f a p =
+      ap (λ (b : Core). (((x, b), s₂), q₁)) p
+      ∙ ap (λ (g : ((Change × Core) × S) × T). (((g .0 .0 .0, passed (g .0 .0 .1) (g .0 .0 .0)), g .0 .1), g .1)) a
+      ∙ ap (λ (f : (Effect × Core) × S). let g = accessedAt O D (f .0 .1) (f .0 .0) (f .1) q in (((g .0 .0 .0, passed (g .0 .0 .1) (g .0 .0 .0)), g .0 .1), g .1)) f
+
+  -- a spell and its end
+  pub leg-is : (n made : ℕ) (c c₁ : Core) (s s₁ s₂ : S) (q q₁ : T) (x : Change) (o : Outcome) (b : Timer) → spell made x c₁ s₁ q₁ ≡ spellFrom O D n 0 (c, s) q → b ≡ sunk (c .timer) (made - 1) → o ≡ ended (timed c₁ b) x → s₂ ≡ retabled O x s₁ → record { made = made; outcome = o; memory = s₂; desk = q₁ } ≡ legAt O D n (c, s) q
+  leg-is n made c c₁ s s₁ s₂ q q₁ x o b p t e r = simp (← p, e, r, t)
 
 -- a load that finds a word
-pub load-is : (fr : List ℕ) (n count i : ℕ) (c : Core) (h h₁ : Host) (q : Queues) (e : Effect) (x : Access) (d a o w v next : ℕ) → e ≡ Load d a o → (x, h₁) ≡ hostReads fr n h (user (c .processor)) a → x ≡ Word w → v ≡ brought o a w → next ≡ behind (c .processor) → (((Plain d v next, c), h₁), q) ≡ accessedAt (hostMemory fr n) (desk count i) c e h q
+pub load-is : (fr : List ℕ) (n count i : ℕ) (p : Processor) (r : List ℕ) (l : ℕ) (h h₁ : Host) (q : Queues) (e : Effect) (x : Access) (d a o w v next : ℕ) → e ≡ Load d a o → (x, h₁) ≡ hostReads fr n h (user p) a → x ≡ Word w → v ≡ brought o a w → next ≡ behind p → (k : Timer) → (((Plain d v next, core p r l k), h₁), q) ≡ accessedAt (hostMemory fr n) (desk count i) (core p r l k) e h q
 unfolding accessed loaded afterRead requestOf desk
-load-is fr n count i c h h₁ q e x d a o w v next f r k b t = simp (f, ← r, k, b, t)
+load-is fr n count i p r l h h₁ q e x d a o w v next f g k b t m = simp (f, ← g, k, b, t)
 
 module _ (fr : List ℕ) (n size count i : ℕ) where
   pub after-fetch : (c c₁ : Core) (h h₁ : Host) (e : Effect) → Whole fr n size h → ((e, c₁), h₁) ≡ fetched (hostMemory fr n) (c, h) → Whole fr n size h₁ × Asks e
@@ -46,39 +60,155 @@ module _ (fr : List ℕ) (n size count i : ℕ) where
       subst (λ (g : ((Change × Core) × Host) × Queues). (length (g .0 .0 .1 .registers) ≡ 32) × Places (g .0 .0 .0)) (sym a)
       (accessed-count (hostMemory fr n) _ c e h ∙ l, accessed-places (hostMemory fr n) _ c e h (w .1))
 
-  pub after-step : (c : Core) (h h′ : Host) (q q′ : Queues) (o : Outcome) → Whole fr n size h → Seated count i q → ((o, h′), q′) ≡ stepAt (hostMemory fr n) (desk count i) (c, h) q → Whole fr n size h′ × Seated count i q′
-  after-step c h h′ q q′ o w k s =
-      subst (λ (g : (Outcome × Host) × Queues). Whole fr n size (g .0 .1) × Seated count i (g .1)) (sym s)
-      (step-whole fr n size _ c h w, record { queued = desk-queued count i q (k .queued) (k .few) (k .small) _; few = k .few; small = k .small })
+  -- a spell leaves a whole memory and seated queues
+  passed-stays : (c : Core) (h : Host) (q : Queues) → Whole fr n size h → Seated count i q → (let g = passedAt (hostMemory fr n) (desk count i) (c, h) q in Whole fr n size (g .0 .1) × Seated count i (g .1))
+  unfolding passedAt
+  passed-stays c h q w k =
+      (accessed-whole fr n size _ _ _ _ (fetched-whole fr n size c h w), record { queued = desk-queued count i q (k .queued) (k .few) (k .small) _; few = k .few; small = k .small })
 
--- ---- a stretch, step by step
+  abbrev Stays : Spell Host Queues → Type 0
+  Stays p = Whole fr n size (p .memory) × Seated count i (p .desk)
 
--- rest of k steps are still to make
-module _ {S T : Type 0} (O : Ops S) (D : Desk T) (k rest : ℕ) (c : Core) (s : S) (q : T) where
-  pub stretch-done : rest ≤ 0 → record { made = k; called = false; core = c; memory = s; desk = q } ≡ stretchFrom O D rest (k - rest) (c, s) q
-  unfolding stretchFrom
-  stretch-done h = let e : rest ≡ 0 = omega arith in simp (e, sub-zero)
+  spell-stays : (k made : ℕ) (m : Core × Host) (q : Queues) → Whole fr n size (m .1) → Seated count i q → Stays (spellFrom (hostMemory fr n) (desk count i) k made m q)
+  unfolding spellFrom
+  spell-stays zero made m q w l = (w, l)
+  spell-stays (suc k) made m q w l =
+      let g = passedAt (hostMemory fr n) (desk count i) m q in
+      let c = g .0 .0 .1 in
+      let a = passed-stays (m .0) (m .1) q w l in
+      either Stays (plainly (g .0 .0 .0)) (λ _. spell-stays k (suc made) (timed c (sunk (c .timer) 1), g .0 .1) (g .1) (a .0) (a .1)) (λ _. a)
 
-  module _ (c′ : Core) (s′ : S) (q′ : T) (b : Bool) (some : 0 < rest) (most : rest ≤ k) (stepped : ((outcome c′ b, s′), q′) ≡ stepAt O D (c, s) q) where
-    st₀ : (outcome c′ b, s′) ≡ step O (D q (asked O (c, s)) .0) (c, s)
-    st₀ = ap (λ (g : (Outcome × S) × T). g .0) stepped
+  pub after-passed : (c c′ : Core) (h h′ : Host) (q q′ : Queues) (x : Change) → Whole fr n size h → Seated count i q → (((x, c′), h′), q′) ≡ passedAt (hostMemory fr n) (desk count i) (c, h) q → Whole fr n size h′ × Seated count i q′
+  after-passed c c′ h h′ q q′ x w k s =
+      subst (λ (g : ((Change × Core) × Host) × Queues). Whole fr n size (g .0 .1) × Seated count i (g .1)) (sym s) (passed-stays c h q w k)
 
-    st₁ : q′ ≡ D q (asked O (c, s)) .1
-    st₁ = ap (λ (g : (Outcome × S) × T). g .1) stepped
+  -- what a spell of k steps gives its end
+  pub after-spell : (k made : ℕ) (c c′ : Core) (h h′ : Host) (q q′ : Queues) (x : Change) → Whole fr n size h → Seated count i q → spell made x c′ h′ q′ ≡ spellFrom (hostMemory fr n) (desk count i) k 0 (c, h) q → Whole fr n size h′ × Seated count i q′ × Places x
+  after-spell k made c c′ h h′ q q′ x w l s =
+      subst (λ (p : Spell Host Queues). Whole fr n size (p .memory) × Seated count i (p .desk) × Places (p .change)) (sym s)
+      (let a = spell-stays k 0 (c, h) q w l in (a .0, a .1, spell-places (hostMemory fr n) (desk count i) k 0 (c, h) q .0))
 
+  -- and what a leg gives the next one
+  pub after-leg : (k made : ℕ) (c : Core) (h h′ : Host) (q q′ : Queues) (o : Outcome) → Whole fr n size h → Seated count i q → record { made = made; outcome = o; memory = h′; desk = q′ } ≡ legAt (hostMemory fr n) (desk count i) k (c, h) q → Whole fr n size h′ × Seated count i q′
+  after-leg k made c h h′ q q′ o w l s =
+      subst (λ (g : Leg Host Queues). Whole fr n size (g .memory) × Seated count i (g .desk)) (sym s)
+      (let a = spell-stays k 0 (c, h) q w l in (retabled-whole fr n size _ _ (a .0), a .1))
+
+-- how many steps a spell makes
+pub spell-made : {S T : Type 0} (O : Ops S) (D : Desk T) (k made : ℕ) (c c′ : Core) (s s′ : S) (q q′ : T) (x : Change) → 0 < k → spell made x c′ s′ q′ ≡ spellFrom O D k 0 (c, s) q → (0 < made) × (made ≤ k)
+spell-made {S = S} {T = T} O D k made c c′ s s′ q q′ x l e =
+    subst (λ (p : Spell S T). (0 < p .made) × (p .made ≤ k)) (sym e)
+    (let h = spell-some O D k 0 (c, s) q l in (h .0, omega (arith, h .1)))
+
+pub leg-made : {S T : Type 0} (O : Ops S) (D : Desk T) (k made : ℕ) (c : Core) (s s′ : S) (q q′ : T) (o : Outcome) → 0 < k → record { made = made; outcome = o; memory = s′; desk = q′ } ≡ legAt O D k (c, s) q → (0 < made) × (made ≤ k)
+leg-made {S = S} {T = T} O D k made c s s′ q q′ o l e =
+    subst (λ (g : Leg S T). (0 < g .made) × (g .made ≤ k)) (sym e)
+    (let h = spell-some O D k 0 (c, s) q l in (h .0, omega (arith, h .1)))
+
+-- ---- a leg's room
+
+abbrev pub Roomy : Timer → ℕ → ℕ → Type 0
+Roomy k rest n = (0 < n) × (n ≤ rest) × Within k n
+
+room-fits : (k : Timer) (rest : ℕ) → 0 < rest → Roomy k rest (roomOf k rest)
+unfolding roomOf
+room-fits k rest l =
+    either (Roomy k rest) (eqb (k .tcount) 0) (λ e. let z = eqb-true (k .tcount) 0 e in (l, omega arith, λ h. omega (arith, h, z))) λ e.
+    either (Roomy k rest) (ltb rest (k .tcount)) (λ f. let y = ltb-true rest (k .tcount) f in (l, omega arith, λ h. omega (arith, y))) λ f.
+    let y = ltb-false rest (k .tcount) f in
+    let z = eqb-false (k .tcount) 0 e in
+    (omega (arith, z), omega (arith, y), λ h. omega arith)
+
+pub room-is : (k : Timer) (rest n : ℕ) → 0 < rest → n ≡ roomOf k rest → Roomy k rest n
+room-is k rest n l e = subst (Roomy k rest) (sym e) (room-fits k rest l)
+
+-- ---- a spell, step by step
+
+-- the timer of a spell falls by its pace
+abbrev Paced : Timer → ℕ → ℕ → ℕ → Type 0
+Paced k n rest p = (p ≤ k .tcount - (n - rest)) × (k .tcount - (n - rest) - p ≡ k .tcount - (n - rest) - 1) × (k .tcount - (n - rest) - p ≡ k .tcount - (n - (rest - 1)))
+
+pace-fits : (k : Timer) (n rest : ℕ) → Within k n → 0 < rest → rest ≤ n → Paced k n rest (paceOf k)
+unfolding paceOf
+pace-fits k n rest f s m =
+    either (Paced k n rest) (eqb (k .tcount) 0)
+    (λ e. let z = eqb-true (k .tcount) 0 e in (omega arith, omega (arith, z), omega (arith, z)))
+    (λ e. let l = f (omega (arith, eqb-false (k .tcount) 0 e)) in (omega (arith, l, s, m), omega arith, omega (arith, l, s, m)))
+
+pub unsunk : (k : Timer) (n : ℕ) → k ≡ sunk k (n - n)
+unsunk k n =
+    let e : k .tcount ≡ k .tcount - (n - n) = omega arith in
+    ap (λ (x : ℕ). record { tcount = x; tload = k .tload }) e
+
+pub paced : (k t : Timer) (n rest p : ℕ) → Within k n → 0 < rest → rest ≤ n → p ≡ paceOf k → t ≡ sunk k (n - rest) → (p ≤ t .tcount) × (sunk t p ≡ sunk t 1) × (sunk t p ≡ sunk k (n - (rest - 1)))
+paced k t n rest p f s m e q =
+    subst (λ (j : ℕ). (j ≤ t .tcount) × (sunk t j ≡ sunk t 1) × (sunk t j ≡ sunk k (n - (rest - 1)))) (sym e)
+    (subst (λ (u : Timer). (paceOf k ≤ u .tcount) × (sunk u (paceOf k) ≡ sunk u 1) × (sunk u (paceOf k) ≡ sunk k (n - (rest - 1)))) (sym q)
+    (let h = pace-fits k n rest f s m in
+    (h .0, ap (λ (x : ℕ). record { tcount = x; tload = k .tload }) (h .1), ap (λ (x : ℕ). record { tcount = x; tload = k .tload }) (h .2))))
+
+pub not-true : (b : Bool) → not b ≡ true → b ≡ false
+not-true true e = sym e
+not-true false e = refl
+
+pub not-false : (b : Bool) → not b ≡ false → b ≡ true
+not-false true e = refl
+not-false false e = sym e
+
+-- rest of n steps are still to make
+module _ {S T : Type 0} (O : Ops S) (D : Desk T) (n rest : ℕ) (c : Core) (s : S) (q : T) where
+  pub spell-done : rest ≤ 0 → spell n (Plain 0 0 0) c s q ≡ spellFrom O D rest (n - rest) (c, s) q
+  unfolding spellFrom
+  spell-done h = let e : rest ≡ 0 = omega arith in simp (e, sub-zero)
+
+  module _ (c′ : Core) (s′ : S) (q′ : T) (x : Change) (b : Bool) (some : 0 < rest) (most : rest ≤ n) (stepped : (((x, c′), s′), q′) ≡ passedAt O D (c, s) q) (told : b ≡ plainly x) where
     one-less : rest ≡ suc (rest - 1)
     one-less = omega arith
 
-    one-more : suc (k - rest) ≡ k - (rest - 1)
+    one-more : suc (n - rest) ≡ n - (rest - 1)
     one-more = omega arith
 
-    stretched : stretchFrom O D rest (k - rest) (c, s) q ≡ stretchFrom O D (suc (rest - 1)) (k - rest) (c, s) q
-    stretched = ap (λ (n : ℕ). stretchFrom O D n (k - rest) (c, s) q) one-less
+    spelled : spellFrom O D rest (n - rest) (c, s) q ≡ spellFrom O D (suc (rest - 1)) (n - rest) (c, s) q
+    spelled = ap (λ (j : ℕ). spellFrom O D j (n - rest) (c, s) q) one-less
 
-    pub stretch-called : b ≡ true → record { made = k - (rest - 1); called = true; core = c′; memory = s′; desk = q′ } ≡ stretchFrom O D rest (k - rest) (c, s) q
-    unfolding stretchFrom
-    stretch-called h = sym (stretched ∙ simp (← st₀, ← st₁, h, one-more))
+    pub spell-ended : b ≡ false → spell (n - (rest - 1)) x c′ s′ q′ ≡ spellFrom O D rest (n - rest) (c, s) q
+    unfolding spellFrom
+    spell-ended h = let p : plainly x ≡ false = sym told ∙ h in sym (spelled ∙ simp (← stepped, p, one-more))
 
-    pub stretch-on : b ≡ false → stretchFrom O D (rest - 1) (k - (rest - 1)) (c′, s′) q′ ≡ stretchFrom O D rest (k - rest) (c, s) q
-    unfolding stretchFrom
-    stretch-on h = sym (stretched ∙ simp (← st₀, ← st₁, h, one-more))
+    pub spell-on : b ≡ true → spellFrom O D (rest - 1) (n - (rest - 1)) (timed c′ (sunk (c′ .timer) 1), s′) q′ ≡ spellFrom O D rest (n - rest) (c, s) q
+    unfolding spellFrom
+    spell-on h = let p : plainly x ≡ true = sym told ∙ h in sym (spelled ∙ simp (← stepped, p, one-more))
+
+-- ---- a stretch, leg by leg
+
+-- rest of n steps are still to make
+module _ {S T : Type 0} (O : Ops S) (D : Desk T) (n rest : ℕ) (c : Core) (s : S) (q : T) where
+  pub stretch-done : rest ≤ 0 → record { made = n; called = false; core = c; memory = s; desk = q } ≡ stretchFrom O D rest (n - rest) (c, s) q
+  unfolding stretchFrom
+  stretch-done h = let e : rest ≡ 0 = omega arith in simp (e, sub-zero)
+
+  module _ (k made : ℕ) (c′ : Core) (s′ : S) (q′ : T) (b : Bool) (room : Roomy (c .timer) rest k) (most : rest ≤ n) (walked : record { made = made; outcome = outcome c′ b; memory = s′; desk = q′ } ≡ legAt O D k (c, s) q) where
+    steps : (0 < made) × (made ≤ k)
+    steps = leg-made O D k made c s s′ q q′ (outcome c′ b) (room .0) walked
+
+    abbrev next : Stretch S T
+    next =
+        if b then record { made = n - (rest - made); called = true; core = c′; memory = s′; desk = q′ }
+        else stretchFrom O D (rest - made) (n - (rest - made)) (c′, s′) q′
+
+    ahead : stretchFrom O D rest (n - rest) (c, s) q ≡ next
+    ahead =
+        let e : rest ≡ k + (rest - k) = omega (arith, room .1) in
+        let f : k + (rest - k) - made ≡ rest - made = omega (arith, room .1) in
+        let g : n - rest + made ≡ n - (rest - made) = omega (arith, room .1, steps .1, most) in
+        let h = leg-stretch O D k (rest - k) (n - rest) c s q (room .0) (room .2) in
+        ap (λ (j : ℕ). stretchFrom O D j (n - rest) (c, s) q) e
+        ∙ h
+        ∙ ap (λ (l : Leg S T). if l .outcome .calls then record { made = n - rest + l .made; called = true; core = l .outcome .core; memory = l .memory; desk = l .desk } else stretchFrom O D (k + (rest - k) - l .made) (n - rest + l .made) (l .outcome .core, l .memory) (l .desk)) (sym walked)
+        ∙ simp (f, g)
+
+    pub stretch-called : b ≡ true → record { made = n - (rest - made); called = true; core = c′; memory = s′; desk = q′ } ≡ stretchFrom O D rest (n - rest) (c, s) q
+    stretch-called t = sym (ahead ∙ simp t)
+
+    pub stretch-on : b ≡ false → stretchFrom O D (rest - made) (n - (rest - made)) (c′, s′) q′ ≡ stretchFrom O D rest (n - rest) (c, s) q
+    stretch-on t = sym (ahead ∙ simp t)

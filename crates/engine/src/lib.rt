@@ -1,26 +1,46 @@
-// The interpreter: one guest step through the shadow, and a stretch of steps, on lent arrays. The processor's numbers go by value; the latest translation fault
-// is lent, so that only a step that faults touches it.
+// The interpreter: steps of a guest through the shadow, on lent arrays, in spells of plain ones, in which nothing changes of the processor but DPC and PC. The
+// processor's numbers go by value; the latest translation fault is lent, so that only a step that faults touches it.
 ghost use mathlib.Core.Path.{_≡_};
 ghost use mathlib.Core.List.{List};
 ghost use Prim.Native.Nat.{ℕ, _<_};
 ghost use lib.ListN.{length};
-ghost use Rattle.dlx.specs.Machine.{core, fetched, Asks, accessedAt, retabled, stepAt, stretchFrom};
+ghost use Rattle.dlx.specs.declared.partition.Timer.{Timer};
+ghost use Rattle.dlx.specs.Machine.{core, fetched, Asks, accessedAt, retabled, stretchFrom};
+ghost use Rattle.dlx.specs.Spells.{plainly, passedAt, spellFrom, legAt};
 ghost use Rattle.tickets.specs.Queues.{queues, taking, desk, Queued, Seated};
 ghost use Rattle.translate.specs.Walk.{entries};
 ghost use Rattle.translate.specs.Memory.{host, hostMemory};
 ghost use Rattle.translate.specs.Premises.{Placed, Shadowed};
-ghost use Rattle.engine.specs.Answers.{receivedOf, outcomeOf, stretchOf};
+ghost use Rattle.engine.specs.Answers.{receivedOf, Fits, paceOf, spellOf, legOf, roomOf, stretchOf};
 use dlx::execute::Access;
 use dlx::execute::Change;
 use dlx::execute::Effect;
 use dlx::partition::Partition;
 use dlx::partition::Processor;
 use dlx::partition::Table;
+use dlx::partition::Timer;
 
-// What a step leaves beside the arrays, and whether the guest calls the hypervisor: a trap taken in system mode.
+// What a step of a spell leaves beside the arrays: its change, made if it is plain.
 pub struct Stepped {
     pub processor: Processor,
+    pub change: Change,
+    pub plain: bool,
+}
+
+// What a spell leaves beside the arrays: how many steps were made, and the change that ended it.
+pub struct Spelt {
+    pub processor: Processor,
+    pub timer: Timer,
+    pub made: u32,
+    pub change: Change,
+}
+
+// What a spell and its end leave beside the arrays, and whether the guest calls the hypervisor: a trap taken in system mode.
+pub struct Walked {
+    pub processor: Processor,
     pub table: Table,
+    pub timer: Timer,
+    pub made: u32,
     pub calls: bool,
 }
 
@@ -28,6 +48,7 @@ pub struct Stepped {
 pub struct Stretched {
     pub processor: Processor,
     pub table: Table,
+    pub timer: Timer,
     pub made: u32,
     pub called: bool,
 }
@@ -36,6 +57,7 @@ pub struct Stretched {
 fn fetch(
     p: Processor,
     t: Table,
+    k: Timer,
     pages: u32,
     regs: &[u32],
     frames: &[u32],
@@ -44,7 +66,7 @@ fn fetch(
     latest: &mut u32,
 ) -> Effect
     requires { ⌜ length (now regs) ≡ 32 ⌝ ∗ ⌜ Placed (now frames) pages (length (now words)) ⌝ ∗ ⌜ Shadowed (now frames) pages (now shadow) ⌝ }
-    ensures { λ r. ⌜ ((r, core p (now (regs .entry)) (now (latest .exit))), host t (now (words .entry)) (now (shadow .exit))) ≡ fetched (hostMemory (now (frames .entry)) pages) (core p (now (regs .entry)) (now (latest .entry)), host t (now (words .entry)) (now (shadow .entry))) ⌝ }
+    ensures { λ r. ⌜ ((r, core p (now (regs .entry)) (now (latest .exit)) k), host t (now (words .entry)) (now (shadow .exit))) ≡ fetched (hostMemory (now (frames .entry)) pages) (core p (now (regs .entry)) (now (latest .entry)) k, host t (now (words .entry)) (now (shadow .entry))) ⌝ }
 {
     let dpc = p.dpc;
     if dpc % 4 != 0 {
@@ -58,6 +80,7 @@ fn fetch(
         Access::Word(w) => processor::execute::execute(
             p,
             t,
+            k,
             regs,
             processor::instruction::read_instruction(w),
         ),
@@ -94,7 +117,7 @@ fn access(
     e: Effect,
 ) -> Change
     requires { ⌜ length (now regs) ≡ 32 ⌝ ∗ ⌜ Placed (now frames) pages (length (now words)) ⌝ ∗ ⌜ Shadowed (now frames) pages (now shadow) ⌝ ∗ ⌜ Seated count i (queues (now tickets) (now waiting)) ⌝ ∗ ⌜ Asks e ⌝ }
-    ensures { λ r. ⌜ (((r, core p (now (regs .exit)) (now (latest .exit))), host t (now (words .exit)) (now (shadow .exit))), queues (now (tickets .exit)) (now (waiting .exit))) ≡ accessedAt (hostMemory (now (frames .entry)) pages) (desk count i) (core p (now (regs .entry)) (now (latest .entry))) e (host t (now (words .entry)) (now (shadow .entry))) (queues (now (tickets .entry)) (now (waiting .entry))) ⌝ }
+    ensures { λ r. ⌜ ((k : Timer) → (((r, core p (now (regs .exit)) (now (latest .exit)) k), host t (now (words .exit)) (now (shadow .exit))), queues (now (tickets .exit)) (now (waiting .exit))) ≡ accessedAt (hostMemory (now (frames .entry)) pages) (desk count i) (core p (now (regs .entry)) (now (latest .entry)) k) e (host t (now (words .entry)) (now (shadow .entry))) (queues (now (tickets .entry)) (now (waiting .entry)))) ⌝ }
 {
     let next = std::num::wrapping_add_u32(p.pc, 4);
     match e {
@@ -150,10 +173,11 @@ fn retable(t: Table, shadow: &mut [u32], c: Change) -> Table
     }
 }
 
-// One guest step: fetch, data access, then emptying.
+// One step of a spell: fetch, data access, and the change where it is plain.
 pub fn step(
     p: Processor,
     t: Table,
+    k: Timer,
     pages: u32,
     regs: &mut [u32],
     frames: &[u32],
@@ -166,10 +190,10 @@ pub fn step(
     latest: &mut u32,
 ) -> Stepped
     requires { ⌜ length (now regs) ≡ 32 ⌝ ∗ ⌜ Placed (now frames) pages (length (now words)) ⌝ ∗ ⌜ Shadowed (now frames) pages (now shadow) ⌝ ∗ ⌜ Seated count i (queues (now tickets) (now waiting)) ⌝ }
-    ensures { λ r. ⌜ (outcomeOf r (now (regs .exit)) (now (latest .exit)) (now (words .exit)) (now (shadow .exit)), queues (now (tickets .exit)) (now (waiting .exit))) ≡ stepAt (hostMemory (now (frames .entry)) pages) (desk count i) (core p (now (regs .entry)) (now (latest .entry)), host t (now (words .entry)) (now (shadow .entry))) (queues (now (tickets .entry)) (now (waiting .entry))) ⌝ }
+    ensures { λ r. ⌜ (((r .change, core (r .processor) (now (regs .exit)) (now (latest .exit)) k), host t (now (words .exit)) (now (shadow .exit))), queues (now (tickets .exit)) (now (waiting .exit))) ≡ passedAt (hostMemory (now (frames .entry)) pages) (desk count i) (core p (now (regs .entry)) (now (latest .entry)) k, host t (now (words .entry)) (now (shadow .entry))) (queues (now (tickets .entry)) (now (waiting .entry))) ⌝ ∗ ⌜ r .plain ≡ plainly (r .change) ⌝ }
 {
-    let e = fetch(p, t, pages, regs, frames, shadow, words, latest);
-    let c = access(
+    let e = fetch(p, t, k, pages, regs, frames, shadow, words, latest);
+    let change = access(
         p,
         t,
         pages,
@@ -184,20 +208,30 @@ pub fn step(
         latest,
         e,
     );
-    let s = processor::execute::settle(p, regs, c);
-    let n = retable(t, shadow, c);
+    let s = processor::execute::pass(p, regs, change);
     let q = s.processor;
     Stepped {
         processor: q,
-        table: n,
-        calls: s.calls,
+        change,
+        plain: s.plain,
     }
 }
 
-// Up to k steps of one partition, ending early after one that calls the hypervisor.
-pub fn stretch(
+// What TCOUNT falls by in each step of a spell.
+fn pace(k: Timer) -> u32
+    ensures { λ r. ⌜ r ≡ paceOf k ⌝ }
+{
+    if k.tcount == 0 {
+        return 0;
+    }
+    1
+}
+
+// Up to n plain steps of one partition on end, or up to the first that is not.
+fn spell(
     p: Processor,
     t: Table,
+    k: Timer,
     pages: u32,
     regs: &mut [u32],
     frames: &[u32],
@@ -208,18 +242,20 @@ pub fn stretch(
     tickets: &mut [u32],
     waiting: &mut [u32],
     latest: &mut u32,
-    k: u32,
-) -> Stretched
-    requires { ⌜ length (now regs) ≡ 32 ⌝ ∗ ⌜ Placed (now frames) pages (length (now words)) ⌝ ∗ ⌜ Shadowed (now frames) pages (now shadow) ⌝ ∗ ⌜ Seated count i (queues (now tickets) (now waiting)) ⌝ }
-    ensures { λ r. ⌜ stretchOf r (now (regs .exit)) (now (latest .exit)) (now (words .exit)) (now (shadow .exit)) (queues (now (tickets .exit)) (now (waiting .exit))) ≡ stretchFrom (hostMemory (now (frames .entry)) pages) (desk count i) k 0 (core p (now (regs .entry)) (now (latest .entry)), host t (now (words .entry)) (now (shadow .entry))) (queues (now (tickets .entry)) (now (waiting .entry))) ⌝ }
+    n: u32,
+) -> Spelt
+    requires { ⌜ length (now regs) ≡ 32 ⌝ ∗ ⌜ Placed (now frames) pages (length (now words)) ⌝ ∗ ⌜ Shadowed (now frames) pages (now shadow) ⌝ ∗ ⌜ Seated count i (queues (now tickets) (now waiting)) ⌝ ∗ ⌜ Fits k n ⌝ }
+    ensures { λ r. ⌜ spellOf r t (now (regs .exit)) (now (latest .exit)) (now (words .exit)) (now (shadow .exit)) (queues (now (tickets .exit)) (now (waiting .exit))) ≡ spellFrom (hostMemory (now (frames .entry)) pages) (desk count i) n 0 (core p (now (regs .entry)) (now (latest .entry)) k, host t (now (words .entry)) (now (shadow .entry))) (queues (now (tickets .entry)) (now (waiting .entry))) ⌝ }
 {
     let mut processor = p;
-    let mut table = t;
-    let mut rest = k;
+    let each = pace(k);
+    let mut timer = k;
+    let mut rest = n;
     while rest > 0 {
         let s = step(
             processor,
-            table,
+            t,
+            timer,
             pages,
             regs,
             frames,
@@ -231,14 +267,144 @@ pub fn stretch(
             waiting,
             latest,
         );
+        let change = s.change;
+        processor = s.processor;
+        rest -= 1;
+        if !s.plain {
+            let made = n - rest;
+            return Spelt {
+                processor,
+                timer,
+                made,
+                change,
+            };
+        }
+        timer = processor::timer::fall(timer, each);
+    }
+    Spelt {
+        processor,
+        timer,
+        made: n,
+        change: Change::Plain(0, 0, 0),
+    }
+}
+
+// A spell of up to n steps, and its end: then comes emptying.
+fn leg(
+    p: Processor,
+    t: Table,
+    k: Timer,
+    pages: u32,
+    regs: &mut [u32],
+    frames: &[u32],
+    shadow: &mut [u32],
+    words: &mut [u32],
+    count: u32,
+    i: u32,
+    tickets: &mut [u32],
+    waiting: &mut [u32],
+    latest: &mut u32,
+    n: u32,
+) -> Walked
+    requires { ⌜ length (now regs) ≡ 32 ⌝ ∗ ⌜ Placed (now frames) pages (length (now words)) ⌝ ∗ ⌜ Shadowed (now frames) pages (now shadow) ⌝ ∗ ⌜ Seated count i (queues (now tickets) (now waiting)) ⌝ ∗ ⌜ Fits k n ⌝ }
+    ensures { λ r. ⌜ legOf r (now (regs .exit)) (now (latest .exit)) (now (words .exit)) (now (shadow .exit)) (queues (now (tickets .exit)) (now (waiting .exit))) ≡ legAt (hostMemory (now (frames .entry)) pages) (desk count i) n (core p (now (regs .entry)) (now (latest .entry)) k, host t (now (words .entry)) (now (shadow .entry))) (queues (now (tickets .entry)) (now (waiting .entry))) ⌝ }
+{
+    let s = spell(
+        p,
+        t,
+        k,
+        pages,
+        regs,
+        frames,
+        shadow,
+        words,
+        count,
+        i,
+        tickets,
+        waiting,
+        latest,
+        n,
+    );
+    let change = s.change;
+    let before = processor::timer::sink(k, s.made - 1);
+    let e = processor::execute::settle(s.processor, before, change);
+    let table = retable(t, shadow, change);
+    let processor = e.processor;
+    let timer = e.timer;
+    Walked {
+        processor,
+        table,
+        timer,
+        made: s.made,
+        calls: e.calls,
+    }
+}
+
+// How many of the steps to make a leg may have: up to the one in which TCOUNT reaches 0.
+fn room(k: Timer, rest: u32) -> u32
+    ensures { λ r. ⌜ r ≡ roomOf k rest ⌝ }
+{
+    if k.tcount == 0 {
+        return rest;
+    }
+    if rest < k.tcount {
+        return rest;
+    }
+    k.tcount
+}
+
+// Up to n steps of one partition, ending early after one that calls the hypervisor.
+pub fn stretch(
+    p: Processor,
+    t: Table,
+    k: Timer,
+    pages: u32,
+    regs: &mut [u32],
+    frames: &[u32],
+    shadow: &mut [u32],
+    words: &mut [u32],
+    count: u32,
+    i: u32,
+    tickets: &mut [u32],
+    waiting: &mut [u32],
+    latest: &mut u32,
+    n: u32,
+) -> Stretched
+    requires { ⌜ length (now regs) ≡ 32 ⌝ ∗ ⌜ Placed (now frames) pages (length (now words)) ⌝ ∗ ⌜ Shadowed (now frames) pages (now shadow) ⌝ ∗ ⌜ Seated count i (queues (now tickets) (now waiting)) ⌝ }
+    ensures { λ r. ⌜ stretchOf r (now (regs .exit)) (now (latest .exit)) (now (words .exit)) (now (shadow .exit)) (queues (now (tickets .exit)) (now (waiting .exit))) ≡ stretchFrom (hostMemory (now (frames .entry)) pages) (desk count i) n 0 (core p (now (regs .entry)) (now (latest .entry)) k, host t (now (words .entry)) (now (shadow .entry))) (queues (now (tickets .entry)) (now (waiting .entry))) ⌝ }
+{
+    let mut processor = p;
+    let mut table = t;
+    let mut timer = k;
+    let mut rest = n;
+    while rest > 0 {
+        let most = room(timer, rest);
+        let s = leg(
+            processor,
+            table,
+            timer,
+            pages,
+            regs,
+            frames,
+            shadow,
+            words,
+            count,
+            i,
+            tickets,
+            waiting,
+            latest,
+            most,
+        );
         processor = s.processor;
         table = s.table;
-        rest -= 1;
+        timer = s.timer;
+        rest -= s.made;
         if s.calls {
-            let made = k - rest;
+            let made = n - rest;
             return Stretched {
                 processor,
                 table,
+                timer,
                 made,
                 called: true,
             };
@@ -247,7 +413,8 @@ pub fn stretch(
     Stretched {
         processor,
         table,
-        made: k,
+        timer,
+        made: n,
         called: false,
     }
 }
