@@ -236,26 +236,27 @@ pub gathered-on : (l : List ℕ) (base k bits : ℕ) → some bits ≡ notZero l
 unfolding any
 gathered-on l base k bits e = rw add-one (gathered bits (getD l (base + k) 0) ∙ ap (λ (b : Bool). some (getD l (base + k) 0) || b) e)
 
-turned : (a b c d e f g h i j k l m n : ℕ) → notZero (a ∷ b ∷ c ∷ d ∷ e ∷ f ∷ g ∷ h ∷ i ∷ j ∷ k ∷ l ∷ m ∷ n ∷ []) 0 14 ≡ (some a || some b || some c || some d || some e || some f || some g || some h || some i || some j || some k || some l || some m || some n)
+turned : (a b c d e f g h i j k l m n o q : ℕ) → notZero (a ∷ b ∷ c ∷ d ∷ e ∷ f ∷ g ∷ h ∷ i ∷ j ∷ k ∷ l ∷ m ∷ n ∷ o ∷ q ∷ []) 0 16 ≡ (some a || some b || some c || some d || some e || some f || some g || some h || some i || some j || some k || some l || some m || some n || some o || some q)
 unfolding any
-turned a b c d e f g h i j k l m n =
-    or-turned (some n) _ _ (or-turned (some m) _ _ (or-turned (some l) _ _ (or-turned (some k) _ _ (or-turned (some j) _ _ (or-turned (some i) _ _ (or-turned (some h) _ _ (or-turned (some g) _ _ (or-turned (some f) _ _ (or-turned (some e) _ _ (or-turned (some d) _ _ (or-turned (some c) _ _ (or-turned (some b) _ _ (or-false (some a))))))))))))))
+turned a b c d e f g h i j k l m n o q =
+    or-turned (some q) _ _ (or-turned (some o) _ _ (or-turned (some n) _ _ (or-turned (some m) _ _ (or-turned (some l) _ _ (or-turned (some k) _ _ (or-turned (some j) _ _ (or-turned (some i) _ _ (or-turned (some h) _ _ (or-turned (some g) _ _ (or-turned (some f) _ _ (or-turned (some e) _ _ (or-turned (some d) _ _ (or-turned (some c) _ _ (or-turned (some b) _ _ (or-false (some a))))))))))))))))
 
 module _ (p : Partition) (r : Bool) where
   abbrev numbers : List ℕ
   numbers =
       p .pages ∷ p .processor .dpc ∷ p .processor .pc ∷ p .processor .sr ∷ p .processor .esr ∷ p .processor .eca ∷ p .processor .epc
-      ∷ p .processor .edpc ∷ p .processor .edata ∷ p .processor .mode ∷ p .processor .emode ∷ p .table .pto ∷ p .table .ptl ∷ p .fault ∷ []
+      ∷ p .processor .edpc ∷ p .processor .edata ∷ p .processor .mode ∷ p .processor .emode ∷ p .table .pto ∷ p .table .ptl ∷ p .timer .tcount
+      ∷ p .timer .tload ∷ p .fault ∷ []
 
-  used-is : partitionUsed p ≡ (notZero numbers 0 14 || some (p .counter))
+  used-is : partitionUsed p ≡ (notZero numbers 0 16 || some (p .counter))
   unfolding partitionUsed
   used-is =
       let s = p .processor in
       ap (λ (b : Bool). b || some (p .counter))
-      (sym (turned (p .pages) (s .dpc) (s .pc) (s .sr) (s .esr) (s .eca) (s .epc) (s .edpc) (s .edata) (s .mode) (s .emode) (p .table .pto) (p .table .ptl) (p .fault)))
+      (sym (turned (p .pages) (s .dpc) (s .pc) (s .sr) (s .esr) (s .eca) (s .epc) (s .edpc) (s .edata) (s .mode) (s .emode) (p .table .pto) (p .table .ptl) (p .timer .tcount) (p .timer .tload) (p .fault)))
 
-  pub number-used : r ≡ notZero numbers 0 14 → r ≡ true → true ≡ partitionUsed p
+  pub number-used : r ≡ notZero numbers 0 16 → r ≡ true → true ≡ partitionUsed p
   number-used e t = sym (used-is ∙ rw (sym e ∙ t) refl)
 
-  pub counter-used : r ≡ notZero numbers 0 14 → r ≡ false → not (eqb (p .counter) 0) ≡ partitionUsed p
+  pub counter-used : r ≡ notZero numbers 0 16 → r ≡ false → not (eqb (p .counter) 0) ≡ partitionUsed p
   counter-used e t = sym (used-is ∙ rw (sym e ∙ t) refl)

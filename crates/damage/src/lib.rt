@@ -279,6 +279,7 @@ fn partition_used(p: Partition) -> bool
 {
     let s = p.processor;
     let t = p.table;
+    let k = p.timer;
     let numbers = [
         p.pages,
         s.dpc,
@@ -293,9 +294,11 @@ fn partition_used(p: Partition) -> bool
         s.emode,
         t.pto,
         t.ptl,
+        k.tcount,
+        k.tload,
         p.fault,
     ];
-    if not_zero(&numbers, 0, 14) {
+    if not_zero(&numbers, 0, 16) {
         return true;
     }
     return p.counter != 0;

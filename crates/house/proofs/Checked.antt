@@ -13,10 +13,11 @@ use Rattle.dlx.specs.Choice.{if_then_else_}
 use Rattle.dlx.specs.Words.{extendedBy, readIn, holds}
 use Rattle.dlx.specs.Instructions.{registerType, partType, instructionOf}
 use Rattle.dlx.specs.Fields.{field, put, width, brought, placed}
-use Rattle.dlx.specs.Processor.{specialOf, withSpecial}
+use Rattle.dlx.specs.Processor.{specialOf, withSpecial, withCount}
 use Rattle.dlx.specs.Interrupts.{levelOf, interrupted}
+use Rattle.dlx.specs.Timer.{ticked, raised}
 use Rattle.dlx.specs.Execute.{written, valueOf, overflowsOf, operated, reached, loads, stores, movedTo, trapOf, effectOf}
-use Rattle.dlx.specs.Machine.{executed, fetched, loaded, stored, accessed, received, afterRead, afterWrite, settled, retabled, step, requestOf, asked}
+use Rattle.dlx.specs.Machine.{executed, fetched, loaded, stored, accessed, received, afterRead, afterWrite, left, handled, changed, settled, retabled, step, requestOf, asked}
 use Rattle.dlx.specs.Examples.{all, same}
 use Rattle.translate.specs.Entries.{judged, composed}
 use Rattle.translate.specs.Walk.{walked, direct}
@@ -30,7 +31,7 @@ use Rattle.house.specs.Damage.{outsideLimits, frameTwice, turnWrong, reg
 use Rattle.house.specs.Boot.{firstOf, sum, bootVerdict, laid, offset, bootedHouse}
 use Rattle.house.specs.Turns.{nextFrom, turnOf, requestNow, replyNow, queuesNext, guestStep, settledHouse, stepWith, hostStep, hostSteps}
 use Rattle.house.specs.Calls.{bootCall, runVerdict, runCall, oneVerdict, started, stopped, emptiedHouse, startCall, stopCall, emptyCall, readVerdict, readOut, readCall}
-use Rattle.house.specs.Examples.{alone, two, idle, three, uneven, seven, busy, pair, interrupt, current, answers, flags, fields, numbers, sameHouse, sameWorld, ran, once, mapped, papers, plain, unbooted, boots, widest, after, trapped, six, counts, stepping, comes, turns, shares, missized, refuses, does, reading, gives, calls, beyond, within, twice, once-each, outOfTurn, inTurn, misset, set-right, astray, used, damages, places, leaves, across, exchanges, whole}
+use Rattle.house.specs.Examples.{alone, two, idle, three, uneven, seven, busy, pair, interrupt, current, answers, flags, fields, numbers, sameHouse, sameWorld, ran, once, mapped, papers, plain, unbooted, boots, widest, after, trapped, six, counts, stepping, comes, timing, tolls, turns, shares, missized, refuses, does, reading, gives, calls, beyond, within, twice, once-each, outOfTurn, inTurn, misset, set-right, astray, used, damages, places, leaves, across, exchanges, whole}
 use Rattle.house.proofs.Damage.Updates.{fresh-long, fresh-at}
 use Rattle.house.proofs.Lists.Bounded.{and-right}
 use Rattle.house.proofs.Lists.ByRule.{getD-listFrom, length-listFrom}
@@ -67,7 +68,7 @@ joined (x ∷ a) b e f = rw (and-left x (all a) e) (joined a b (and-right x (all
 
 -- all that the examples compute with, but damage
 computing : ℕ
-unfolding freshShadows all papers boots widest turns shares calls whole damages places exchanges leaves across alone two idle three uneven seven busy pair interrupt current answers same flags fields numbers sameHouse sameWorld ran once mapped plain unbooted after trapped six counts stepping comes missized refuses does reading gives beyond within twice once-each outOfTurn inTurn misset set-right astray used inner outer listFrom any firstFrom firstOf sum bootVerdict laid offset bootedHouse nextFrom turnOf requestNow replyNow queuesNext desk sending taking asked requestOf guestStep settledHouse stepWith hostStep hostSteps bootCall runVerdict runCall oneVerdict started stopped emptiedHouse startCall stopCall emptyCall readVerdict readOut readCall judged composed walked direct hosted given filled looked served hostRead emptied hostWritten hostReads hostWrites step fetched executed loaded stored accessed received afterRead afterWrite settled retabled instructionOf registerType effectOf written valueOf overflowsOf operated reached loads stores movedTo trapOf specialOf withSpecial interrupted levelOf trailingZeros extendedBy readIn holds partType field put width brought placed
+unfolding freshShadows all papers boots widest turns shares calls whole damages places exchanges leaves across alone two idle three uneven seven busy pair interrupt current answers same flags fields numbers sameHouse sameWorld ran once mapped plain unbooted after trapped six counts stepping comes timing tolls missized refuses does reading gives beyond within twice once-each outOfTurn inTurn misset set-right astray used inner outer listFrom any firstFrom firstOf sum bootVerdict laid offset bootedHouse nextFrom turnOf requestNow replyNow queuesNext desk sending taking asked requestOf guestStep settledHouse stepWith hostStep hostSteps bootCall runVerdict runCall oneVerdict started stopped emptiedHouse startCall stopCall emptyCall readVerdict readOut readCall judged composed walked direct hosted given filled looked served hostRead emptied hostWritten hostReads hostWrites step fetched executed loaded stored accessed received afterRead afterWrite left handled changed settled ticked raised retabled instructionOf registerType effectOf written valueOf overflowsOf operated reached loads stores movedTo trapOf specialOf withSpecial withCount interrupted levelOf trailingZeros extendedBy readIn holds partType field put width brought placed
 computing = 0
 
 -- how a call comes to its answer
@@ -103,9 +104,6 @@ checked =
     of-turns : all turns ≡ true
     of-turns = unfold computing in refl
 
-    of-shares : all shares ≡ true
-    of-shares = unfold computing in refl
-
     -- Damage reads thousands of places: first each is turned into what stands there, then all is computed.
     two-whole : damaged two ≡ false
     two-whole = unfold damaging in simp (part-at, rule-at, getD-replicate-same, fresh-at) (unfold computing in refl)
@@ -121,6 +119,9 @@ checked =
 
     none-damaged : damaged noHouse ≡ true
     none-damaged = unfold damaging in refl
+
+    of-shares : all shares ≡ true
+    of-shares = unfold computing in refl
 
     of-calls : all calls ≡ true
     of-calls = unfold answering in simp (two-whole, idle-whole, uneven-whole, missized-damaged, none-damaged) (unfold computing damaged in refl)

@@ -80,6 +80,8 @@ partitionUsed p =
     || not (eqb (p .processor .emode) 0)
     || not (eqb (p .table .pto) 0)
     || not (eqb (p .table .ptl) 0)
+    || not (eqb (p .timer .tcount) 0)
+    || not (eqb (p .timer .tload) 0)
     || not (eqb (p .fault) 0)
     || not (eqb (p .counter) 0)
 

@@ -6,11 +6,12 @@ use Prim.Native.Nat.{ℕ, _+_, _-_, _*_, _^_}
 use lib.Dec.{eqb}
 use lib.ListN.{length, getD, set, take, drop, replicate}
 use mir.Val.{boolByte}
-use Rattle.dlx.specs.Processor.{freshOf, withProcessor, withTable, withCounter, withFault}
+use Rattle.dlx.specs.Processor.{freshOf, withProcessor, withTable, withTimer, withCounter, withFault}
 use Rattle.dlx.specs.Examples.{same}
 use Rattle.dlx.specs.Interrupts.{levelOf}
 use Rattle.dlx.specs.declared.partition.Partition.{Partition}
 use Rattle.dlx.specs.declared.partition.Processor.{Processor}
+use Rattle.dlx.specs.declared.partition.Timer.{Timer}
 use Rattle.translate.specs.Entries.{entryOf, faultWord, compositionOf}
 use Rattle.translate.specs.Walk.{entries}
 use Rattle.house.specs.Lists.{listFrom}
@@ -93,11 +94,15 @@ abbrev part : ℕ → Processor → ℕ → ℕ → ℕ → Partition
 part pages p pto ptl counter =
     withCounter (withTable (withProcessor (freshOf pages) p) (record { pto = pto; ptl = ptl })) counter
 
+abbrev timer : ℕ → ℕ → Timer
+timer tcount tload = record { tcount = tcount; tload = tload }
+
 -- Four partitions of two pages, turns of 9 steps, of which c is current with l left. Every place holds another number; partition 1 has the frames 2 and
 -- 1, and no shadow entry is valid. What the examples do not reach of its lists is left out.
 abbrev numbered : ℕ → Partition
 numbered i =
-    withFault
+    withTimer
+    (withFault
     (part 2
     (record {
       dpc = 100 + i;
@@ -112,7 +117,8 @@ numbered i =
       emode = 190 + i;
     })
     (200 + i) (210 + i) (220 + i))
-    (230 + i)
+    (230 + i))
+    (timer (240 + i) (250 + i))
 
 abbrev alternate : List Bool
 alternate = true ∷ true ∷ false ∷ true ∷ replicate 4 false
@@ -149,7 +155,7 @@ current h c l = eqb (h .current) c && eqb (h .left) l
 unfoldable pub answers : Verdict → ℕ → ℕ → Bool
 answers v n d = eqb (v .number) n && eqb (v .detail) d
 
--- every number in a house, 10,893 of them
+-- every number in a house, 10,909 of them
 
 unfoldable pub flags : List Bool → List ℕ
 flags [] = []
@@ -160,7 +166,7 @@ fields [] = []
 fields (p ∷ ps) =
     let c = p .processor in
     p .pages ∷ c .dpc ∷ c .pc ∷ c .sr ∷ c .esr ∷ c .eca ∷ c .epc ∷ c .edpc ∷ c .edata ∷ c .mode ∷ c .emode
-    ∷ p .table .pto ∷ p .table .ptl ∷ p .counter ∷ p .fault ∷ fields ps
+    ∷ p .table .pto ∷ p .table .ptl ∷ p .counter ∷ p .fault ∷ p .timer .tcount ∷ p .timer .tload ∷ fields ps
 
 unfoldable pub numbers : House → List ℕ
 numbers h =
@@ -267,7 +273,7 @@ plain q words = bootVerdict (1 ∷ []) q (1 ∷ []) words
 -- a refused boot returns the house of no partitions, every number in it 0, and the memory as it was
 unfoldable pub unbooted : Answered → ℕ → ℕ → List ℕ → Bool
 unbooted a n d m =
-    answers (a .verdict) n d && same (numbers (a .world .house)) (zeros 10893) && same (a .world .memory) m
+    answers (a .verdict) n d && same (numbers (a .world .house)) (zeros 10909) && same (a .world .memory) m
 
 unfoldable pub boots : List Bool
 boots =
@@ -331,7 +337,7 @@ boots =
     answers (a .verdict) 0 0
     && same (numbers (a .world .house))
     (3 ∷ 7 ∷ 6144 ∷ 0 ∷ 7 ∷ 1 ∷ 1 ∷ 1 ∷ zeros 5
-    ++ (2 ∷ 0 ∷ 4 ∷ zeros 12 ++ (1 ∷ 0 ∷ 4 ∷ zeros 12 ++ (2 ∷ 0 ∷ 4 ∷ zeros 12 ++ (zeros 75 ++ (zeros 256 ++ (4 ∷ 2 ∷ zeros 254 ++ (3 ∷ zeros 255 ++ (5 ∷ 1 ∷ zeros 1534 ++ (freshShadows ++ zeros 264))))))))))
+    ++ (2 ∷ 0 ∷ 4 ∷ zeros 14 ++ (1 ∷ 0 ∷ 4 ∷ zeros 14 ++ (2 ∷ 0 ∷ 4 ∷ zeros 14 ++ (zeros 85 ++ (zeros 256 ++ (4 ∷ 2 ∷ zeros 254 ++ (3 ∷ zeros 255 ++ (5 ∷ 1 ∷ zeros 1534 ++ (freshShadows ++ zeros 264))))))))))
     && same (a .world .memory) (told 6144))
     ∷ []
 
@@ -374,6 +380,15 @@ unfoldable pub comes : World → ℕ → ℕ → Processor → List ℕ → List
 comes w c l p regs shadows m =
     sameWorld w (houseAt (busy alternate 1 0) c l (set (listFrom numbered 0 8) 1 (withFault (part 2 p 0 2 501) 3)) regs shadows) m
 
+-- such a step in system mode with SR 8256, in which its TCOUNT falls from n, with TLOAD 94
+unfoldable pub timing : ℕ → ℕ → ℕ → World
+timing l n w =
+    hostStep (world (withPart (busy alternate 1 l) 1 (withTimer (withFault (part 2 (at 8 12 8256 0 1) 0 2 500) 3) (timer n 94))) (lent w))
+
+unfoldable pub tolls : World → ℕ → ℕ → ℕ → Processor → ℕ → Bool
+tolls w c l n p v =
+    sameWorld w (houseAt (busy alternate 1 0) c l (set (listFrom numbered 0 8) 1 (withTimer (withFault (part 2 p 0 2 501) 3) (timer n 94))) (busy alternate 1 0 .regs) (busy alternate 1 0 .shadows)) (lent v)
+
 unfoldable pub turns : List Bool
 turns =
     -- [turn: one step] takes 1 from the steps left
@@ -396,7 +411,7 @@ turns =
     -- [turn: one step] changes nothing of another partition's
     ∷ same (numbers six)
     (2 ∷ 5 ∷ 3072 ∷ 1 ∷ 4 ∷ 1 ∷ 1 ∷ zeros 6
-    ++ (1 ∷ 0 ∷ 4 ∷ 0 ∷ 0 ∷ 2 ∷ 4 ∷ 0 ∷ zeros 5 ++ (5 ∷ 0 ∷ 1 ∷ 4 ∷ 8 ∷ zeros 10 ++ (1 ∷ zeros 91 ++ (zeros 33 ++ (5 ∷ zeros 222 ++ (1 ∷ zeros 255 ++ (2 ∷ zeros 10247))))))))
+    ++ (1 ∷ 0 ∷ 4 ∷ 0 ∷ 0 ∷ 2 ∷ 4 ∷ 0 ∷ zeros 5 ++ (5 ∷ 0 ∷ 0 ∷ 0 ∷ 1 ∷ 4 ∷ 8 ∷ zeros 10 ++ (1 ∷ zeros 105 ++ (zeros 33 ++ (5 ∷ zeros 222 ++ (1 ∷ zeros 255 ++ (2 ∷ zeros 10247))))))))
     -- in a full house: 0xAC4116B2 stores 1033 at 0x1ABC of partition 1, so in frame 1
     ∷ comes (stepping 5 0 0xAC4116B2) 1 4 (own 12 16 0 1) (busy alternate 1 0 .regs) (busy alternate 1 0 .shadows)
     (set (lent 0xAC4116B2) 1711 1033)
@@ -417,6 +432,15 @@ turns =
     ∷ comes (stepping 5 0 0) 1 4
     (record { dpc = 0; pc = 4; sr = 0; esr = 64; eca = 2; epc = 12; edpc = 8; edata = 95; mode = 0; emode = 0 }) (busy alternate 1 0 .regs)
     (busy alternate 1 0 .shadows) (lent 0)
+    -- [timer: own steps] move it, and no other partition's; it ends no turn
+    ∷ tolls (timing 5 7 (2 ^ 26 * 5)) 1 4 6 (at 12 16 8256 0 1) (2 ^ 26 * 5)
+    ∷ tolls (timing 5 1 (2 ^ 26 * 5)) 1 4 94
+    (record { dpc = 0; pc = 4; sr = 0; esr = 8256; eca = 8192; epc = 16; edpc = 12; edata = 95; mode = 0; emode = 0 }) (2 ^ 26 * 5)
+    ∷ tolls (timing 1 1 (2 ^ 26 * 5)) 3 9 94
+    (record { dpc = 0; pc = 4; sr = 0; esr = 8256; eca = 8192; epc = 16; edpc = 12; edata = 95; mode = 0; emode = 0 }) (2 ^ 26 * 5)
+    -- [timer: trap] in system mode beside cause 13: the turn passes
+    ∷ tolls (timing 5 1 0xF8000007) 3 9 94
+    (record { dpc = 0; pc = 4; sr = 0; esr = 8256; eca = 8224; epc = 16; edpc = 12; edata = 7; mode = 0; emode = 0 }) 0xF8000007
     -- [turn: stopping the current one] passes it likewise
     ∷ current (stopped (after 1 three) 0) 1 2
     ∷ current (stopped (after 5 three) 2) 0 2
@@ -684,6 +708,9 @@ set-right =
     ∷ withPart two 1 (part 1 (at 0 4 0 1 0) 0 0 0)
     ∷ withPart two 1 (part 1 (at 0 4 0 0 1) 0 0 0)
     ∷ withPart two 1 (withFault (freshOf 1) 7)
+    -- [timer in a used partition] any value
+    ∷ withPart two 0 (withTimer (freshOf 1) (timer 1 0))
+    ∷ withPart two 1 (withTimer (freshOf 1) (timer 4294967295 4294967295))
     ∷ []
 
 -- shadow entries
@@ -708,7 +735,8 @@ one k j = boolByte (eqb k j)
 
 unfoldable pub used : ℕ → Partition
 used k =
-    withFault
+    withTimer
+    (withFault
     (part (one k 0)
     (record {
       dpc = one k 1;
@@ -723,13 +751,14 @@ used k =
       emode = one k 10;
     })
     (one k 11) (one k 12) (one k 13))
-    (one k 14)
+    (one k 14))
+    (timer (one k 15) (one k 16))
 
 -- each by its own condition; and each is damage
 unfoldable pub damages : List Bool
 damages =
-    map (λ k. partitionUsed (used k)) (upTo 15)
-    ++ (not (partitionUsed (used 15))
+    map (λ k. partitionUsed (used k)) (upTo 17)
+    ++ (not (partitionUsed (used 17))
     ∷ map outsideLimits beyond
     ++ (map (λ h. not (outsideLimits h)) within
     ++ (map frameTwice twice
@@ -749,6 +778,8 @@ places =
     -- [damage: unused partition] each of its numbers, above
     ∷ unusedWrong (withPart seven 7 (used 0))
     ∷ unusedWrong (withPart two 7 (used 14))
+    ∷ unusedWrong (withPart seven 7 (used 15))
+    ∷ unusedWrong (withPart two 2 (used 16))
     -- [damage: unused register]
     ∷ unusedWrong (withRegisters seven (set (zeros 256) 224 1))
     ∷ unusedWrong (withRegister 255 1)

@@ -100,6 +100,8 @@ pub record TypedPartition (p : Partition) : Type 0 where
   pub emode : p .processor .emode < 2 ^ 32
   pub pto : p .table .pto < 2 ^ 32
   pub ptl : p .table .ptl < 2 ^ 32
+  pub tcount : p .timer .tcount < 2 ^ 32
+  pub tload : p .timer .tload < 2 ^ 32
   pub counter : p .counter < 2 ^ 64
   pub fault : p .fault < 2 ^ 32
 

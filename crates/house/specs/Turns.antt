@@ -6,7 +6,7 @@ use lib.Dec.{eqb}
 use lib.ListN.{getD, set}
 use Rattle.dlx.specs.Choice.{if_then_else_}
 use Rattle.dlx.specs.Machine.{Ops, Core, core, Outcome, Request, asked, step, Stretch}
-use Rattle.dlx.specs.Processor.{withProcessor, withTable, withCounter, withFault}
+use Rattle.dlx.specs.Processor.{withProcessor, withTable, withTimer, withCounter, withFault}
 use Rattle.dlx.specs.declared.execute.Reply.{Reply}
 use Rattle.dlx.specs.declared.partition.Partition.{Partition}
 use Rattle.dlx.specs.declared.partition.Table.{Table}
@@ -52,7 +52,7 @@ turnAfter h made calls = turnOf (h .running) (h .count) (h .q) (h .current) (h .
 abbrev pub guest : World → ℕ → Core × Host
 guest w i =
     let p = partition (w .house) i in
-    (core (p .processor) (registersOf (w .house) i) (p .fault), host (p .table) (w .memory) (shadowOf (w .house) i))
+    (core (p .processor) (registersOf (w .house) i) (p .fault) (p .timer), host (p .table) (w .memory) (shadowOf (w .house) i))
 
 abbrev pub guestMemory : House → ℕ → Ops Host
 guestMemory h i = hostMemory (framesOf h i) (pagesOf h i)
@@ -72,7 +72,7 @@ guestStep w i = step (guestMemory (w .house) i) (replyNow w i) (guest w i)
 
 -- the partition with what its guest came to
 abbrev pub withGuest : Partition → Core → Table → Partition
-withGuest p c t = withFault (withTable (withProcessor p (c .processor)) t) (c .fault)
+withGuest p c t = withFault (withTimer (withTable (withProcessor p (c .processor)) t) (c .timer)) (c .fault)
 
 -- the partition after its step: its counter goes up by 1, modulo 2^64
 abbrev pub counted : Partition → Outcome × Host → Partition

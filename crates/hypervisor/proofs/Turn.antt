@@ -8,7 +8,7 @@ use borrow.Author.Tests.{leb-true, leb-false}
 use lib.Dec.{leb}
 use lib.ListN.{length, getD, set, take, drop}
 use Rattle.dlx.specs.Choice.{if_then_else_}
-use Rattle.dlx.specs.Processor.{withProcessor, withTable, withCounter, withFault}
+use Rattle.dlx.specs.Processor.{withProcessor, withTable, withTimer, withCounter, withFault}
 use Rattle.dlx.specs.Machine.{core, stretchFrom}
 use Rattle.dlx.proofs.Kept.{either}
 use Rattle.dlx.specs.declared.partition.Partition.{Partition}
@@ -43,7 +43,7 @@ module _ (h : House) (current left : ℕ) (parts : List Partition) (regs shadows
     abbrev Asked : ℕ → Type 0
     Asked i =
         stretchOf s regs′ latest m′ shadow′ (queues tickets′ waiting′)
-        ≡ stretchFrom (hostMemory (lent i 256 (h .frames)) (getD parts i noPartition .pages)) (desk (h .count) current) n 0 (core (getD parts i noPartition .processor) (lent i 32 regs) (getD parts i noPartition .fault), host (getD parts i noPartition .table) m (lent i entries shadows)) (queues tickets waiting)
+        ≡ stretchFrom (hostMemory (lent i 256 (h .frames)) (getD parts i noPartition .pages)) (desk (h .count) current) n 0 (core (getD parts i noPartition .processor) (lent i 32 regs) (getD parts i noPartition .fault) (getD parts i noPartition .timer), host (getD parts i noPartition .table) m (lent i entries shadows)) (queues tickets waiting)
 
     pub asked-turned : (i : ℕ) → i ≡ current → Asked i → Sound here → 0 < n → n ≤ left → Turned here n (stretchOf s regs′ latest m′ shadow′ (queues tickets′ waiting′))
     unfolding inner
@@ -55,7 +55,7 @@ module _ (h : House) (current left : ℕ) (parts : List Partition) (regs shadows
     -- the house that the loop's body makes of its answer
     abbrev Made : Turn → ℕ → ℕ → World
     Made t counter i =
-        world (withQueues (houseAt h (t .current) (t .left) (set parts i (withCounter (withFault (withTable (withProcessor (getD parts i noPartition) (s .processor)) (s .table)) latest) counter)) (back i 32 regs regs′) (back i entries shadows shadow′)) (queues tickets′ waiting′)) m′
+        world (withQueues (houseAt h (t .current) (t .left) (set parts i (withCounter (withFault (withTimer (withTable (withProcessor (getD parts i noPartition) (s .processor)) (s .table)) (s .timer)) latest) counter)) (back i 32 regs regs′) (back i entries shadows shadow′)) (queues tickets′ waiting′)) m′
 
     pub after-turn : (i : ℕ) (t : Turn) (counter : ℕ) → i ≡ current → Turned here n (stretchOf s regs′ latest m′ shadow′ (queues tickets′ waiting′)) → t ≡ turnOf (h .running) (h .count) (h .q) current left (s .made) (s .called) → counter ≡ (getD parts i noPartition .counter + s .made) % 2 ^ 64 → Made t counter i ≡ hostSteps (s .made) here
     unfolding stretchedHouse outer

@@ -110,6 +110,7 @@ pub fn steps(mut h: House, memory: &mut [u32], k: u32) -> House
         let s = engine::stretch(
             p.processor,
             p.table,
+            p.timer,
             p.pages,
             &mut regs[a..b],
             &frames[c..d],
@@ -124,8 +125,10 @@ pub fn steps(mut h: House, memory: &mut [u32], k: u32) -> House
         );
         let processor = s.processor;
         let table = s.table;
+        let timer = s.timer;
         p.processor = processor;
         p.table = table;
+        p.timer = timer;
         p.fault = latest;
         p.counter = std::num::wrapping_add_u64(p.counter, s.made as u64);
         parts[i] = p;

@@ -10,10 +10,10 @@ not-zero-requires : tie.Need-not-zero-requires
 not-zero-requires c κs = search needs
 
 returns : tie.Need-returns
-returns c = number-used (c .before .before .before .before .before .args .p) _ (c .before .not-zero .ensures) (c .if1 .taken)
+returns c = number-used (c .before .before .before .before .before .before .args .p) _ (c .before .not-zero .ensures) (c .if1 .taken)
 
 returns-2 : tie.Need-returns-2
-returns-2 c = counter-used (c .before .before .before .before .before .before .args .p) _ (c .before .before .not-zero .ensures) (c .before .if1 .left)
+returns-2 c = counter-used (c .before .before .before .before .before .before .before .args .p) _ (c .before .before .not-zero .ensures) (c .before .if1 .left)
 
 pub partition-used-spec : {M : Type 1} → statement M
 partition-used-spec =

@@ -104,7 +104,7 @@ used-none b (n ∷ ns) e (suc k) = used-none (b || not (eqb n 0)) ns e k
 abbrev numbers : Partition → List ℕ
 numbers p =
     let c = p .processor in
-    p .pages ∷ c .dpc ∷ c .pc ∷ c .sr ∷ c .esr ∷ c .eca ∷ c .epc ∷ c .edpc ∷ c .edata ∷ c .mode ∷ c .emode ∷ p .table .pto ∷ p .table .ptl ∷ p .fault ∷ p .counter ∷ []
+    p .pages ∷ c .dpc ∷ c .pc ∷ c .sr ∷ c .esr ∷ c .eca ∷ c .epc ∷ c .edpc ∷ c .edata ∷ c .mode ∷ c .emode ∷ p .table .pto ∷ p .table .ptl ∷ p .timer .tcount ∷ p .timer .tload ∷ p .fault ∷ p .counter ∷ []
 
 pub partition-unused : (p : Partition) → partitionUsed p ≡ false → p ≡ noPartition
 unfolding partitionUsed
@@ -123,9 +123,11 @@ partition-unused p e =
     let z10 : p .processor .emode ≡ 0 = z 10 in
     let z11 : p .table .pto ≡ 0 = z 11 in
     let z12 : p .table .ptl ≡ 0 = z 12 in
-    let z13 : p .fault ≡ 0 = z 13 in
-    let z14 : p .counter ≡ 0 = z 14 in
-    rw (z0, z1, z2, z3, z4, z5, z6, z7, z8, z9, z10, z11, z12, z13, z14)
+    let z13 : p .timer .tcount ≡ 0 = z 13 in
+    let z14 : p .timer .tload ≡ 0 = z 14 in
+    let z15 : p .fault ≡ 0 = z 15 in
+    let z16 : p .counter ≡ 0 = z 16 in
+    rw (z0, z1, z2, z3, z4, z5, z6, z7, z8, z9, z10, z11, z12, z13, z14, z15, z16)
 
 pub unused-partition : (p : Partition) → p ≡ noPartition → partitionUsed p ≡ false
 unfolding partitionUsed

@@ -103,6 +103,8 @@ zeros-typed pc n l m = record {
   emode = omega arith;
   pto = omega arith;
   ptl = omega arith;
+  tcount = omega arith;
+  tload = omega arith;
   counter = omega arith;
   fault = omega arith;
 }

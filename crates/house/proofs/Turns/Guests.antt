@@ -54,6 +54,7 @@ module _ (w : World) (r : Ready w) where
           words = part-each (λ x. x < 2 ^ 32) (w .house .regs) (i * 32) 32 (omega arith) (r .typed .regs);
         };
         fault = omega (arith, r .whole .fault i here);
+        timer = record { tcount = r .typed .parts i .tcount; tload = r .typed .parts i .tload };
       }
 
   memory-kept : KeptHost (framesOf (w .house) i) (pagesOf (w .house) i) (length (w .memory)) (guest w i .1)

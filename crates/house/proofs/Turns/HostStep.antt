@@ -106,6 +106,8 @@ module _ (w : World) (r : Ready w) (o : Outcome × Host) (t : Turn) where
           emode = omega (arith, p .emode);
           pto = memory .table .pto;
           ptl = memory .table .ptl;
+          tcount = core .timer .tcount;
+          tload = core .timer .tload;
           counter = omega arith;
           fault = omega (arith, core .fault);
         }
