@@ -6,7 +6,7 @@ use Prim.Native.Nat.{ℕ, zero, suc, _+_, _*_, _/_, _%_}
 use lib.Dec.{eqb, ltb}
 use lib.ListN.{length, getD, replicate}
 use Rattle.dlx.specs.Choice.{if_then_else_}
-use Rattle.dlx.specs.Processor.{freshProcessor}
+use Rattle.dlx.specs.Processor.{freshProcessor, noTimer}
 use Rattle.dlx.specs.Machine.{Core, core, Request, asked, reply}
 use Rattle.dlx.specs.declared.execute.Reply.{Reply}
 use Rattle.translate.specs.Memory.{Lone, lone, loneMemory, hostWord}
@@ -109,7 +109,7 @@ unfoldable pub startsAndStops : List Call → World → ℕ
 startsAndStops [] w = 0
 startsAndStops (c ∷ cs) w = startOrStop c w + startsAndStops cs (after c w)
 
--- ---- the lone machine of partition i: its registers and special registers, its table, and the words of its pages
+-- ---- the lone machine of partition i: its registers and special registers, its timer, its table, and the words of its pages
 
 abbrev pub ownWords : World → ℕ → List ℕ
 ownWords w i = listFrom (hostWord (framesOf (w .house) i) (w .memory)) 0 (pagesOf (w .house) i * 1024)
@@ -117,12 +117,12 @@ ownWords w i = listFrom (hostWord (framesOf (w .house) i) (w .memory)) 0 (pagesO
 unfoldable pub loneOf : World → ℕ → Core × Lone
 loneOf w i =
     let p = partition (w .house) i in
-    (core (p .processor) (registersOf (w .house) i) (p .fault), lone (p .table) (ownWords w i))
+    (core (p .processor) (registersOf (w .house) i) (p .fault) (p .timer), lone (p .table) (ownWords w i))
 
--- as it starts: all registers zero but PC = 4, no fault yet, and the words that its frames hold at boot
+-- as it starts: all registers zero but PC = 4, the timer's too, no fault yet, and the words that its frames hold at boot
 unfoldable pub loneAtBoot : Boot → ℕ → Core × Lone
 loneAtBoot b i = (
-  core freshProcessor (replicate 32 0) 0,
+  core freshProcessor (replicate 32 0) 0 noTimer,
   lone (record { pto = 0; ptl = 0 })
       (listFrom (λ j. getD (b .memory) (getD (b .frames) (offset (b .pages) i + j / 1024) 0 * 1024 + j % 1024) 0) 0 (getD (b .pages) i 0 * 1024)),
 )

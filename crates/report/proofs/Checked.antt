@@ -6,10 +6,11 @@ use lib.Count.{trailingZeros}
 use Rattle.dlx.specs.Words.{extendedBy, readIn, holds}
 use Rattle.dlx.specs.Instructions.{registerType, partType, instructionOf}
 use Rattle.dlx.specs.Fields.{field as wordField, put, width, brought, placed}
-use Rattle.dlx.specs.Processor.{specialOf, withSpecial}
+use Rattle.dlx.specs.Processor.{specialOf, withSpecial, withCount}
 use Rattle.dlx.specs.Interrupts.{levelOf, interrupted}
+use Rattle.dlx.specs.Timer.{ticked, raised}
 use Rattle.dlx.specs.Execute.{written, valueOf, overflowsOf, operated, reached, loads, stores, movedTo, trapOf, effectOf}
-use Rattle.dlx.specs.Machine.{executed, fetched, loaded, stored, accessed, received, afterRead, afterWrite, settled, retabled, step, requestOf, asked}
+use Rattle.dlx.specs.Machine.{executed, fetched, loaded, stored, accessed, received, afterRead, afterWrite, left, handled, changed, settled, retabled, step, requestOf, asked}
 use Rattle.translate.specs.Entries.{judged}
 use Rattle.translate.specs.Walk.{walked, direct}
 use Rattle.translate.specs.Memory.{hosted, given, filled, looked, served, hostRead, emptied, hostWritten, hostReads, hostWrites}
@@ -25,5 +26,5 @@ use Rattle.report.specs.Report.{field, line, header, lineOf, linesFrom, 
 use Rattle.report.specs.Examples.{refusals, first, eight, byHand, reports}
 
 pub checked : all (refusals ++ reports) ≡ true
-unfolding all same refusals first eight byHand reports ascii decimalIn decimal field line header lineOf linesFrom reportOf refusedText hostSteps hostStep stepWith settledHouse guestStep requestNow replyNow queuesNext desk sending taking asked requestOf turnOf nextFrom bootedHouse laid offset listFrom inner outer judged walked direct hosted given filled looked served hostRead emptied hostWritten hostReads hostWrites step fetched executed loaded stored accessed received afterRead afterWrite settled retabled instructionOf registerType partType wordField put width brought placed effectOf written valueOf overflowsOf operated reached loads stores movedTo trapOf specialOf withSpecial interrupted levelOf trailingZeros extendedBy readIn holds
+unfolding all same refusals first eight byHand reports ascii decimalIn decimal field line header lineOf linesFrom reportOf refusedText hostSteps hostStep stepWith settledHouse guestStep requestNow replyNow queuesNext desk sending taking asked requestOf turnOf nextFrom bootedHouse laid offset listFrom inner outer judged walked direct hosted given filled looked served hostRead emptied hostWritten hostReads hostWrites step fetched executed loaded stored accessed received afterRead afterWrite left handled changed settled ticked raised retabled instructionOf registerType partType wordField put width brought placed effectOf written valueOf overflowsOf operated reached loads stores movedTo trapOf specialOf withSpecial withCount interrupted levelOf trailingZeros extendedBy readIn holds
 checked = refl

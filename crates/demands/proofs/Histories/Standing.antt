@@ -65,7 +65,7 @@ right-is {fr} {base} {n} {s} {h} r =
 
 -- a partition's lone machine by its parts
 abbrev alone : Partition → List ℕ → List ℕ → List ℕ → Core × Lone
-alone p regs fr m = (core (p .processor) regs (p .fault), lone (p .table) (listFrom (hostWord fr m) 0 (p .pages * 1024)))
+alone p regs fr m = (core (p .processor) regs (p .fault) (p .timer), lone (p .table) (listFrom (hostWord fr m) 0 (p .pages * 1024)))
 
 module _ (b : Boot) (w : World) (st : Standing b w) where
   pub standing-small : {i : ℕ} → i < w .house .count → i < 8
@@ -180,7 +180,7 @@ module _ (b : Boot) (w : World) (st : Standing b w) where
         let fr = framesOf (w .house) j in
         ap (λ (p : Partition). alone p (registersOf (hostStep w .house) j) fr (made .1 .words)) (other-partition on i on-shaped (standing-small (st .here)) made regs shadow next j (standing-small l) d)
         ∙ ap (λ (r : List ℕ). alone (partition (w .house) j) r fr (made .1 .words)) (other-registers on i on-shaped (standing-small (st .here)) made regs shadow next j (standing-small l) d)
-        ∙ ap (λ (ws : List ℕ). (core (partition (w .house) j .processor) (registersOf (w .house) j) (partition (w .house) j .fault), lone (partition (w .house) j .table) ws))
+        ∙ ap (λ (ws : List ℕ). (core (partition (w .house) j .processor) (registersOf (w .house) j) (partition (w .house) j .fault) (partition (w .house) j .timer), lone (partition (w .house) j .table) ws))
         (listFrom-same (hostWord fr (made .1 .words)) (hostWord fr (w .memory)) 0 (pagesOf (w .house) j * 1024) (λ x m. other-word x (omega arith)))
 
     other-right : RightShadow (hostStep w) j

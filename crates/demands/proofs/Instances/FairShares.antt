@@ -9,10 +9,11 @@ use lib.ListN.{length, getD, replicate}
 use Rattle.dlx.specs.Words.{extendedBy, readIn, holds}
 use Rattle.dlx.specs.Instructions.{registerType, partType, instructionOf}
 use Rattle.dlx.specs.Fields.{field, put, width, brought, placed}
-use Rattle.dlx.specs.Processor.{specialOf, withSpecial}
+use Rattle.dlx.specs.Processor.{specialOf, withSpecial, withCount}
 use Rattle.dlx.specs.Interrupts.{levelOf, interrupted}
+use Rattle.dlx.specs.Timer.{ticked, raised}
 use Rattle.dlx.specs.Execute.{written, valueOf, overflowsOf, operated, reached, loads, stores, movedTo, trapOf, effectOf}
-use Rattle.dlx.specs.Machine.{executed, fetched, loaded, stored, accessed, received, afterRead, afterWrite, settled, retabled, step, asked, requestOf as effectRequest}
+use Rattle.dlx.specs.Machine.{executed, fetched, loaded, stored, accessed, received, afterRead, afterWrite, left as leftBy, handled, changed as changedBy, settled, retabled, step, asked, requestOf as effectRequest}
 use Rattle.dlx.specs.Parts.{inner, outer}
 use Rattle.translate.specs.Entries.{judged}
 use Rattle.translate.specs.Walk.{walked, direct}
@@ -45,7 +46,7 @@ abbrev begun : World
 begun = booted turn-takers
 
 computing : ℕ
-unfolding freshShadows turn-takers inner outer listFrom any laid offset bootedHouse nextFrom turnOf requestNow replyNow queuesNext desk sending taking asked effectRequest guestStep settledHouse stepWith hostStep hostSteps started emptiedHouse judged walked direct hosted given filled looked served hostRead emptied hostWritten hostReads hostWrites step fetched executed loaded stored accessed received afterRead afterWrite settled retabled instructionOf registerType effectOf written valueOf overflowsOf operated reached loads stores movedTo trapOf specialOf withSpecial interrupted levelOf trailingZeros extendedBy readIn holds partType field put width brought placed turnsIn endsEarly earlyEndsIn
+unfolding freshShadows turn-takers inner outer listFrom any laid offset bootedHouse nextFrom turnOf requestNow replyNow queuesNext desk sending taking asked effectRequest guestStep settledHouse stepWith hostStep hostSteps started emptiedHouse judged walked direct hosted given filled looked served hostRead emptied hostWritten hostReads hostWrites step fetched executed loaded stored accessed received afterRead afterWrite leftBy handled changedBy settled retabled instructionOf registerType effectOf written valueOf overflowsOf operated reached loads stores movedTo trapOf specialOf withSpecial withCount ticked raised interrupted levelOf trailingZeros extendedBy readIn holds partType field put width brought placed turnsIn endsEarly earlyEndsIn
 computing = 0
 
 some : {n : ℕ} (k : ℕ) → n ≡ suc k → n ≡ 0 → ⊥

@@ -12,10 +12,11 @@ use lib.Seq.{getD-set-other}
 use Rattle.dlx.specs.Words.{extendedBy, readIn, holds}
 use Rattle.dlx.specs.Instructions.{registerType, partType, instructionOf}
 use Rattle.dlx.specs.Fields.{field, put, width, brought, placed}
-use Rattle.dlx.specs.Processor.{specialOf, withSpecial}
+use Rattle.dlx.specs.Processor.{specialOf, withSpecial, withCount}
 use Rattle.dlx.specs.Interrupts.{levelOf, interrupted}
+use Rattle.dlx.specs.Timer.{ticked, raised}
 use Rattle.dlx.specs.Execute.{written, valueOf, overflowsOf, operated, reached, loads, stores, movedTo, trapOf, effectOf}
-use Rattle.dlx.specs.Machine.{executed, fetched, loaded, stored, accessed, received, afterRead, afterWrite, settled, retabled, step, steps, asked, requestOf as effectRequest, reply}
+use Rattle.dlx.specs.Machine.{executed, fetched, loaded, stored, accessed, received, afterRead, afterWrite, left as leftBy, handled, changed as changedBy, settled, retabled, step, steps, asked, requestOf as effectRequest, reply}
 use Rattle.dlx.specs.declared.execute.Reply.{Reply}
 use Rattle.translate.specs.Entries.{entryOf, judged}
 use Rattle.translate.specs.Walk.{entries, walked, direct}
@@ -114,7 +115,7 @@ ended = hostSteps 4 cleared
 
 -- all that a step computes with
 computing : ℕ
-unfolding freshShadows two-guests inner outer listFrom any laid offset bootedHouse nextFrom turnOf requestNow replyNow queuesNext desk sending taking asked effectRequest guestStep settledHouse stepWith hostStep hostSteps started stopped emptiedHouse judged walked direct hosted given filled looked served hostRead emptied hostWritten hostReads hostWrites step fetched executed loaded stored accessed received afterRead afterWrite settled retabled instructionOf registerType effectOf written valueOf overflowsOf operated reached loads stores movedTo trapOf specialOf withSpecial interrupted levelOf trailingZeros extendedBy readIn holds turnsIn partType field put width brought placed
+unfolding freshShadows two-guests inner outer listFrom any laid offset bootedHouse nextFrom turnOf requestNow replyNow queuesNext desk sending taking asked effectRequest guestStep settledHouse stepWith hostStep hostSteps started stopped emptiedHouse judged walked direct hosted given filled looked served hostRead emptied hostWritten hostReads hostWrites step fetched executed loaded stored accessed received afterRead afterWrite leftBy handled changedBy settled retabled instructionOf registerType effectOf written valueOf overflowsOf operated reached loads stores movedTo trapOf specialOf withSpecial withCount ticked raised interrupted levelOf trailingZeros extendedBy readIn holds turnsIn partType field put width brought placed
 computing = 0
 
 -- entry px of partition 0's shadow
