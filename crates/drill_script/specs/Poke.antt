@@ -4,7 +4,7 @@ use Prim.Native.Nat.{ℕ, _+_, _*_, _-_, _/_, _%_}
 use lib.Dec.{eqb, ltb}
 use lib.ListN.{set}
 use Rattle.dlx.specs.Choice.{if_then_else_}
-use Rattle.dlx.specs.Processor.{withPages, withProcessor, withTable, withCounter, withFault}
+use Rattle.dlx.specs.Processor.{withPages, withProcessor, withTable, withTimer, withCounter, withFault}
 use Rattle.dlx.specs.declared.partition.Partition.{Partition}
 use Rattle.dlx.specs.declared.partition.Processor.{Processor}
 use Rattle.tickets.specs.Queues.{queues}
@@ -37,6 +37,8 @@ scalarPoked p k v =
     else if eqb k 13 then withCounter p (p .counter / 4294967296 * 4294967296 + v)
     else if eqb k 14 then withCounter p (v * 4294967296 + p .counter % 4294967296)
     else if eqb k 15 then withFault p v
+    else if eqb k 16 then withTimer p (record { tcount = v; tload = p .timer .tload })
+    else if eqb k 17 then withTimer p (record { tcount = p .timer .tcount; tload = v })
     else withProcessor p (inProcessor (p .processor) k v)
 
 -- ---- the house
@@ -50,7 +52,7 @@ ownPoked h k v =
 
 -- where the places of the queues, and how many wait in each, begin and end
 abbrev ticketsFrom : ℕ
-ticketsFrom = 2445 + allEntries
+ticketsFrom = 2461 + allEntries
 
 abbrev waitingFrom : ℕ
 waitingFrom = ticketsFrom + 256
@@ -62,10 +64,10 @@ unfoldable pub poked : House → ℕ → ℕ → House
 poked h i v =
     if ltb i 5 then ownPoked h i v
     else if ltb i 13 then withTurn h (set (h .running) (i - 5) (not (eqb v 0))) (turnNow h)
-    else if ltb i 141 then withParts h (set (h .parts) ((i - 13) / 16) (scalarPoked (partition h ((i - 13) / 16)) ((i - 13) % 16) v))
-    else if ltb i 397 then withRegisters h (set (h .regs) (i - 141) v)
-    else if ltb i 2445 then withFrames h (set (h .frames) (i - 397) v)
-    else if ltb i ticketsFrom then withShadows h (set (h .shadows) (i - 2445) v)
+    else if ltb i 157 then withParts h (set (h .parts) ((i - 13) / 18) (scalarPoked (partition h ((i - 13) / 18)) ((i - 13) % 18) v))
+    else if ltb i 413 then withRegisters h (set (h .regs) (i - 157) v)
+    else if ltb i 2461 then withFrames h (set (h .frames) (i - 413) v)
+    else if ltb i ticketsFrom then withShadows h (set (h .shadows) (i - 2461) v)
     else if ltb i waitingFrom then withQueues h (queues (set (h .tickets) (i - ticketsFrom) v) (h .waiting))
     else if ltb i past then withQueues h (queues (h .tickets) (set (h .waiting) (i - waitingFrom) v))
     else h

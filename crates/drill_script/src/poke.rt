@@ -8,7 +8,7 @@ use house::ALL_ENTRIES;
 use house::House;
 
 // Where the places of the queues, and how many wait in each, begin and end.
-const TICKETS: u32 = 2445 + ALL_ENTRIES as u32;
+const TICKETS: u32 = 2461 + ALL_ENTRIES as u32;
 
 const WAITING: u32 = TICKETS + 256;
 
@@ -84,6 +84,14 @@ fn scalar(p: Partition, k: u32, v: u32) -> Partition
             r.fault = v;
             r
         }
+        16 => {
+            r.timer.tcount = v;
+            r
+        }
+        17 => {
+            r.timer.tload = v;
+            r
+        }
         _ => r,
     }
 }
@@ -131,28 +139,28 @@ pub fn poke(h: House, index: u32, v: u32) -> House
         r.running = running;
         return r;
     }
-    if index < 141 {
+    if index < 157 {
         let mut parts = h.parts;
-        let i = wide((index - 13) / 16);
-        parts[i] = scalar(parts[i], (index - 13) % 16, v);
+        let i = wide((index - 13) / 18);
+        parts[i] = scalar(parts[i], (index - 13) % 18, v);
         r.parts = parts;
         return r;
     }
-    if index < 397 {
+    if index < 413 {
         let mut regs = h.regs;
-        regs[wide(index - 141)] = v;
+        regs[wide(index - 157)] = v;
         r.regs = regs;
         return r;
     }
-    if index < 2445 {
+    if index < 2461 {
         let mut frames = h.frames;
-        frames[wide(index - 397)] = v;
+        frames[wide(index - 413)] = v;
         r.frames = frames;
         return r;
     }
     if index < TICKETS {
         let mut shadows = h.shadows;
-        shadows[wide(index - 2445)] = v;
+        shadows[wide(index - 2461)] = v;
         r.shadows = shadows;
         return r;
     }

@@ -17,11 +17,11 @@ holds true e f = sym e
 holds false e f = one-way true refl f
 
 module _ (p : Partition) (r f s : List ℕ) (a : p .pages ≡ 0) (b : p .counter ≡ 0) where
-  pub own-not : zerosOf (specialsOf (p .processor) (p .table) (p .fault)) ≡ false → false ≡ blankOf p r f s
+  pub own-not : zerosOf (specialsOf (p .processor) (p .table) (p .fault) (p .timer)) ≡ false → false ≡ blankOf p r f s
   unfolding blankOf
   own-not x = rw (eq-eqb _ _ a, eq-eqb _ _ b, x)
 
-  module _ (x : zerosOf (specialsOf (p .processor) (p .table) (p .fault)) ≡ true) where
+  module _ (x : zerosOf (specialsOf (p .processor) (p .table) (p .fault) (p .timer)) ≡ true) where
     pub registers-not : zerosOf r ≡ false → false ≡ blankOf p r f s
     unfolding blankOf
     registers-not y = rw (eq-eqb _ _ a, eq-eqb _ _ b, x, y)

@@ -8,6 +8,7 @@ use Rattle.dlx.specs.Choice.{if_then_else_}
 use Rattle.dlx.specs.declared.partition.Partition.{Partition}
 use Rattle.dlx.specs.declared.partition.Processor.{Processor}
 use Rattle.dlx.specs.declared.partition.Table.{Table}
+use Rattle.dlx.specs.declared.partition.Timer.{Timer}
 use Rattle.translate.specs.Walk.{entries}
 use Rattle.house.specs.declared.House.{House}
 use Rattle.house.specs.House.{partition, registersOf, framesOf}
@@ -18,14 +19,15 @@ use Rattle.decimal.specs.Texts.{ascii}
 use Rattle.drill_text.specs.Numbers.{joined, numberOf}
 use Rattle.drill_text.specs.Lines.{rowOf}
 
--- the most bytes that tell of one partition, 346 of them in its own line
+-- the most bytes that tell of one partition, 388 of them in its own line
 abbrev pub longest : ℕ
-longest = 6418 + 42 * entries
+longest = 6460 + 42 * entries
 
--- from DPC to EMODE, and the latest fault
-unfoldable pub specialsOf : Processor → Table → ℕ → List ℕ
-specialsOf p t fault =
-    p .dpc ∷ p .pc ∷ p .sr ∷ p .esr ∷ p .eca ∷ p .epc ∷ p .edpc ∷ p .edata ∷ p .mode ∷ t .pto ∷ t .ptl ∷ p .emode ∷ fault ∷ []
+-- from DPC to EMODE, the latest fault, and the timer
+unfoldable pub specialsOf : Processor → Table → ℕ → Timer → List ℕ
+specialsOf p t fault k =
+    p .dpc ∷ p .pc ∷ p .sr ∷ p .esr ∷ p .eca ∷ p .epc ∷ p .edpc ∷ p .edata ∷ p .mode ∷ t .pto ∷ t .ptl ∷ p .emode ∷ fault ∷ k .tcount
+    ∷ k .tload ∷ []
 
 -- all of them are 0
 unfoldable pub zerosOf : List ℕ → Bool
@@ -36,7 +38,7 @@ unfoldable pub blankOf : Partition → List ℕ → List ℕ → List ℕ → Bo
 blankOf p registers frames shadow =
     eqb (p .pages) 0
     && eqb (p .counter) 0
-    && zerosOf (specialsOf (p .processor) (p .table) (p .fault))
+    && zerosOf (specialsOf (p .processor) (p .table) (p .fault) (p .timer))
     && zerosOf registers
     && zerosOf frames
     && zerosOf shadow
@@ -52,7 +54,7 @@ listedOf words = listedTo words (length words)
 unfoldable pub ownOf : ℕ → Partition → List ℕ
 ownOf i p =
     ascii "partition"
-    ++ (numberOf i ++ (numberOf (p .pages) ++ (numberOf (p .counter) ++ rowOf [] (specialsOf (p .processor) (p .table) (p .fault)))))
+    ++ (numberOf i ++ (numberOf (p .pages) ++ (numberOf (p .counter) ++ rowOf [] (specialsOf (p .processor) (p .table) (p .fault) (p .timer)))))
 
 -- a shadow entry that is not 0, behind its number
 unfoldable pub entryOf : ℕ → ℕ → List ℕ

@@ -20,12 +20,13 @@ use decimal::put_text;
 use dlx::partition::Partition;
 use dlx::partition::Processor;
 use dlx::partition::Table;
+use dlx::partition::Timer;
 use house::House;
 use translate::ENTRIES;
 
-// From DPC to EMODE, in the text's order, and the latest fault.
-fn specials(p: Processor, t: Table, fault: u32) -> [u32; 13]
-    ensures { λ r. ⌜ r ≡ specialsOf p t fault ⌝ }
+// From DPC to EMODE, in the text's order, the latest fault, and the timer.
+fn specials(p: Processor, t: Table, fault: u32, k: Timer) -> [u32; 15]
+    ensures { λ r. ⌜ r ≡ specialsOf p t fault k ⌝ }
 {
     [
         p.dpc,
@@ -41,6 +42,8 @@ fn specials(p: Processor, t: Table, fault: u32) -> [u32; 13]
         t.ptl,
         p.emode,
         fault,
+        k.tcount,
+        k.tload,
     ]
 }
 
@@ -81,7 +84,7 @@ fn blank(p: Partition, registers: &[u32], frames: &[u32], shadow: &[u32]) -> boo
     if p.counter != 0 {
         return false;
     }
-    let own = specials(p.processor, p.table, p.fault);
+    let own = specials(p.processor, p.table, p.fault, p.timer);
     if !zeros(&own) {
         return false;
     }
@@ -101,9 +104,9 @@ fn own_line(
     i: usize,
     pages: u32,
     counter: u64,
-    specials: &[u32; 13],
+    specials: &[u32; 15],
 ) -> usize
-    ensures { λ r. ⌜ Puts (now (text .entry)) used (now (text .exit)) r (ascii "partition" ++ (numberOf i ++ (numberOf pages ++ (numberOf counter ++ rowOf [] (now (specials .entry)))))) 346 ⌝ }
+    ensures { λ r. ⌜ Puts (now (text .entry)) used (now (text .exit)) r (ascii "partition" ++ (numberOf i ++ (numberOf pages ++ (numberOf counter ++ rowOf [] (now (specials .entry)))))) 388 ⌝ }
 {
     let named = put_text(text, used, b"partition");
     let numbered = number(text, named, i as u64);
@@ -113,9 +116,9 @@ fn own_line(
 }
 
 fn own(text: &mut [u8; ROOM], used: usize, i: usize, p: Partition) -> usize
-    ensures { λ r. ⌜ Puts (now (text .entry)) used (now (text .exit)) r (ownOf i p) 346 ⌝ }
+    ensures { λ r. ⌜ Puts (now (text .entry)) used (now (text .exit)) r (ownOf i p) 388 ⌝ }
 {
-    let rest = specials(p.processor, p.table, p.fault);
+    let rest = specials(p.processor, p.table, p.fault, p.timer);
     own_line(text, used, i, p.pages, p.counter, &rest)
 }
 
@@ -160,7 +163,7 @@ fn arrays(
     entries: &[u32],
 ) -> usize
     requires { ⌜ length (now registers) ≡ 32 ⌝ ∗ ⌜ length (now frames) ≡ 256 ⌝ ∗ ⌜ length (now entries) ≡ shadowLength ⌝ }
-    ensures { λ r. ⌜ Puts (now (text .entry)) used (now (text .exit)) r (rowOf (ascii "registers") (now (registers .entry)) ++ (rowOf (ascii "frames") (take (listedOf (now (frames .entry))) (now (frames .entry))) ++ shadowOf (now (entries .entry)))) (longest - 346) ⌝ }
+    ensures { λ r. ⌜ Puts (now (text .entry)) used (now (text .exit)) r (rowOf (ascii "registers") (now (registers .entry)) ++ (rowOf (ascii "frames") (take (listedOf (now (frames .entry))) (now (frames .entry))) ++ shadowOf (now (entries .entry)))) (longest - 388) ⌝ }
 {
     let n = listed(frames);
     let registered = row(text, used, b"registers", registers);

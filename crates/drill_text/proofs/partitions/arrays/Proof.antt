@@ -34,7 +34,7 @@ returns : tie.Need-returns
 unfolding ascii
 returns c =
     rw (← c .before .before .before .before .before .before .before .before .before .listed .ensures)
-    (roomy (longest - 346) (c .before .before .before .before .before .before .row .ensures then c .before .before .row2 .ensures then c .shadow .ensures)
+    (roomy (longest - 388) (c .before .before .before .before .before .before .row .ensures then c .before .before .row2 .ensures then c .shadow .ensures)
     (omega (arith, c .before .before .before .before .before .before .before .before .before .before .before .before .before .pre, listed-most (c .before .before .before .before .before .before .before .before .before .before .before .before .before .args .frames .now) (c .before .before .before .before .before .before .before .before .before .listed .ensures))))
 
 pub arrays-spec : {M : Type 1} → statement M

@@ -28,8 +28,8 @@ rest-requires c κs = tt
 returns : tie.Need-returns
 unfolding ascii
 returns c =
-    let n : length (c .before .before .before .before .before .before .before .before .before .before .before .before .args .specials .now) ≡ 13 = search (needs, c .before .before .rest-arg) in
-    roomy 346 (exactly (c .before .before .before .before .before .before .before .before .before .put-text .ensures) then c .before .before .before .before .before .before .before .number .ensures then c .before .before .before .before .before .number2 .ensures then c .before .before .before .number3 .ensures then c .rest .ensures) (omega arith)
+    let n : length (c .before .before .before .before .before .before .before .before .before .before .before .before .args .specials .now) ≡ 15 = search (needs, c .before .before .rest-arg) in
+    roomy 388 (exactly (c .before .before .before .before .before .before .before .before .before .put-text .ensures) then c .before .before .before .before .before .before .before .number .ensures then c .before .before .before .before .before .number2 .ensures then c .before .before .before .number3 .ensures then c .rest .ensures) (omega arith)
 
 pub own-line-spec : {M : Type 1} → statement M
 own-line-spec = tie.close (tie.spec slice-aggregate-put-text put-text-requires number-requires number-requires-2 number-requires-3 rest-requires returns)
