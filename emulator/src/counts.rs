@@ -5,6 +5,7 @@ use std::ops::AddAssign;
 
 use crate::dlx::Cause;
 use crate::memory::Width;
+use crate::timer::Kind;
 
 /// Shadow entries: how many in all, and how many above entry 255.
 #[derive(Clone, Copy, Debug, Default, PartialEq, Eq)]
@@ -58,15 +59,46 @@ impl AddAssign for Widths {
     }
 }
 
+/// Steps in which a timer reached zero.
+#[derive(Clone, Debug, Default, PartialEq, Eq)]
+pub struct Timers {
+    /// Interrupts of level 13, by the kind of instruction that they followed.
+    pub levels: [u64; Kind::COUNT],
+    /// Those of them in user mode.
+    pub user: u64,
+    /// Those of them whose step filled a shadow entry.
+    pub filled: u64,
+    /// Those of them whose step emptied a valid shadow entry.
+    pub emptied: u64,
+    /// Cause 13 beside a lower cause, by that cause.
+    pub beside: [u64; 7],
+    /// Masked and dropped in a step without another cause.
+    pub masked: u64,
+    /// Masked and dropped in a step with a lower cause, by that cause.
+    pub masked_beside: [u64; 7],
+}
+
+impl AddAssign<&Timers> for Timers {
+    fn add_assign(&mut self, other: &Timers) {
+        add_all(&mut self.levels, &other.levels);
+        add_all(&mut self.beside, &other.beside);
+        add_all(&mut self.masked_beside, &other.masked_beside);
+        self.user += other.user;
+        self.filled += other.filled;
+        self.emptied += other.emptied;
+        self.masked += other.masked;
+    }
+}
+
 /// Counts of steps, interrupts, loads and stores, shadow changes, tickets and answers.
 #[derive(Clone, Debug, Default, PartialEq, Eq)]
 pub struct Counts {
     /// Guest steps, by MODE before the step.
     pub steps: [u64; 2],
-    /// Interrupts, by cause (1 ill to 6 ovf).
-    pub interrupts: [u64; 7],
-    /// Interrupts where PC is not DPC + 4, as in a delay slot, by cause.
-    pub slots: [u64; 7],
+    /// Interrupts, by level (1 ill to 6 ovf, 13 timer).
+    pub interrupts: [u64; 14],
+    /// Interrupts where PC is not DPC + 4, as in a delay slot, by level.
+    pub slots: [u64; 14],
     /// Faults of fetches, by number (1 to 7).
     pub fetch_faults: [u64; 8],
     /// Faults of data accesses, by number (1 to 7).
@@ -103,6 +135,8 @@ pub struct Counts {
     pub takes: [u64; 4],
     /// Traps 256 and 257 in user mode.
     pub user_tickets: u64,
+    /// Timers that reached zero.
+    pub timers: Timers,
     /// Answers, by house number.
     pub answers: [u64; 17],
 }
@@ -116,6 +150,35 @@ impl Counts {
     /// Faults of both kinds, by number.
     pub fn faults(&self) -> [u64; 8] {
         std::array::from_fn(|number| self.fetch_faults[number] + self.data_faults[number])
+    }
+
+    /// Shadow entries filled, and those emptied by a step.
+    pub fn shadows(&self) -> [u64; 2] {
+        [self.fills.all, self.emptied_by_store.all + self.emptied_by_special.all]
+    }
+
+    /// A timer reached zero, in a step that did its instruction or had a lower cause, masked or not;
+    /// the shadow entries were counted before the step.
+    pub fn timer(
+        &mut self,
+        done: Result<Kind, Cause>,
+        unmasked: bool,
+        user: bool,
+        shadows: [u64; 2],
+    ) {
+        let [filled, emptied] = self.shadows();
+        let timers = &mut self.timers;
+        match (done, unmasked) {
+            (Ok(kind), true) => {
+                timers.levels[kind as usize] += 1;
+                timers.user += u64::from(user);
+                timers.filled += u64::from(filled > shadows[0]);
+                timers.emptied += u64::from(emptied > shadows[1]);
+            }
+            (Ok(_), false) => timers.masked += 1,
+            (Err(cause), true) => timers.beside[cause as usize] += 1,
+            (Err(cause), false) => timers.masked_beside[cause as usize] += 1,
+        }
     }
 
     /// A load was done.
@@ -159,10 +222,31 @@ impl Counts {
     }
 }
 
-/// Interrupts as `cause:count` pairs.
-fn causes_text(counts: &[u64; 7]) -> String {
+/// Interrupts as `cause:count` pairs, for the causes that there is a count for.
+fn causes_text(counts: &[u64]) -> String {
+    let counted = Cause::ALL.iter().filter(|&&cause| counts.len() > cause as usize);
     let pair = |cause: &Cause| format!("{}:{}", cause.name(), counts[*cause as usize]);
-    Cause::ALL.iter().map(pair).collect::<Vec<_>>().join(" ")
+    counted.map(pair).collect::<Vec<_>>().join(" ")
+}
+
+/// The lines on timers.
+fn timers_text(f: &mut fmt::Formatter<'_>, timers: &Timers) -> fmt::Result {
+    let pairs =
+        Kind::NAMES.iter().zip(timers.levels).map(|(name, count)| format!("{name}:{count}"));
+    let kinds = pairs.collect::<Vec<_>>().join("; ");
+    writeln!(f, "timer interrupts by the instruction before them: {kinds}")?;
+    writeln!(
+        f,
+        "timer interrupts in user mode:{} after a fill:{} after an emptying:{}",
+        timers.user, timers.filled, timers.emptied
+    )?;
+    writeln!(f, "cause 13 beside a lower cause: {}", causes_text(&timers.beside))?;
+    writeln!(
+        f,
+        "cause 13 masked: alone:{} beside {}",
+        timers.masked,
+        causes_text(&timers.masked_beside)
+    )
 }
 
 /// A line on shadow entries that were filled and emptied.
@@ -183,8 +267,8 @@ fn faults_text(counts: &[u64; 8]) -> String {
 impl fmt::Display for Counts {
     fn fmt(&self, f: &mut fmt::Formatter<'_>) -> fmt::Result {
         writeln!(f, "steps by mode: system:{} user:{}", self.steps[0], self.steps[1])?;
-        writeln!(f, "interrupts by cause: {}", causes_text(&self.interrupts))?;
-        writeln!(f, "interrupts with PC not DPC + 4, by cause: {}", causes_text(&self.slots))?;
+        writeln!(f, "interrupts by level: {}", causes_text(&self.interrupts))?;
+        writeln!(f, "interrupts with PC not DPC + 4, by level: {}", causes_text(&self.slots))?;
         writeln!(f, "interrupts from the handler's first word: {}", self.loops)?;
         writeln!(f, "faults of fetches by number: {}", faults_text(&self.fetch_faults))?;
         writeln!(f, "faults of loads and stores by number: {}", faults_text(&self.data_faults))?;
@@ -209,7 +293,8 @@ impl fmt::Display for Counts {
         )?;
         let [taken, .., none] = self.takes;
         writeln!(f, "takes by answer: done:{taken} none waiting:{none}")?;
-        writeln!(f, "ticket traps in user mode: {}", self.user_tickets)
+        writeln!(f, "ticket traps in user mode: {}", self.user_tickets)?;
+        timers_text(f, &self.timers)
     }
 }
 
@@ -237,6 +322,7 @@ impl AddAssign<&Counts> for Counts {
         self.sends_to_oneself += other.sends_to_oneself;
         self.sends_to_stopped += other.sends_to_stopped;
         self.user_tickets += other.user_tickets;
+        self.timers += &other.timers;
     }
 }
 

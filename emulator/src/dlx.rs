@@ -3,10 +3,11 @@
 use crate::counts::Counts;
 use crate::memory::{Access, Fault, Place, Space, Table, Width};
 use crate::tickets::{number, Tickets, SEND, TAKE};
+use crate::timer::{fall, Kind};
 
 /// Numbers of the special registers.
 pub mod special {
-    /// Status register; bit 6 lets ovf through.
+    /// Status register; bit 6 lets ovf through, bit 13 the timer.
     pub const SR: usize = 0;
     /// SR before the interrupt.
     pub const ESR: usize = 1;
@@ -26,11 +27,20 @@ pub mod special {
     pub const PTL: usize = 8;
     /// MODE before the interrupt.
     pub const EMODE: usize = 9;
+    /// The timer: how many of the partition's own steps are left.
+    pub const TCOUNT: usize = 10;
+    /// What the timer starts from again.
+    pub const TLOAD: usize = 11;
     /// How many there are.
-    pub const COUNT: usize = 10;
+    pub const COUNT: usize = 12;
+    /// Their names, in order.
+    pub const NAMES: [&str; COUNT] = [
+        "sr", "esr", "eca", "epc", "edpc", "edata", "mode", "pto", "ptl", "emode", "tcount",
+        "tload",
+    ];
 }
 
-use special::{ECA, EDATA, EDPC, EMODE, EPC, ESR, MODE, PTL, PTO, SR};
+use special::{ECA, EDATA, EDPC, EMODE, EPC, ESR, MODE, PTL, PTO, SR, TCOUNT, TLOAD};
 
 /// The register that jal and jalr write.
 const LINK: usize = 31;
@@ -48,14 +58,16 @@ pub enum Cause {
     Pfls = 4,
     /// Trap instruction.
     Trap = 5,
-    /// Overflow, the only maskable cause.
+    /// Overflow, maskable.
     Ovf = 6,
+    /// The timer reached zero, maskable.
+    Timer = 13,
 }
 
 impl Cause {
     /// All causes in order.
-    pub const ALL: [Cause; 6] =
-        [Cause::Ill, Cause::Mal, Cause::Pff, Cause::Pfls, Cause::Trap, Cause::Ovf];
+    pub const ALL: [Cause; 7] =
+        [Cause::Ill, Cause::Mal, Cause::Pff, Cause::Pfls, Cause::Trap, Cause::Ovf, Cause::Timer];
 
     /// The cause's bit in the cause word.
     pub fn bit(self) -> u32 {
@@ -71,13 +83,15 @@ impl Cause {
             Cause::Pfls => "pfls",
             Cause::Trap => "trap",
             Cause::Ovf => "ovf",
+            Cause::Timer => "timer",
         }
     }
 
-    /// True where the old pair is saved, so that rfe comes back to the interrupted instruction:
-    /// for 3 and 4 by 01, for 1 and 2 by request 4 of 02. After the others rfe goes on behind it.
-    fn aborts(self) -> bool {
-        matches!(self, Cause::Ill | Cause::Mal | Cause::Pff | Cause::Pfls)
+    /// True where the pair is saved as it stands. For 1 to 4 that is the old one (for 3 and 4 by
+    /// 01, for 1 and 2 by request 4 of 02), so that rfe comes back to the interrupted instruction;
+    /// for the timer the one that the instruction left. After the others rfe goes on behind it.
+    fn saves_pair(self) -> bool {
+        matches!(self, Cause::Ill | Cause::Mal | Cause::Pff | Cause::Pfls | Cause::Timer)
     }
 }
 
@@ -263,7 +277,7 @@ pub fn decode(word: u32) -> Option<Instruction> {
     }
 }
 
-/// The R-type instruction of a word; a special number above 9 is ill.
+/// The R-type instruction of a word; a special number above 11 is ill.
 fn decode_r_type(word: u32) -> Option<Instruction> {
     let (rs1, rs2, rd, sa) = (field(word, 21), field(word, 16), field(word, 11), field(word, 6));
     let registers = |operation| {
@@ -332,30 +346,47 @@ impl Guest {
         Table { pto: self.specials[PTO], ptl: self.specials[PTL] }
     }
 
-    /// One guest step; tells the interrupt's cause, if any. The counter is the host's matter.
+    /// One guest step; tells the interrupt's level, if there is one. The counter is the host's
+    /// matter.
     pub fn step(
         &mut self,
         memory: &mut [u32],
         tickets: &mut Tickets<'_>,
         counts: &mut Counts,
     ) -> Option<Cause> {
-        counts.steps[usize::from(self.user())] += 1;
-        let interrupt = self.instruction(memory, tickets, counts).err()?;
+        let (user, handler) = (self.user(), self.dpc == 0 && !self.user());
+        counts.steps[usize::from(user)] += 1;
+        let (mask, shadows) = (self.specials[SR], counts.shadows());
+        let (count, zero) = fall(self.specials[TCOUNT], self.specials[TLOAD]);
+        let done = self.instruction(memory, tickets, counts);
+        if done != Ok(Kind::WroteTcount) {
+            self.specials[TCOUNT] = count;
+        }
+        let timer = if zero { Cause::Timer.bit() & mask } else { 0 };
+        if zero {
+            counts.timer(done.map_err(|interrupt| interrupt.cause), timer != 0, user, shadows);
+        }
+        let interrupt = match done {
+            Err(interrupt) => interrupt,
+            Ok(_) if timer != 0 => Interrupt::plain(Cause::Timer),
+            Ok(_) => return None,
+        };
         counts.interrupts[interrupt.cause as usize] += 1;
         let in_line = self.pc == self.dpc.wrapping_add(4);
         counts.slots[interrupt.cause as usize] += u64::from(!in_line);
-        counts.loops += u64::from(self.dpc == 0 && !self.user());
-        self.enter(interrupt);
+        counts.loops += u64::from(handler);
+        self.enter(interrupt, interrupt.cause.bit() | timer);
         Some(interrupt.cause)
     }
 
-    /// Fetches, decodes and executes; after an interrupt nothing remains but shadow fills.
+    /// Fetches, decodes and executes; tells what was done. After an interrupt nothing remains but
+    /// shadow fills.
     fn instruction(
         &mut self,
         memory: &mut [u32],
         tickets: &mut Tickets<'_>,
         counts: &mut Counts,
-    ) -> Result<(), Interrupt> {
+    ) -> Result<Kind, Interrupt> {
         let word = self.fetch(memory, counts)?;
         let instruction = decode(word)
             .filter(|instruction| !(self.user() && instruction.system_only()))
@@ -414,9 +445,9 @@ impl Guest {
         memory: &mut [u32],
         tickets: &mut Tickets<'_>,
         counts: &mut Counts,
-    ) -> Result<(), Interrupt> {
+    ) -> Result<Kind, Interrupt> {
         let mut next = self.pc.wrapping_add(4);
-        match instruction {
+        let kind = match instruction {
             Instruction::Load { width, signed, rd, rs1, imm } => {
                 let address = self.registers[rs1].wrapping_add(imm);
                 let place = self.data(memory, address, width, Access::Load, counts)?;
@@ -424,6 +455,7 @@ impl Guest {
                 let bits = 8 * width.bytes();
                 self.write(rd, if signed { sign_extended(value, bits) } else { value });
                 counts.load(width, signed);
+                Kind::Load
             }
             Instruction::Store { width, rd, rs1, imm } => {
                 let address = self.registers[rs1].wrapping_add(imm);
@@ -431,38 +463,65 @@ impl Guest {
                 let value = self.registers[rd];
                 self.space.store(memory, self.table(), place, width, value, counts);
                 counts.store(width);
+                Kind::Store
             }
             Instruction::Compute { operation, rd, rs1, right } => {
-                let value = self.compute(operation, rs1, right)?;
+                let (value, overflow) = self.compute(operation, rs1, right)?;
                 self.write(rd, value);
+                if overflow {
+                    Kind::MaskedOvf
+                } else {
+                    Kind::Compute
+                }
             }
-            Instruction::Lhgi { rd, value } => self.write(rd, value),
+            Instruction::Lhgi { rd, value } => {
+                self.write(rd, value);
+                Kind::Compute
+            }
             Instruction::Branch { on_zero, rs1, imm } => {
-                if (self.registers[rs1] == 0) == on_zero {
+                let taken = (self.registers[rs1] == 0) == on_zero;
+                if taken {
                     next = self.pc.wrapping_add(imm);
+                    Kind::Taken
+                } else {
+                    Kind::NotTaken
                 }
             }
             Instruction::Jump { target, link } => {
                 next = self.jump_target(target);
                 if link {
                     self.write(LINK, self.pc.wrapping_add(4));
+                    Kind::Link
+                } else {
+                    Kind::Jump
                 }
             }
             Instruction::Trap { imm } => self.trap(imm, tickets, counts)?,
             Instruction::Rfe => {
                 self.return_from_exception();
-                return Ok(());
+                return Ok(Kind::Rfe);
             }
-            Instruction::Movs2i { rd, special } => self.write(rd, self.specials[special]),
-            Instruction::Movi2s { special, rs1 } => self.write_special(special, rs1, counts),
-        }
+            Instruction::Movs2i { rd, special } => {
+                self.write(rd, self.specials[special]);
+                Kind::read(special)
+            }
+            Instruction::Movi2s { special, rs1 } => {
+                self.write_special(special, rs1, counts);
+                Kind::wrote(special)
+            }
+        };
         self.dpc = self.pc;
         self.pc = next;
-        Ok(())
+        Ok(kind)
     }
 
-    /// The result of a register instruction; ovf is masked by SR bit 6.
-    fn compute(&self, operation: Operation, rs1: usize, right: Operand) -> Result<u32, Interrupt> {
+    /// The result of a register instruction, and whether it overflows; ovf is masked by SR bit 6.
+    fn compute(
+        &self,
+        operation: Operation,
+        rs1: usize,
+        right: Operand,
+    ) -> Result<(u32, bool), Interrupt> {
         let right = match right {
             Operand::Register(rs2) => self.registers[rs2],
             Operand::Immediate(imm) => imm,
@@ -471,7 +530,7 @@ impl Guest {
         if overflow && self.specials[SR] & Cause::Ovf.bit() != 0 {
             return Err(Interrupt::plain(Cause::Ovf));
         }
-        Ok(value)
+        Ok((value, overflow))
     }
 
     /// In system mode 256 sends register 1 to the partition of register 2, and 257 takes the
@@ -481,7 +540,7 @@ impl Guest {
         imm: u32,
         tickets: &mut Tickets<'_>,
         counts: &mut Counts,
-    ) -> Result<(), Interrupt> {
+    ) -> Result<Kind, Interrupt> {
         let answer = match imm {
             SEND if !self.user() => tickets.send(self.registers[1], self.registers[2], counts),
             TAKE if !self.user() => tickets.take(counts).map(|ticket| self.registers[1] = ticket),
@@ -491,7 +550,12 @@ impl Guest {
             }
         };
         self.registers[3] = number(answer);
-        Ok(())
+        Ok(match (imm, answer.is_ok()) {
+            (SEND, true) => Kind::Sent,
+            (SEND, false) => Kind::SendRefused,
+            (_, true) => Kind::Took,
+            (_, false) => Kind::TakeRefused,
+        })
     }
 
     fn jump_target(&self, target: Target) -> u32 {
@@ -527,9 +591,10 @@ impl Guest {
         self.specials[MODE] = self.specials[EMODE];
     }
 
-    /// Saves the old state and goes to the handler at 0 in system mode.
-    fn enter(&mut self, interrupt: Interrupt) {
-        let (edpc, epc) = if interrupt.cause.aborts() {
+    /// Saves the state as it stands and goes to the handler at 0 in system mode. The timer's bit may
+    /// stand beside the level's.
+    fn enter(&mut self, interrupt: Interrupt, causes: u32) {
+        let (edpc, epc) = if interrupt.cause.saves_pair() {
             (self.dpc, self.pc)
         } else {
             (self.pc, self.pc.wrapping_add(4))
@@ -537,7 +602,7 @@ impl Guest {
         let specials = &mut self.specials;
         specials[ESR] = specials[SR];
         specials[SR] = 0;
-        specials[ECA] = interrupt.cause.bit();
+        specials[ECA] = causes;
         specials[EMODE] = specials[MODE];
         specials[MODE] = 0;
         specials[EDPC] = edpc;

@@ -6,8 +6,9 @@ use crate::house::{House, PARTITIONS};
 use crate::memory::{ENTRIES, LIST_PLACES};
 use crate::tickets::PLACES;
 
-/// Scalars of a partition: pages, DPC, PC, ten specials, counter low and high, latest fault.
-pub const SCALARS: u32 = 16;
+/// Scalars of a partition: pages, DPC, PC, the specials up to EMODE, counter low and high, latest
+/// fault, TCOUNT and TLOAD.
+pub const SCALARS: u32 = 18;
 /// First index of the running flags.
 pub const RUNNING: u32 = 5;
 /// First index of the partitions' scalars.
@@ -42,14 +43,16 @@ pub const PAGES: u32 = 0;
 pub const DPC: u32 = 1;
 /// Place of PC among a partition's scalars.
 pub const PC: u32 = 2;
-/// Place of special 0 among a partition's scalars; the others follow by number.
+/// Place of special 0 among a partition's scalars; the others up to EMODE follow by number.
 pub const SPECIALS: u32 = 3;
 /// Place of the counter's low word among a partition's scalars.
-pub const COUNTER_LOW: u32 = SPECIALS + special::COUNT as u32;
+pub const COUNTER_LOW: u32 = SPECIALS + special::TCOUNT as u32;
 /// Place of the counter's high word among a partition's scalars.
 pub const COUNTER_HIGH: u32 = COUNTER_LOW + 1;
 /// Place of the latest fault among a partition's scalars.
 pub const LATEST_FAULT: u32 = COUNTER_HIGH + 1;
+/// Place of TCOUNT among a partition's scalars; TLOAD follows.
+pub const TIMER: u32 = LATEST_FAULT + 1;
 
 /// Index of a scalar of a partition.
 pub fn scalar(partition: u32, place: u32) -> u32 {
@@ -58,7 +61,19 @@ pub fn scalar(partition: u32, place: u32) -> u32 {
 
 /// Index of a special register of a partition.
 pub fn special(partition: u32, number: usize) -> u32 {
-    scalar(partition, SPECIALS + number as u32)
+    let place = match number {
+        special::TCOUNT.. => TIMER + (number - special::TCOUNT) as u32,
+        _ => SPECIALS + number as u32,
+    };
+    scalar(partition, place)
+}
+
+/// The special register at a place among a partition's scalars.
+fn special_at(place: u32) -> usize {
+    match place {
+        TIMER.. => special::TCOUNT + (place - TIMER) as usize,
+        _ => (place - SPECIALS) as usize,
+    }
 }
 
 /// Index of a register of a partition.
@@ -147,7 +162,7 @@ pub fn name(index: u32) -> String {
         CURRENT => "current".into(),
         LEFT => "left".into(),
         RUNNING..PARTS => format!("running[{place}]"),
-        PARTS..REGISTERS => format!("partition {part} {}", SCALAR_NAMES[place]),
+        PARTS..REGISTERS => format!("partition {part} {}", scalar_name(place as u32)),
         REGISTERS..FRAMES => format!("partition {part} register {place}"),
         FRAMES..SHADOWS => format!("partition {part} frame {place}"),
         SHADOWS..QUEUES => format!("partition {part} shadow {place}"),
@@ -157,24 +172,17 @@ pub fn name(index: u32) -> String {
     }
 }
 
-const SCALAR_NAMES: [&str; SCALARS as usize] = [
-    "pages",
-    "dpc",
-    "pc",
-    "sr",
-    "esr",
-    "eca",
-    "epc",
-    "edpc",
-    "edata",
-    "mode",
-    "pto",
-    "ptl",
-    "emode",
-    "counter low",
-    "counter high",
-    "latest fault",
-];
+fn scalar_name(place: u32) -> &'static str {
+    match place {
+        PAGES => "pages",
+        DPC => "dpc",
+        PC => "pc",
+        COUNTER_LOW => "counter low",
+        COUNTER_HIGH => "counter high",
+        LATEST_FAULT => "latest fault",
+        _ => special::NAMES[special_at(place)],
+    }
+}
 
 fn get_scalar(guest: &Guest, place: u32) -> u32 {
     match place {
@@ -184,7 +192,7 @@ fn get_scalar(guest: &Guest, place: u32) -> u32 {
         COUNTER_LOW => guest.counter as u32,
         COUNTER_HIGH => (guest.counter >> 32) as u32,
         LATEST_FAULT => guest.fault,
-        _ => guest.specials[(place - SPECIALS) as usize],
+        _ => guest.specials[special_at(place)],
     }
 }
 
@@ -196,7 +204,7 @@ fn set_scalar(guest: &mut Guest, place: u32, value: u32) {
         COUNTER_LOW => guest.counter = guest.counter >> 32 << 32 | u64::from(value),
         COUNTER_HIGH => guest.counter = guest.counter & 0xFFFF_FFFF | u64::from(value) << 32,
         LATEST_FAULT => guest.fault = value,
-        _ => guest.specials[(place - SPECIALS) as usize] = value,
+        _ => guest.specials[special_at(place)] = value,
     }
 }
 
@@ -212,10 +220,24 @@ mod tests {
             set(&mut house, index, 1);
             assert_eq!(get(&house, index), Some(1), "index {index}");
         }
-        assert_eq!((scalar(1, LATEST_FAULT), REGISTERS), (44, 141));
-        assert_eq!((FRAMES, SHADOWS), (397, 2_445));
-        assert_eq!((QUEUES, WAITING, END), (10_637, 10_893, 10_901));
+        assert_eq!((scalar(1, LATEST_FAULT), REGISTERS), (46, 157));
+        assert_eq!((FRAMES, SHADOWS), (413, 2_461));
+        assert_eq!((QUEUES, WAITING, END), (10_653, 10_909, 10_917));
         assert_eq!(get(&house, END), None);
+    }
+
+    #[test]
+    fn every_special_has_its_place_and_name() {
+        let places = (0..special::COUNT).map(|number| special(1, number) - scalar(1, 0));
+        assert_eq!(places.collect::<Vec<_>>(), [3, 4, 5, 6, 7, 8, 9, 10, 11, 12, 16, 17]);
+        for number in 0..special::COUNT {
+            let mut house = House::NONE;
+            set(&mut house, special(1, number), 7);
+            assert_eq!(house.guests[1].specials[number], 7);
+            let name = format!("partition 1 {}", special::NAMES[number]);
+            assert_eq!(super::name(special(1, number)), name);
+        }
+        assert_eq!(super::name(scalar(0, LATEST_FAULT)), "partition 0 latest fault");
     }
 
     #[test]

@@ -6,6 +6,7 @@ mod programs;
 mod runs;
 mod states;
 mod tickets;
+mod timers;
 mod words;
 
 use crate::counts::Counts;
@@ -43,12 +44,16 @@ pub const ANSWERS_EACH: u64 = 50;
 pub const PARTS_EACH: u64 = 5_000;
 /// How often each fault must come in a million steps.
 pub const FAULTS_EACH: u64 = 200;
+/// How often an interrupt by the timer must follow each kind of instruction in a million steps.
+pub const TIMERS_EACH: u64 = 200;
+/// How often cause 13, masked and unmasked, must come beside each lower cause in a million steps.
+pub const BESIDE_EACH: u64 = 50;
 /// The numbers that scripts give: all but 15, which is the house file's.
 pub const SCRIPT_NUMBERS: [usize; 16] = [0, 1, 2, 3, 4, 5, 6, 7, 8, 9, 10, 11, 12, 13, 14, 16];
 
-/// Random scripts, until their guests have done `steps` steps, every house number of theirs was
-/// answered often enough, bytes and half words were loaded and stored often enough, and every fault
-/// came often enough.
+/// Random scripts, until their guests have done `steps` steps, a quarter as many of them in user mode,
+/// every house number of theirs was answered often enough, bytes and half words were loaded and stored often enough, and every fault
+/// and every kind of timer's interrupt came often enough.
 pub fn scripts(seed: u64, steps: u64) -> Vec<Script> {
     let mut scripts = Vec::new();
     let mut total = Counts::default();
@@ -67,14 +72,20 @@ fn too_few(counts: &Counts, steps: u64) -> bool {
     let answers = steps * ANSWERS_EACH / 1_000_000;
     let parts = steps * PARTS_EACH / 1_000_000;
     let faults = steps * FAULTS_EACH / 1_000_000;
-    SCRIPT_NUMBERS.iter().any(|&number| counts.answers[number] < answers)
+    let timers = steps * TIMERS_EACH / 1_000_000;
+    let beside = steps * BESIDE_EACH / 1_000_000;
+    let lower = [&counts.timers.beside[1..], &counts.timers.masked_beside[1..]];
+    counts.steps[1] < steps / 4
+        || SCRIPT_NUMBERS.iter().any(|&number| counts.answers[number] < answers)
         || counts.parts().iter().any(|&(_, done)| done < parts)
         || counts.faults()[1..].iter().any(|&came| came < faults)
+        || counts.timers.levels.iter().any(|&came| came < timers)
+        || lower.iter().any(|causes| causes.iter().any(|&came| came < beside))
 }
 
 /// Writes one script of the kind whose turn it is; tells the kind.
 fn compose(draft: &mut Draft, number: u64) -> &'static str {
-    match number % 8 {
+    match number % 10 {
         0..=4 => {
             runs::compose(draft);
             "programs"
@@ -83,9 +94,13 @@ fn compose(draft: &mut Draft, number: u64) -> &'static str {
             states::compose(draft);
             "states"
         }
-        _ => {
+        7 => {
             calls::compose(draft);
             "calls"
+        }
+        _ => {
+            timers::compose(draft);
+            "timers"
         }
     }
 }

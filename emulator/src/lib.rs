@@ -1,6 +1,6 @@
 //! A second emulator of the house of partitions.
 //!
-//! It is written from document 01 and requests 1, 2, 4, 7, 8 and 10 of document 02 alone, shares no
+//! It is written from document 01 and requests 1, 2, 4, 5, 7, 8 and 10 of document 02 alone, shares no
 //! line with the proved house, and exists to be compared with it: the same script of calls, or the
 //! same house file, must give the same text.
 
@@ -20,3 +20,4 @@ pub mod script;
 pub mod shrink;
 pub mod source;
 pub mod tickets;
+pub mod timer;

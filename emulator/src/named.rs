@@ -7,12 +7,13 @@ mod faults;
 mod house_frame;
 mod pairs;
 mod tickets;
+mod timers;
 
 use crate::assemble::{
     addi, function, i_type, j_type, jr, lhu, lw, movi2s, movs2i, nop, opcode, r_type, rfe, sb,
     send, sw, take, trap,
 };
-use crate::dlx::special::{EDPC, EMODE, EPC, ESR, MODE, PTL, PTO, SR};
+use crate::dlx::special::{self, EDPC, EMODE, EPC, ESR, MODE, PTL, PTO, SR, TCOUNT, TLOAD};
 use crate::fields::{self, CURRENT, LEFT, Q, RUNNING, WAITING, WORDS};
 use crate::generate::{File, Script};
 use crate::housefile::{record_bytes, word_bytes, PIECE};
@@ -102,6 +103,11 @@ impl Story {
         })
     }
 
+    /// Partition 0's timer.
+    fn timer(self, count: u32, load: u32) -> Self {
+        self.special(TCOUNT, count).special(TLOAD, load)
+    }
+
     fn pair(self, dpc: u32, pc: u32) -> Self {
         self.field(fields::scalar(0, fields::DPC), dpc).field(fields::scalar(0, fields::PC), pc)
     }
@@ -154,6 +160,7 @@ pub fn scripts() -> Vec<Script> {
         faults::group(),
         turns(),
         tickets::group(),
+        timers::group(),
         calls(),
         house_frame::group(),
     ];
@@ -231,7 +238,9 @@ fn ill_words() -> Story {
         r_type(33, 1, 1, 1),
         r_type(35, 1, 1, 1),
         r_type(39, 1, 1, 1),
-        movs2i(1, 10),
+        movs2i(1, special::COUNT),
+        movi2s(special::COUNT, 1),
+        movs2i(1, 31),
         movi2s(31, 1),
     ];
     words.iter().fold(Story::house(&[1], 5), |story, &word| story.step(word, 3, 4))
@@ -246,7 +255,7 @@ fn extended_immediates() -> Story {
 
 /// Each special register but MODE written and read back.
 fn written_specials() -> Story {
-    let numbers = (0..10).filter(|&number| number != MODE);
+    let numbers = (0..special::COUNT).filter(|&number| number != MODE);
     numbers.fold(Story::house(&[1], 5), |story, number| {
         story.step(movi2s(number, 1), 0xFFFF_FFF7, 0).step(movs2i(2, number), 0, 0)
     })
@@ -613,6 +622,10 @@ fn damages() -> Story {
         (fields::scalar(1, fields::LATEST_FAULT), u32::MAX, 0),
         (fields::scalar(2, fields::LATEST_FAULT), 1, 0),
         (fields::scalar(7, fields::LATEST_FAULT), 7, 0),
+        (fields::special(2, TCOUNT), 1, 0),
+        (fields::special(2, TLOAD), 1, 0),
+        (fields::special(7, TCOUNT), u32::MAX, 0),
+        (fields::special(7, TLOAD), 1 << 31, 0),
         (WAITING, 33, 0),
         (WAITING + 1, u32::MAX, 0),
         (fields::ticket(0, 0), 1, 0),
@@ -630,6 +643,8 @@ fn damages() -> Story {
         .field(fields::shadow(0, 9), shadow_entry(2, PROTECTED))
         .field(fields::shadow(0, 1_023), shadow_entry(1, 0))
         .field(fields::scalar(1, fields::LATEST_FAULT), 7)
+        .field(fields::special(0, TCOUNT), u32::MAX)
+        .field(fields::special(1, TLOAD), u32::MAX)
         .field(fields::special(0, PTO), u32::MAX)
         .field(fields::special(0, MODE), 1)
         .field(Q, 10_000)
@@ -741,5 +756,5 @@ pub fn files() -> Vec<File> {
         ("extra byte above 128 KiB", [long(32), vec![0]].concat()),
     ];
     let named = |(name, bytes): (&str, Vec<u8>)| File { name: name.into(), bytes };
-    files.into_iter().chain(faults::files()).map(named).collect()
+    files.into_iter().chain(faults::files()).chain(timers::files()).map(named).collect()
 }

@@ -3,6 +3,7 @@
 use std::fmt::{self, Write};
 
 use crate::counts::Counts;
+use crate::dlx::special::TCOUNT;
 use crate::dlx::{decode, Guest};
 use crate::fields;
 use crate::house::{numbers, Answer, House};
@@ -314,16 +315,18 @@ impl Player {
 
 fn describe_guest(text: &mut String, partition: usize, guest: &Guest) {
     let space = &guest.space;
+    let (specials, timer) = guest.specials.split_at(TCOUNT);
     line(
         text,
         format_args!(
-            "partition {partition} {} {} {} {}{} {}",
+            "partition {partition} {} {} {} {}{} {}{}",
             space.pages,
             guest.counter,
             guest.dpc,
             guest.pc,
-            Numbers(&guest.specials),
-            guest.fault
+            Numbers(specials),
+            guest.fault,
+            Numbers(timer)
         ),
     );
     line(text, format_args!("registers{}", Numbers(&guest.registers)));

@@ -3,6 +3,7 @@
 use std::collections::HashMap;
 
 use crate::assemble::{function, i_type, j_type, movi2s, movs2i, opcode, r_type, rfe};
+use crate::dlx::special;
 use crate::housefile::{record_bytes, word_bytes};
 use crate::memory::FRAME_WORDS;
 
@@ -15,7 +16,9 @@ hexadecimal after 0x.
   frame F            kind 3: frame F; the lines behind it are its words, from its first on:
     addi r1 r0 5       an instruction by its name: RD RS1 IMM, RD RS1 RS2, RS1 IMM (branches),
                        RS1 (jr, jalr), IMM (j, jal, trap), RD SPECIAL (movs2i),
-                       SPECIAL RS1 (movi2s), nothing (rfe); opcodes 24 to 31 end in i: slsi
+                       SPECIAL RS1 (movi2s), nothing (rfe); opcodes 24 to 31 end in i: slsi.
+                       SPECIAL is a number or one of the names sr esr eca epc edpc edata mode
+                       pto ptl emode tcount tload
     word N             a word
     at N               the next word stands at byte N of the frame
     name:              a label; a branch or jump may name it in place of IMM
@@ -242,12 +245,15 @@ fn register(text: &str) -> Result<u32, String> {
     number.filter(|&n| n < 32).ok_or(format!("expected a register r0 to r31, was given {text}"))
 }
 
+/// A special register by name or number; a number that no register has is a guest's matter.
 fn special_number(text: &str) -> Result<usize, String> {
-    let n = number(text)?;
-    if n < 32 {
-        return Ok(n as usize);
+    if let Some(named) = special::NAMES.iter().position(|&name| name == text) {
+        return Ok(named);
     }
-    Err(format!("expected a special number below 32, was given {text}"))
+    let below = number(text).ok().filter(|&n| n < 32);
+    below
+        .map(|n| n as usize)
+        .ok_or(format!("expected a special register's name or a number below 32, was given {text}"))
 }
 
 /// A number of so many bits, with or without a sign.
@@ -306,6 +312,13 @@ mod tests {
         assert_eq!(word("trap -1"), Ok(0xFBFF_FFFF));
         assert_eq!(word("rfe"), Ok(0xFC00_0000));
         assert_eq!(word("movi2s 7 r1"), Ok(0x0020_01D1));
+        assert_eq!(word("movi2s pto r1"), word("movi2s 7 r1"));
+        assert_eq!(word("movi2s tcount r1"), Ok(1 << 21 | 10 << 6 | 17));
+        assert_eq!(word("movs2i r1 tload"), Ok(1 << 11 | 11 << 6 | 16));
+        assert_eq!(word("movs2i r1 31"), Ok(1 << 11 | 31 << 6 | 16));
+        for wrong in ["movs2i r1 32", "movs2i r1 timer", "movi2s TCOUNT r1"] {
+            assert!(word(wrong).unwrap_err().starts_with("expected a special register's name"));
+        }
         assert_eq!(word("lb r1 r2 3"), Ok(0x8041_0003));
         assert_eq!(word("lh r1 r2 2"), Ok(0x8441_0002));
         assert_eq!(word("lbu r1 r2 -1"), Ok(0x9041_FFFF));

@@ -55,12 +55,12 @@ fn the_example_of_the_format() {
     let before = memory(&[0x2001_0005, 0xAC01_0008]);
     let after = memory(&[0x2001_0005, 0xAC01_0008, 5]);
     let house = "house 1 2 2048 0 1 1 0 0 0 0 0 0 0\n\
-                 partition 0 1 3 0 4 0 0 2 12 8 0 0 0 0 0 0\n";
+                 partition 0 1 3 0 4 0 0 2 12 8 0 0 0 0 0 0 0 0\n";
     let rest = format!("registers 0 5{zeros}\nframes 1\nshadow\n{after}\n");
     let expected = format!(
         "call boot -> 0 0\n\
          house 1 2 2048 0 2 1 0 0 0 0 0 0 0\n\
-         partition 0 1 0 0 4 0 0 0 0 0 0 0 0 0 0 0\n\
+         partition 0 1 0 0 4 0 0 0 0 0 0 0 0 0 0 0 0 0\n\
          registers 0 0{zeros}\nframes 1\nshadow\n{before}\n\
          call run -> 0 3\n{house}{rest}\
          call read -> 0 1\n{house}{rest}output {} 5\n",
@@ -111,7 +111,7 @@ fn pokes_outside_the_lent_memory_are_ignored() {
         Command::Fill { index: 2_000, count: u32::MAX, value: 1 },
         Command::Fill { index: u32::MAX, count: u32::MAX, value: 1 },
         Command::Fill { index: 5, count: 0, value: 1 },
-        Command::Field { index: 10_901, value: 1 },
+        Command::Field { index: 10_917, value: 1 },
     ];
     assert_eq!(script(&outside), script(&[]));
     let inside = [Command::Fill { index: 1_999, count: u32::MAX, value: 1 }];
@@ -132,30 +132,31 @@ fn queues_stand_before_the_memory() {
         all.strip_suffix("memory 0 0\n").unwrap().to_string()
     };
     assert_eq!(lines(&[]), "");
-    assert_eq!(lines(&[(10_669, 7), (10_671, 9), (10_894, 3)]), "queue 1 3 7 0 9\n");
-    assert_eq!(lines(&[(10_894, 2)]), "queue 1 2\n");
-    assert_eq!(lines(&[(10_637, 5), (10_900, 33)]), "queue 0 0 5\nqueue 7 33\n");
+    assert_eq!(lines(&[(10_685, 7), (10_687, 9), (10_910, 3)]), "queue 1 3 7 0 9\n");
+    assert_eq!(lines(&[(10_910, 2)]), "queue 1 2\n");
+    assert_eq!(lines(&[(10_653, 5), (10_916, 33)]), "queue 0 0 5\nqueue 7 33\n");
     let last = format!("queue 7 0{} 4294967295\n", " 0".repeat(31));
-    assert_eq!(lines(&[(10_892, u32::MAX)]), last);
+    assert_eq!(lines(&[(10_908, u32::MAX)]), last);
     // A queue is not a number of its partition: the four lines come by themselves, before it.
-    let partition = lines(&[(142, 1), (10_893, 1)]);
+    let partition = lines(&[(158, 1), (10_909, 1)]);
     assert!(partition.starts_with("partition 0 0 "), "{partition}");
     assert!(partition.ends_with("frames\nshadow\nqueue 0 1\n"), "{partition}");
 }
 
 #[test]
-fn the_latest_fault_is_the_last_scalar() {
+fn the_latest_fault_and_the_timer_are_the_last_scalars() {
     let look = Command::Run { steps: 0 };
     let line = |index, value| {
         let text = text(&write(&[Command::Field { index, value }, look.clone()]));
         text.lines().nth(2).unwrap().to_string()
     };
-    assert_eq!(line(13 + 15, 7), format!("partition 0{} 7", " 0".repeat(14)));
-    assert_eq!(
-        line(13 + 16 * 7 + 15, u32::MAX),
-        format!("partition 7{} 4294967295", " 0".repeat(14))
-    );
-    assert_eq!(line(13 + 16, 5), format!("partition 1 5{}", " 0".repeat(14)));
+    let zeros = |count| " 0".repeat(count);
+    assert_eq!(line(13 + 15, 7), format!("partition 0{} 7 0 0", zeros(14)));
+    assert_eq!(line(13 + 16, 7), format!("partition 0{} 7 0", zeros(15)));
+    assert_eq!(line(13 + 17, 7), format!("partition 0{} 7", zeros(16)));
+    assert_eq!(line(13 + 18 * 7 + 17, u32::MAX), format!("partition 7{} 4294967295", zeros(16)));
+    assert_eq!(line(13 + 18, 5), format!("partition 1 5{}", zeros(16)));
+    assert_eq!(line(13 + 12, 1), format!("partition 0{} 1 0 0 0", zeros(13)));
 }
 
 #[test]
@@ -166,11 +167,11 @@ fn shadows_have_1024_entries() {
         let lines: Vec<String> = text.lines().map(String::from).collect();
         (lines[2].clone(), lines[5].clone())
     };
-    let empty = |partition| format!("partition {partition}{}", " 0".repeat(15));
-    assert_eq!(shadow(2_445), (empty(0), "shadow 0:9".into()));
-    assert_eq!(shadow(2_445 + 1_023), (empty(0), "shadow 1023:9".into()));
-    assert_eq!(shadow(2_445 + 1_024), (empty(1), "shadow 0:9".into()));
-    assert_eq!(shadow(10_636), (empty(7), "shadow 1023:9".into()));
+    let empty = |partition| format!("partition {partition}{}", " 0".repeat(17));
+    assert_eq!(shadow(2_461), (empty(0), "shadow 0:9".into()));
+    assert_eq!(shadow(2_461 + 1_023), (empty(0), "shadow 1023:9".into()));
+    assert_eq!(shadow(2_461 + 1_024), (empty(1), "shadow 0:9".into()));
+    assert_eq!(shadow(10_652), (empty(7), "shadow 1023:9".into()));
 }
 
 #[test]

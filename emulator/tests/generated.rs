@@ -4,10 +4,12 @@ use std::collections::{BTreeMap, BTreeSet};
 use std::sync::OnceLock;
 
 use emulator::counts::Counts;
-use emulator::dlx::{decode, Guest, Instruction};
+use emulator::dlx::special::{SR, TCOUNT, TLOAD};
+use emulator::dlx::{decode, Cause, Guest, Instruction};
 use emulator::fields;
 use emulator::generate::{
-    files, scripts, Script, ANSWERS_EACH, FAULTS_EACH, PARTS_EACH, SCRIPT_NUMBERS,
+    files, scripts, Script, ANSWERS_EACH, BESIDE_EACH, FAULTS_EACH, PARTS_EACH, SCRIPT_NUMBERS,
+    TIMERS_EACH,
 };
 
 use emulator::house::{numbers, House, HOUSE_FRAME};
@@ -15,6 +17,7 @@ use emulator::housefile::night;
 use emulator::memory::Access;
 use emulator::script::{self, Command, Player};
 use emulator::tickets::{Queue, PLACES, SEND, TAKE};
+use emulator::timer::Kind;
 
 /// The default run of `emulator compare`.
 const SEED: u64 = 1;
@@ -52,10 +55,11 @@ fn the_default_run_reaches_every_rule() {
     let counts = default_counts();
     let steps = counts.all_steps();
     assert!(steps >= STEPS);
-    assert!(counts.steps[1] >= steps / 4, "user mode: {:?}", counts.steps);
+    assert!(counts.steps[1] >= STEPS / 4, "user mode: {:?}", counts.steps);
     assert!(counts.all_interrupts() <= steps / 10, "{:?}", counts.interrupts);
     assert!(counts.loops <= steps / 50, "interrupt loops: {}", counts.loops);
-    assert!(counts.interrupts[1..].iter().all(|&count| count >= 500), "{:?}", counts.interrupts);
+    let of_cause = |cause: &Cause| counts.interrupts[*cause as usize];
+    assert!(Cause::ALL.iter().all(|cause| of_cause(cause) >= 500), "{:?}", counts.interrupts);
     for number in SCRIPT_NUMBERS {
         assert!(counts.answers[number] >= ANSWERS_EACH, "number {number}: {:?}", counts.answers);
     }
@@ -93,7 +97,8 @@ fn the_default_run_has_every_fault() {
 fn every_cause_comes_in_delay_slots() {
     for (kind, least) in [("programs", 80), ("states", 30)] {
         let slots = counts_of_kind(kind).slots;
-        assert!(slots[1..].iter().all(|&count| count >= least), "{kind}: {slots:?}");
+        let enough = |cause: &Cause| slots[*cause as usize] >= least;
+        assert!(Cause::ALL.iter().all(enough), "{kind}: {slots:?}");
     }
 }
 
@@ -115,6 +120,55 @@ fn the_default_run_has_ticket_traffic() {
     };
     let count = programs.iter().filter(with_tickets).count();
     assert!(count >= programs.len() * 9 / 10, "{count} of {}", programs.len());
+}
+
+#[test]
+fn the_default_run_has_timers() {
+    let timers = &default_counts().timers;
+    assert_eq!((TIMERS_EACH, BESIDE_EACH), (200, 50));
+    for (name, came) in Kind::NAMES.iter().zip(timers.levels) {
+        assert!(came >= TIMERS_EACH, "{name}: {timers:?}");
+    }
+    let lower = timers.beside[1..].iter().chain(&timers.masked_beside[1..]);
+    assert!(lower.clone().all(|&came| came >= BESIDE_EACH), "{timers:?}");
+    assert!(timers.masked >= 10_000, "{timers:?}");
+    assert!(timers.user >= 2_000 && timers.filled >= 500 && timers.emptied >= 200, "{timers:?}");
+    // Also in the programs, where nothing is aimed at.
+    let programs = counts_of_kind("programs").timers;
+    assert!(programs.levels.iter().sum::<u64>() >= 1_000, "{programs:?}");
+    assert!(programs.user >= 500 && programs.masked >= 1_000, "{programs:?}");
+}
+
+/// Most guests of the programs set their timer themselves; timers are also set by hand.
+#[test]
+fn most_guests_have_a_timer() {
+    let (mut guests, mut with_timer, mut open) = (0, 0, 0);
+    for one in default_scripts().iter().filter(|one| one.name.starts_with("programs")) {
+        let mut player = Player::new();
+        let own = |command: &&Command| !by_hand(command);
+        for command in one.commands.iter().filter(own) {
+            player.play(command, &mut String::new(), &mut Counts::default());
+        }
+        for guest in player.house.guests.iter().filter(|guest| guest.counter >= 200) {
+            guests += 1;
+            let set = guest.specials[TCOUNT] != 0 || guest.specials[TLOAD] != 0;
+            with_timer += u64::from(set);
+            open += u64::from(set && (guest.specials[SR] & Cause::Timer.bit() != 0));
+        }
+    }
+    assert!(
+        guests >= 300 && with_timer >= guests / 2 && open >= 50,
+        "{guests} {with_timer} {open}"
+    );
+    let commands = default_scripts().iter().flat_map(|one| &one.commands);
+    let hand = commands.filter(|command| by_hand(command)).count();
+    assert!(hand >= 2_000, "{hand}");
+}
+
+/// A command that sets a timer.
+fn by_hand(command: &Command) -> bool {
+    let timers = |part: u32| [fields::special(part, TCOUNT), fields::special(part, TLOAD)];
+    matches!(command, Command::Field { index, .. } if (0..8).any(|part| timers(part).contains(index)))
 }
 
 #[test]

@@ -315,7 +315,7 @@ fn read_outs() {
 fn every_damage_is_found_and_nothing_else() {
     let given = answers("damage");
     let (sound, damaged) = (given.len() - 2, &given[2..given.len() - 2]);
-    assert_eq!(damaged.len(), 50);
+    assert_eq!(damaged.len(), 54);
     assert!(damaged.iter().all(|&answer| answer == (8, 0)), "{damaged:?}");
     assert_eq!(given[sound..], [(0, 0), (0, 0)]);
 }

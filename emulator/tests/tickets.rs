@@ -171,7 +171,7 @@ fn the_special_registers_stay() {
         "refused tickets leave the special registers alone",
     ] {
         for after in &play(name)[1..] {
-            let specials = [u32::MAX, 77, 77, 77, 77, 77, 0, 77, 77, 1];
+            let specials = [u32::MAX, 77, 77, 77, 77, 77, 0, 77, 77, 1, 0, 0];
             assert_eq!(after.guest().specials, specials, "{name}");
             assert_ne!(after.shadow(3), 0, "{name}");
         }

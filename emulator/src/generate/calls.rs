@@ -2,7 +2,7 @@
 
 use super::{guest_frames, tickets, Draft};
 use crate::assemble::{nop, Code};
-use crate::dlx::special::{EMODE, MODE};
+use crate::dlx::special::{EMODE, MODE, TCOUNT, TLOAD};
 use crate::fields::{self, COUNT, CURRENT, LEFT, Q, RUNNING, WAITING, WORDS};
 use crate::house::{House, HOUSE_FRAME};
 use crate::memory::{ENTRIES, PROTECTED, VALID};
@@ -272,7 +272,7 @@ pub fn damage_and_repair(draft: &mut Draft) {
 /// One of the ways in which a house can be damaged; some values lie just inside the limits.
 fn damage(rng: &mut Rng, house: &House) -> Vec<Change> {
     let partition = rng.below(house.count);
-    match rng.below(22) {
+    match rng.below(23) {
         0 => vec![(COUNT, rng.pick(&[0, 9, u32::MAX, house.count - 1, house.count + 1]))],
         1 => vec![(Q, rng.pick(&[0, 10_000, 10_001, u32::MAX, house.left]))],
         2 => vec![(WORDS, wrong_words(rng, house.words))],
@@ -288,6 +288,7 @@ fn damage(rng: &mut Rng, house: &House) -> Vec<Change> {
         14 | 15 => vec![wrong_shadow(rng, partition, house)],
         16 | 17 => vec![wrong_queue(rng, partition, house)],
         18 | 19 => vec![wrong_fault(rng, partition)],
+        20 => vec![timer(rng, partition)],
         _ => vec![unused_partition(rng, house)],
     }
 }
@@ -330,6 +331,12 @@ fn wrong_mode(rng: &mut Rng, partition: u32) -> Change {
 fn wrong_fault(rng: &mut Rng, partition: u32) -> Change {
     let value = rng.pick(&[8, 8, 9, 256, 1 << 31, u32::MAX, 7, 0]);
     (fields::scalar(partition, fields::LATEST_FAULT), value)
+}
+
+/// A timer, which is never damage in a partition that there is.
+fn timer(rng: &mut Rng, partition: u32) -> Change {
+    let special = rng.pick(&[TCOUNT, TLOAD]);
+    (fields::special(partition, special), rng.pick(&[1, 2, 1 << 31, u32::MAX]))
 }
 
 /// A frame number beyond the memory, the house's own, or one that stands elsewhere too.
@@ -399,7 +406,8 @@ fn unused_partition(rng: &mut Rng, house: &House) -> Change {
         return (fields::register(7, 0), 1);
     }
     let partition = rng.between(house.count, 7);
-    let index = match rng.below(10) {
+    let index = match rng.below(11) {
+        10 => fields::special(partition, rng.pick(&[TCOUNT, TLOAD])),
         0 | 1 => fields::scalar(partition, rng.below(fields::SCALARS)),
         9 => fields::scalar(partition, fields::LATEST_FAULT),
         2 => fields::register(partition, rng.below(32)),

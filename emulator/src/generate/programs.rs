@@ -1,13 +1,15 @@
 //! Random guest programs: a start-up in system mode that sets up the page table, a handler at 0
 //! that counts, repairs and returns, and loops in user mode over mapped, protected and missing
-//! pages that also change their own table. Most of them send and take tickets.
+//! pages that also change their own table. Most of them send and take tickets, and most have a timer.
 
 use super::tickets::{self, Seat};
-use super::words;
+use super::{timers, words};
 use crate::assemble::{
     addi, andi, function, i_type, jr, lw, movi2s, movs2i, nop, opcode, r_type, rfe, sw, trap, Code,
 };
-use crate::dlx::special::{ECA, EDATA, EDPC, EMODE, EPC, ESR, MODE, PTL, PTO, SR};
+use crate::dlx::special::{
+    self, ECA, EDATA, EDPC, EMODE, EPC, ESR, MODE, PTL, PTO, SR, TCOUNT, TLOAD,
+};
 use crate::memory::{ENTRIES, PROTECTED, VALID};
 use crate::rng::Rng;
 use crate::tickets::{SEND, TAKE};
@@ -241,7 +243,10 @@ fn start_up(rng: &mut Rng, plan: &Plan, code: &mut Code) {
         }
         set_table(plan, code);
     }
-    code.special(SR, 1, rng.pick(&[0, 64, 64, 0xFFFF_FFFF, 0xFFFF_FFBF]));
+    if rng.chance(80) {
+        timers::start(rng, code);
+    }
+    code.special(SR, 1, timers::status(rng));
 }
 
 /// Writes a constant to an address, in system mode.
@@ -256,16 +261,18 @@ fn set_table(plan: &Plan, code: &mut Code) {
     code.special(PTL, 25, plan.ptl);
 }
 
-/// To user mode by rfe, now and then by movi2s to MODE and a jump.
+/// To user mode by rfe, now and then by movi2s to MODE and a jump. No timer comes between what rfe
+/// needs and rfe.
 fn go_to_user(rng: &mut Rng, plan: &Plan, code: &mut Code) {
     if rng.chance(15) {
         code.constant(13, plan.user_entry());
         code.constant(12, rng.word() | 1);
         code.push(&[jr(13), movi2s(MODE, 12), nop()]);
     }
+    code.push(&[movi2s(SR, 0)]);
     code.special(EDPC, 1, plan.user_entry());
     code.special(EPC, 1, plan.user_entry() + 4);
-    code.special(ESR, 1, rng.pick(&[0, 64, 64, u32::MAX]));
+    code.special(ESR, 1, timers::status(rng));
     code.special(EMODE, 1, 1);
     code.push(&[rfe()]);
 }
@@ -313,10 +320,13 @@ fn from_system(code: &mut Code, again: usize) {
     code.push(&[rfe()]);
 }
 
-/// What a trap in user mode asks for: some work in system mode. Now and then it puts the table outside
-/// the pages, and the next fetch in user mode faults.
+/// What a trap in user mode asks for: some work in system mode, often with the timer let through. Now
+/// and then it puts the table outside the pages, and the next fetch in user mode faults.
 fn service(rng: &mut Rng, plan: &Plan, code: &mut Code) {
     let snippets = rng.below(3);
+    if rng.chance(60) {
+        code.special(SR, 12, timers::status(rng));
+    }
     if rng.chance(20) {
         let outside = [plan.pages, plan.pages + 1, 1 << 20 | plan.table, u32::MAX];
         code.special(PTO, 12, rng.pick(&outside));
@@ -328,7 +338,9 @@ fn service(rng: &mut Rng, plan: &Plan, code: &mut Code) {
     writer.snippets(code, snippets);
 }
 
+/// Back to user mode; no timer comes in between, whatever the service before it did with SR.
 fn leave(code: &mut Code) {
+    code.push(&[movi2s(SR, 0)]);
     code.push(&[movi2s(EPC, 20), movi2s(EDPC, 21), movi2s(ESR, 22), movi2s(EMODE, 23), rfe()]);
 }
 
@@ -442,7 +454,8 @@ impl Writer<'_> {
             82..=83 => code.push(&[words::ill(self.rng)]),
             84..=91 => self.change_table(code),
             92..=94 => self.set_table_again(code),
-            95..=96 => self.special(code),
+            95 => self.special(code),
+            96 => self.timer(code),
             97 => self.far_jump(code),
             98 => self.change_code(code),
             _ => code.push(&[words::instruction(self.rng)]),
@@ -760,7 +773,7 @@ impl Writer<'_> {
 
     /// Reads or writes a special register; ill in user mode.
     fn special(&mut self, code: &mut Code) {
-        let number = self.rng.index(10);
+        let number = self.rng.index(special::COUNT);
         if self.rng.chance(40) {
             return code.push(&[movs2i(self.rng.below(13), number)]);
         }
@@ -768,9 +781,18 @@ impl Writer<'_> {
             PTO => self.rng.pick(&[self.plan.table, self.plan.table, 0, u32::MAX]),
             PTL => self.rng.pick(&[self.plan.ptl, self.plan.ptl, self.plan.code_px, 0, 1_024]),
             MODE => self.rng.word() & !1,
+            TCOUNT | TLOAD => self.rng.below(100),
             _ => words::value(self.rng),
         };
         code.special(number, 12, value);
+    }
+
+    /// Sets, reads or stops the timer; in user mode asks the handler.
+    fn timer(&mut self, code: &mut Code) {
+        if self.user {
+            return code.push(&[trap(self.rng.below(8))]);
+        }
+        timers::piece(self.rng, code);
     }
 
     /// A jump to an address that is misaligned or not mapped; often its delay slot has another

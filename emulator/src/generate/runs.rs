@@ -1,7 +1,7 @@
 //! Scripts in which several partitions run programs, with other calls between the runs.
 
 use super::programs::{program, Program};
-use super::{calls, tickets, Draft};
+use super::{calls, tickets, timers, Draft};
 use crate::fields;
 use crate::memory::shadow_entry;
 use crate::script::Command;
@@ -47,7 +47,7 @@ fn run_length(draft: &mut Draft) -> u32 {
 /// Something between two runs.
 fn between(draft: &mut Draft, programs: &[Program]) {
     let partition = draft.partition();
-    match draft.rng.below(12) {
+    match draft.rng.below(13) {
         0 => drop(draft.emit(Command::Stop { partition })),
         1 => drop(draft.emit(Command::Start { partition })),
         2 => drop(draft.emit(Command::Empty { partition })),
@@ -56,6 +56,7 @@ fn between(draft: &mut Draft, programs: &[Program]) {
         5 => calls::wrong_length(draft),
         6 => calls::refused_run(draft),
         7 | 8 => tickets::set_queue(draft, partition),
+        9 => timers::poke(draft, partition),
         _ => wrong_shadows(draft, partition, &programs[partition as usize].pages),
     }
 }

@@ -1,6 +1,6 @@
 //! Scripts that set a guest's state by hand and do one or a few steps from it.
 
-use super::{tickets, words, Draft};
+use super::{tickets, timers, words, Draft};
 use crate::assemble::trap;
 use crate::counts::Counts;
 use crate::dlx::special::{EDPC, EMODE, EPC, ESR, MODE, PTL, PTO, SR};
@@ -82,7 +82,8 @@ fn overflow(draft: &mut Draft, partition: u32) -> u32 {
     set_register(draft, partition, 1, one);
     set_register(draft, partition, 2, two);
     if draft.rng.chance(80) {
-        draft.field(fields::special(partition, SR), 64);
+        let open = draft.rng.pick(&[0, timers::OPEN]);
+        draft.field(fields::special(partition, SR), 64 | open);
     }
     instruction
 }
@@ -90,8 +91,8 @@ fn overflow(draft: &mut Draft, partition: u32) -> u32 {
 fn set_specials(draft: &mut Draft, partition: u32) {
     let rng = &mut draft.rng;
     let mut changes = vec![(MODE, u32::from(rng.chance(60)))];
-    if rng.chance(40) {
-        changes.push((SR, rng.pick(&[0, 64, u32::MAX])));
+    if rng.chance(55) {
+        changes.push((SR, timers::status(rng)));
     }
     if rng.chance(40) {
         let edges = [3, MAPPED, 256, 257, 1_023, 1_024, 1_025, u32::MAX, u32::MAX, 0];
@@ -106,6 +107,9 @@ fn set_specials(draft: &mut Draft, partition: u32) {
     }
     for (special, value) in changes {
         draft.field(fields::special(partition, special), value);
+    }
+    if draft.rng.chance(55) {
+        timers::poke(draft, partition);
     }
     if draft.rng.chance(20) {
         let fault = draft.rng.below(Fault::LAST + 1);

@@ -1,6 +1,7 @@
 //! Random instruction words and values.
 
 use crate::assemble::{function, i_type, j_type, movi2s, movs2i, opcode, r_type, rfe, trap};
+use crate::dlx::special;
 use crate::rng::Rng;
 use crate::tickets::{SEND, TAKE};
 
@@ -106,9 +107,9 @@ pub fn overflow(rng: &mut Rng) -> (u32, u32, u32) {
     }
 }
 
-/// A word that is not in the table, or a special number above 9.
+/// A word that is not in the table, or a special number above 11.
 pub fn ill(rng: &mut Rng) -> u32 {
-    let above = rng.between(10, 31) as usize;
+    let above = rng.between(12, 31) as usize;
     match rng.below(6) {
         0 => 0,
         1 => r_type(rng.pick(&[33, 35, 39, 0, 1, 15, 18, 31, 48, 63]), 1, 2, 3),
@@ -141,8 +142,8 @@ pub fn instruction(rng: &mut Rng) -> u32 {
         76..=79 => i_type(rng.pick(&[opcode::JR, opcode::JALR]), a, b, immediate(rng)),
         80..=82 => trap(trap_number(rng)),
         83..=85 => rfe() | rng.word() & 0x03FF_FFFF,
-        86..=89 => movs2i(a, rng.index(10)) | rng.word() & 0x03FF_0000,
-        90..=94 => movi2s(rng.index(10), a) | rng.word() & 0x001F_F800,
+        86..=89 => movs2i(a, rng.index(special::COUNT)) | rng.word() & 0x03FF_0000,
+        90..=94 => movi2s(rng.index(special::COUNT), a) | rng.word() & 0x001F_F800,
         95..=96 => ill(rng),
         97 => r_type(function::ADD, a, b, a),
         _ => rng.word(),
