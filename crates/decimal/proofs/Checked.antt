@@ -2,8 +2,8 @@
 use mathlib.Core.Path.{_≡_, refl}
 use mathlib.Core.Bool.{true}
 use Rattle.decimal.specs.Decimals.{decimalIn, decimal}
-use Rattle.decimal.specs.Texts.{ascii}
-use Rattle.decimal.specs.Examples.{same, all, numbers}
+use Rattle.decimal.specs.Texts.{ascii, same}
+use Rattle.decimal.specs.Examples.{all, numbers}
 
 pub checked : all numbers ≡ true
 unfolding all same numbers ascii decimalIn decimal

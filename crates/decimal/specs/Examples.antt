@@ -1,17 +1,10 @@
 -- Worked examples: each some bytes, and the text that they are. proofs/Checked.antt checks them by a single claim.
-use mathlib.Core.Bool.{Bool, true, false, _&&_}
+use mathlib.Core.Bool.{Bool, true, _&&_}
 use mathlib.Core.List.{List, [], _∷_}
 use Prim.Native.Nat.{ℕ, _-_, _^_}
 use Prim.Native.String.{String}
-use lib.Dec.{eqb}
 use Rattle.decimal.specs.Decimals.{decimal}
-use Rattle.decimal.specs.Texts.{ascii}
-
-unfoldable pub same : List ℕ → List ℕ → Bool
-same [] [] = true
-same [] (y ∷ ys) = false
-same (x ∷ xs) [] = false
-same (x ∷ xs) (y ∷ ys) = eqb x y && same xs ys
+use Rattle.decimal.specs.Texts.{ascii, same}
 
 unfoldable pub all : List (List ℕ × String) → Bool
 all [] = true

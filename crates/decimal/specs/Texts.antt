@@ -1,17 +1,24 @@
 -- Text as bytes, and what it is to put text into a lent buffer.
 use mathlib.Core.Path.{_≡_}
-use mathlib.Core.Bool.{cond}
+use mathlib.Core.Bool.{Bool, true, false, cond, _&&_}
 use mathlib.Core.List.{List, [], _∷_}
 use Prim.Native.Nat.{ℕ, _+_, _≤_}
 use Prim.Native.Char.{code}
 use Prim.Native.String.{String, [] as no-text, _∷_ as _then_}
-use lib.Dec.{ltb}
+use lib.Dec.{ltb, eqb}
 use lib.ListN.{length, set}
 
 -- the bytes of a text in ASCII
 unfoldable pub ascii : String → List ℕ
 ascii no-text = []
 ascii (c then s) = code c ∷ ascii s
+
+-- two texts are the same
+unfoldable pub same : List ℕ → List ℕ → Bool
+same [] [] = true
+same [] (y ∷ ys) = false
+same (x ∷ xs) [] = false
+same (x ∷ xs) (y ∷ ys) = eqb x y && same xs ys
 
 -- a buffer, and where the text ends in it
 pub record Text : Type 0 where

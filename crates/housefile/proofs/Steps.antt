@@ -38,7 +38,7 @@ pub record Open (r : Reader) : Type 0 where
 
 -- ---- a wrong record: nothing after it is looked at
 
-stuck : (s : Read) (bs : List ℕ) → s .reader .wrong ≡ true → fed s bs ≡ s
+pub stuck : (s : Read) (bs : List ℕ) → s .reader .wrong ≡ true → fed s bs ≡ s
 unfolding fed took
 stuck s [] e = refl
 stuck s (b ∷ bs) e = simp e (stuck s bs e)

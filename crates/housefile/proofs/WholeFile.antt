@@ -15,7 +15,7 @@ use Rattle.housefile.specs.Records.{number, wordsOf, size, kind, body, m
 use Rattle.housefile.specs.Reader.{Read, read, noRecord, noRead, completed, took, fed, answerOf}
 use Rattle.housefile.specs.declared.Reader.{Reader}
 use Rattle.housefile.proofs.Machine.{fed-pieces}
-use Rattle.housefile.proofs.Steps.{Bytes, drop-bytes, Open, wrong-answer}
+use Rattle.housefile.proofs.Steps.{Bytes, drop-bytes, Open, stuck, wrong-answer}
 use Rattle.housefile.proofs.Words.{few}
 use Rattle.housefile.proofs.InBody.{behind}
 use Rattle.housefile.proofs.EachKind.{header-wrong, cut-short, empty-fed, turns-fed, frames-fed, frame-wrong, memory-fed}
@@ -234,3 +234,9 @@ reads bs g l =
 pub cut-anywhere : (xs bs : List ℕ) → ((i : ℕ) → getD (xs ++ bs) i 0 < 256) → length (xs ++ bs) < 2 ^ 64
     → answerOf (fed (fed noRead xs) bs) ≡ readingOf (xs ++ bs)
 cut-anywhere xs bs g l = ap answerOf (sym (fed-pieces noRead xs bs)) ∙ reads (xs ++ bs) g l
+
+-- once a record is wrong, the answer is fixed, however the file goes on
+pub wrong-fixed : (bs more : List ℕ) → ((i : ℕ) → getD bs i 0 < 256) → ((i : ℕ) → getD (bs ++ more) i 0 < 256) → length (bs ++ more) < 2 ^ 64
+    → fed noRead bs .reader .wrong ≡ true → readingOf (bs ++ more) ≡ readingOf bs
+wrong-fixed bs more g h l w =
+    sym (cut-anywhere bs more h l) ∙ ap answerOf (stuck (fed noRead bs) more w) ∙ reads bs g (omega (arith, length-append bs more))

@@ -20,8 +20,8 @@ use Rattle.house.specs.Boot.{offset, laid, bootedHouse}
 use Rattle.tickets.specs.Queues.{sending, taking, desk}
 use Rattle.house.specs.Turns.{nextFrom, turnOf, requestNow, replyNow, queuesNext, guestStep, settledHouse, stepWith, hostStep, hostSteps}
 use Rattle.decimal.specs.Decimals.{decimalIn, decimal}
-use Rattle.decimal.specs.Texts.{ascii}
-use Rattle.decimal.specs.Examples.{same, all}
+use Rattle.decimal.specs.Texts.{ascii, same}
+use Rattle.decimal.specs.Examples.{all}
 use Rattle.report.specs.Report.{field, line, header, lineOf, linesFrom, reportOf, refusedText}
 use Rattle.report.specs.Examples.{refusals, first, eight, byHand, reports}
 

@@ -1,13 +1,13 @@
 -- What a read makes of the reads before it.
 use mathlib.Core.Path.{_≡_, refl, sym, ap, subst, _∙_}
-use mathlib.Core.Bool.{Bool, true, false}
-use mathlib.Core.List.{List, [], _∷_, _++_}
+use mathlib.Core.Bool.{Bool, true, false, not, _&&_}
+use mathlib.Core.List.{List, [], _∷_, _++_, append-nil}
 use Prim.Native.Nat.{ℕ, zero, suc, _+_, _-_, _^_, _<_, _≤_}
 use native.Mathlib.Omega.{arith}
 use borrow.Author.Tests.{eq-eqb, ne-eqb, lt-ltb, le-ltb, ltb-true, eqb-false}
 use lib.Dec.{eqb, ltb}
 use lib.IntN.{ℤ, pos, negsuc}
-use lib.ListN.{length, take, length-append}
+use lib.ListN.{length, take, length-append, length-take}
 use lib.Signed.{ltZ}
 use Rattle.dlx.specs.Choice.{if_then_else_}
 use Rattle.io.specs.Counts.{Counts, clamped}
@@ -15,8 +15,8 @@ use Rattle.dlx.proofs.Kept.{either}
 use Rattle.housefile.specs.Reader.{Read, read, noReader, fed}
 use Rattle.housefile.proofs.Machine.{fed-pieces}
 use Rattle.housefile.proofs.Parts.{take-there}
-use Rattle.night.specs.Pieces.{Bytes, Input, input, noneTaken, over, came, afterRead, Brought}
-use Rattle.night.specs.declared.input.Taken.{Taken}
+use Rattle.night_run.specs.Pieces.{Bytes, Input, input, noneTaken, over, came, afterRead, Brought, goesOn}
+use Rattle.night_run.specs.declared.input.Taken.{Taken}
 
 -- ---- one read
 
@@ -57,6 +57,11 @@ pub record Behind (start : Read) (i : Input) (bs : List ℕ) : Type 0 where
   pub count : length bs ≡ i .bytes
   pub fits : length bs < 2 ^ 64
   pub stands : i .at ≡ fed start bs
+  pub before : List ℕ
+  pub last : List ℕ
+  pub whole : bs ≡ before ++ last
+  pub piece : length last ≤ 65536
+  pub needed : fed start before .reader .wrong ≡ false
 
 append-bytes : (xs bs : List ℕ) → Bytes xs → Bytes bs → Bytes (xs ++ bs)
 append-bytes [] bs p q k = q k
@@ -80,13 +85,32 @@ pub held-none : (t : Taken) (turns pages frames memory : List ℕ) → t ≡ non
 unfolding fed
 held-none t turns pages frames memory e =
     subst (λ (x : Taken). Held (read noReader turns pages frames memory) (input x turns pages frames memory)) (sym e)
-    ([], record { bytes = λ k. omega arith; count = refl; fits = omega arith; stands = refl })
+    ([], record { bytes = λ k. omega arith; count = refl; fits = omega arith; stands = refl; before = []; last = []; whole = refl; piece = omega arith; needed = refl })
 
-pub held-more : (start : Read) (i : Input) (a : ℤ) (b : List ℕ) → Brought a b → Held start i → Held start (afterRead i a b)
+came-short : (a : ℤ) (b : List ℕ) → length (came a b) ≤ length b
+came-short (pos n) b = omega (arith, length-take n b)
+came-short (negsuc n) b = omega arith
+
+-- a read more, made while no record was wrong
+pub held-more : (start : Read) (i : Input) (a : ℤ) (b : List ℕ) → Brought a b → i .at .reader .wrong ≡ false → Held start i → Held start (afterRead i a b)
 unfolding afterRead
-held-more start i a b w (bs, h) =
+held-more start i a b w right (bs, h) =
     let more = came a b in
-    let same : (f : Bool) → Held start (over i f) = λ f. (bs, record { bytes = h .bytes; count = h .count; fits = h .fits; stands = h .stands }) in
+    let so-far : fed start bs .reader .wrong ≡ false = sym (ap (λ (s : Read). s .reader .wrong) (h .stands)) ∙ right in
+    let same : (f : Bool) → Held start (over i f) = λ f. (
+      bs,
+      record {
+        bytes = h .bytes;
+        count = h .count;
+        fits = h .fits;
+        stands = h .stands;
+        before = bs;
+        last = [];
+        whole = sym (append-nil bs);
+        piece = omega arith;
+        needed = so-far;
+      },
+    ) in
     either (Held start) (eqb (length more) 0) (λ _. same _)
     λ _. either (Held start) (ltb (i .bytes + length more) (2 ^ 64)) (λ l. (
       bs ++ more,
@@ -95,9 +119,23 @@ held-more start i a b w (bs, h) =
         count = length-append bs more ∙ ap (λ (k : ℕ). k + length more) (h .count);
         fits = omega (arith, length-append bs more, h .count, ltb-true (i .bytes + length more) (2 ^ 64) l);
         stands = ap (λ (s : Read). fed s more) (h .stands) ∙ sym (fed-pieces start bs more);
+        before = bs;
+        last = more;
+        whole = refl;
+        piece = omega (arith, came-short a b, w .size);
+        needed = so-far;
       },
     ))
     (λ _. same _)
+
+-- while the reads go on, the input has not ended and no record is wrong
+pub on-open : (t : Taken) → goesOn t ≡ true → (t .ended ≡ false) × (t .reader .wrong ≡ false)
+on-open t e = both (t .ended) (t .reader .wrong) e
+  where
+    both : (a b : Bool) → (not a && not b) ≡ true → (a ≡ false) × (b ≡ false)
+    both false false e = (refl, refl)
+    both false true e = (refl, cc)
+    both true b e = (cc, cc)
 
 -- how many bytes may still come
 abbrev pub left : Input → ℕ

@@ -1,9 +1,8 @@
 // A file read in pieces: the bytes of each go to the reader as they come.
 ghost use mathlib.Core.Path.{_≡_};
-ghost use mathlib.Core.Bool.{not};
 ghost use mathlib.Core.List.{List};
 ghost use Prim.Native.Nat.{ℕ};
-ghost use Rattle.night.specs.Pieces.{Bytes, input, noneTaken, over, afterRead};
+ghost use Rattle.night_run.specs.Pieces.{Bytes, input, noneTaken, over, afterRead, goesOn};
 use crate::system::Answer;
 use housefile::Reader;
 use housefile::feed;
@@ -31,11 +30,11 @@ impl Taken {
         }
     }
 
-    // There may be more to read.
+    // One read more is to be made.
     pub fn more(self) -> bool
-        ensures { λ r. ⌜ r ≡ not (self .ended) ⌝ }
+        ensures { λ r. ⌜ r ≡ goesOn self ⌝ }
     {
-        !self.ended
+        !self.ended & !self.reader.wrong
     }
 
     // The last read failed.

@@ -1,8 +1,8 @@
 use native.Mathlib.Omega.{arith}
-use Rattle.night.proofs.Pieces.{read-none, read-long, read-some}
+use Rattle.night_run.proofs.Pieces.{read-none, read-long, read-some}
 use borrow.Author.Needs.{needs}
-use Rattle.night.proofs.input.after_read.Statement.{statement}
-use Rattle.night.proofs.input.after_read.Tie as tie
+use Rattle.night_run.proofs.input.after_read.Statement.{statement}
+use Rattle.night_run.proofs.input.after_read.Tie as tie
 
 count-requires : tie.Need-count-requires
 count-requires c κs = search needs

@@ -1,6 +1,6 @@
 use borrow.Author.Needs.{needs}
-use Rattle.night.proofs.input.Taken.none.Statement.{statement}
-use Rattle.night.proofs.input.Taken.none.Tie as tie
+use Rattle.night_run.proofs.input.Taken.none.Statement.{statement}
+use Rattle.night_run.proofs.input.Taken.none.Tie as tie
 
 none-requires : tie.Need-none-requires
 none-requires c κs = search needs

@@ -5,8 +5,8 @@ use mir.Syntax.{w64}
 use mir.ValLaws.{toZ-ofZ}
 use Rattle.io.specs.Counts.{clamped}
 use borrow.Author.Needs.{needs}
-use Rattle.night.proofs.system.Answer.count.Statement.{statement}
-use Rattle.night.proofs.system.Answer.count.Tie as tie
+use Rattle.night_run.proofs.system.Answer.count.Statement.{statement}
+use Rattle.night_run.proofs.system.Answer.count.Tie as tie
 
 count-requires : tie.Need-count-requires
 count-requires c κs = search needs

@@ -1,8 +1,8 @@
 -- A file read in pieces: what each read adds, and what all of them come to.
 use mathlib.Core.Path.{_≡_}
-use mathlib.Core.Bool.{Bool, true, false}
-use mathlib.Core.List.{List, []}
-use Prim.Native.Nat.{ℕ, _+_, _<_, _^_}
+use mathlib.Core.Bool.{Bool, true, false, not, _&&_}
+use mathlib.Core.List.{List, [], _++_}
+use Prim.Native.Nat.{ℕ, _+_, _<_, _≤_, _^_}
 use lib.Dec.{ltb, eqb}
 use lib.IntN.{ℤ, pos, negsuc}
 use lib.ListN.{length, getD, take}
@@ -10,7 +10,7 @@ use lib.Signed.{ltZ}
 use Rattle.dlx.specs.Choice.{if_then_else_}
 use Rattle.libc.specs.Io.{Moved}
 use Rattle.housefile.specs.Reader.{Read, read, noReader, fed}
-use Rattle.night.specs.declared.input.Taken.{Taken}
+use Rattle.night_run.specs.declared.input.Taken.{Taken}
 
 abbrev pub Bytes : List ℕ → Type 0
 Bytes bs = (i : ℕ) → getD bs i 0 < 256
@@ -65,9 +65,26 @@ pub record Brought (answer : ℤ) (buffer : List ℕ) : Type 0 where
 
 -- ---- all reads
 
--- these are the bytes of all reads, and the reads are over
-pub record AllOf (t : Taken) (bs : List ℕ) : Type 0 where
+-- one read more is made: the input has not ended, and no record is wrong yet
+abbrev pub goesOn : Taken → Bool
+goesOn t = not (t .ended) && not (t .reader .wrong)
+
+-- These are the bytes of all reads, and no read more is made. The reads began at `start`; the last of them was made while no record was wrong.
+pub record AllOf (start : Read) (t : Taken) (bs : List ℕ) : Type 0 where
   pub bytes : Bytes bs
   pub count : length bs ≡ t .bytes
   pub fits : length bs < 2 ^ 64
-  pub ended : t .ended ≡ true
+  pub over : goesOn t ≡ false
+  pub before : List ℕ
+  pub last : List ℕ
+  pub whole : bs ≡ before ++ last
+  pub piece : length last ≤ 65536
+  pub needed : fed start before .reader .wrong ≡ false
+
+-- a file of which these bytes were read: all of it where the input ended; else a record is wrong, and it may go on
+pub record FileOf (t : Taken) (bs file : List ℕ) : Type 0 where
+  pub more : List ℕ
+  pub whole : file ≡ bs ++ more
+  pub bytes : Bytes file
+  pub fits : length file < 2 ^ 64
+  pub ended : t .ended ≡ true → more ≡ []

@@ -2,8 +2,8 @@ use mathlib.Core.Path.{sym, subst}
 use Prim.Native.Nat.{ℕ}
 use Rattle.libc.specs.Io.{Moved}
 use borrow.Author.Needs.{needs}
-use Rattle.night.proofs.take_piece.Statement.{statement}
-use Rattle.night.proofs.take_piece.Tie as tie
+use Rattle.night_run.proofs.take_piece.Statement.{statement}
+use Rattle.night_run.proofs.take_piece.Tie as tie
 
 large-buffer-requires : tie.Need-large-buffer-requires
 large-buffer-requires c κs = search needs
