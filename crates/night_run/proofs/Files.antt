@@ -20,7 +20,7 @@ use Rattle.housefile.specs.declared.Reader.{Reader}
 use Rattle.housefile.proofs.WholeFile.{reads, wrong-fixed}
 use Rattle.housefile.proofs.Parts.{take-there}
 use Rattle.night_run.specs.Pieces.{AllOf, FileOf}
-use Rattle.night_run.specs.Ran.{unbooted, afterBoot, ranOf, handed, answerIn}
+use Rattle.night_run.specs.Ran.{unbooted, afterBoot, ranOf, handed, answerIn, Told}
 use Rattle.night_run.specs.declared.input.Taken.{Taken}
 use Rattle.night_run.specs.declared.Ran.{Ran}
 
@@ -80,6 +80,10 @@ pub handed-read : (t : Taken) (file : List ℕ) (a : Answered) (x : Reading) →
 unfolding handed
 handed-read t file a x f e h = rw f (h ∙ ap ranOf e)
 
+read-on : (t : Taken) (file : List ℕ) → t .failed ≡ false → handed t file ≡ ranOf (readingOf file)
+unfolding handed
+read-on t file e = rw e
+
 -- ---- what is handed on
 
 abbrev ranWith : Taken → ℕ → ℕ → House → List ℕ → Ran
@@ -108,12 +112,20 @@ module _ (t : Taken) (turns pages frames memory bs : List ℕ) (all : AllOf noRe
   pub ran-right : (r₂ : Reader) (k g : ℕ) (h : House) (m : List ℕ) → r₂ ≡ t .reader → n ≡ 0
       → answered (verdict k g) (world h m) ≡ afterBoot (bootCall (take (r₂ .lists) pages) (getD turns 0 0) (take (r₂ .total) frames) memory) (getD turns 1 0)
       → Handed (ranWith t k g h m)
-  ran-right r₂ k g h m s z a =
-      (
-        bs,
-        all,
-        whole (answered (verdict k g) (world h m))
+  ran-right r₂ k g h m s z a = (
+    bs,
+    all,
+    whole (answered (verdict k g) (world h m))
         (a
         ∙ ap (λ (y : Reader). afterBoot (bootCall (take (y .lists) pages) (getD turns 0 0) (take (y .total) frames) memory) (getD turns 1 0)) s
         ∙ file-done n d (read (t .reader) turns pages frames memory) now z),
-      )
+  )
+
+-- ---- what a program prints for it
+
+module _ (printed : Answered → List ℕ) (x : Ran) (h : Handed x) where
+  pub told-nothing : x .taken .failed ≡ true → Told printed (x .taken) []
+  told-nothing f = (h .0, h .1, λ file _. rw f)
+
+  pub told-answer : x .taken .failed ≡ false → Told printed (x .taken) (printed (answerIn x))
+  told-answer f = (h .0, h .1, λ file of. ap printed (h .2 file of ∙ read-on (x .taken) file f) ∙ rw f)

@@ -1,5 +1,5 @@
 -- The lines of partitions, one more in each turn, and a whole text.
-use mathlib.Core.Path.{_≡_, sym, ap, _∙_}
+use mathlib.Core.Path.{_≡_, refl, sym, ap, _∙_}
 use mathlib.Core.Bool.{true, false}
 use mathlib.Core.List.{List, [], _∷_, _++_, map, append-nil, append-assoc}
 use Prim.Native.Nat.{ℕ, suc, _+_, _*_, _<_, _≤_, _^_, min}
@@ -8,7 +8,7 @@ use native.Mathlib.Omega.{arith}
 use borrow.Author.Tests.{ltb-true, ltb-false}
 use lib.Dec.{ltb}
 use lib.ListN.{length, getD, take, drop, length-append, length-map}
-use lib.Seq.{take-all, take-suc, length-take-le}
+use lib.Seq.{take-all, take-suc, take-at, length-take-le}
 use Rattle.dlx.proofs.Tests.{by-test}
 use Rattle.dlx.specs.declared.partition.Partition.{Partition}
 use Rattle.decimal.specs.Decimals.{decimal}
@@ -17,6 +17,7 @@ use Rattle.decimal.proofs.Decimals.{few-digits}
 use Rattle.decimal.proofs.Texts.{put-behind, whole, _then_, nothing, roomy}
 use Rattle.report.specs.Report.{field, lineOf, linesFrom}
 use Rattle.report.specs.Put.{Counts}
+use Rattle.report.specs.Put.{put as at-start}
 
 -- a number of at most k + 1 digits, and the byte behind it
 pub field-short : (k n b : ℕ) → n < 10 ^ suc k → length (field n b) ≤ suc k + 1
@@ -27,16 +28,26 @@ pub field-is : {o : List ℕ} {r : ℕ} {t′ : Text} (t : Text) (n b : ℕ) →
 unfolding field
 field-is t n b e f = put-behind t (decimal n) (b ∷ []) e f
 
--- a text put at the start of a buffer that holds it
-pub whole-is : {out o bs : List ℕ} {r most : ℕ} → Puts out 0 o r bs most → length out ≡ 1024 → most ≤ 1024
+-- ---- a text at the start of a buffer
+
+-- one that the buffer holds
+pub whole-is : {out o bs : List ℕ} {r most : ℕ} → Puts out 0 o r bs most → most ≤ length out
     → ((r ≡ length bs) × (o ≡ bs ++ drop (length bs) out)) × Counts r o
-whole-is {out} {o} {bs} {r} p m l =
+whole-is {out} {o} {bs} {r} p l =
     let z : 0 + length bs ≡ length bs = omega arith in
     let e = whole p (omega arith) in
     let n : r ≡ length bs = e .0 ∙ z in
     let w : o ≡ bs ++ drop (length bs) out = e .1 ∙ rw z in
     let k : r ≤ length o = omega (arith, n, ap length w, length-append bs (drop (length bs) out)) in
     ((n, w), (k, sym (length-take-le r o k)))
+
+-- the text t, put as it is, is the text t′
+pub put-as : (t t′ out : List ℕ) (n : ℕ) (now : List ℕ) → n ≡ length t → now ≡ t ++ drop (length t) out → t ≡ t′ → (n, now) ≡ at-start t′ out
+put-as t t′ out n now l h e = ap (λ (x : ℕ). (x, now)) l ∙ ap (λ (x : List ℕ). (length t, x)) h ∙ ap (λ (x : List ℕ). at-start x out) e
+
+-- a text that was put stands at the buffer's start
+pub put-there : (t out now : List ℕ) (n : ℕ) → (n, now) ≡ at-start t out → take n now ≡ t
+put-there t out now n e = ap (λ (g : ℕ × List ℕ). take (g .0) (g .1)) e ∙ take-at t (drop (length t) out) (length t) refl
 
 -- ---- the lines
 

@@ -5,6 +5,7 @@ use lib.ListN.{take}
 use Rattle.decimal.specs.Decimals.{decimal}
 use Rattle.decimal.specs.Texts.{ascii}
 use Rattle.dlx.specs.declared.partition.Partition.{Partition}
+use Rattle.house.specs.Boot.{Verdict}
 use Rattle.house.specs.declared.House.{House}
 
 -- ---- lines
@@ -39,3 +40,6 @@ reportOf h = header ++ linesFrom 0 (take (h .count) (h .parts))
 -- a refusal's text: refused N D
 unfoldable pub refusedText : ℕ → ℕ → List ℕ
 refusedText n d = ascii "refused " ++ line n (d ∷ [])
+
+abbrev pub refusal : Verdict → List ℕ
+refusal v = refusedText (v .number) (v .detail)

@@ -14,7 +14,7 @@ use dlx::partition::Partition;
 use house::House;
 
 // A number, of at most 20 digits, and the byte behind it.
-fn put_field(out: &mut [u8; 1024], at: usize, n: u64, behind: u8) -> usize
+pub fn put_field(out: &mut [u8], at: usize, n: u64, behind: u8) -> usize
     ensures { λ r. ⌜ Puts (now (out .entry)) at (now (out .exit)) r (field n behind) 21 ⌝ }
 {
     let end = put_decimal(out, at, n);
@@ -22,7 +22,7 @@ fn put_field(out: &mut [u8; 1024], at: usize, n: u64, behind: u8) -> usize
 }
 
 // The same of a word, which has at most 10 digits.
-fn put_word(out: &mut [u8; 1024], at: usize, n: u32, behind: u8) -> usize
+pub fn put_word(out: &mut [u8], at: usize, n: u32, behind: u8) -> usize
     ensures { λ r. ⌜ Puts (now (out .entry)) at (now (out .exit)) r (field n behind) 11 ⌝ }
 {
     put_field(out, at, n as u64, behind)
@@ -103,12 +103,19 @@ pub fn report(h: House, out: &mut [u8; 1024]) -> usize
     put_partitions(out, at, h.count, parts)
 }
 
-// `refused`, a refusal's number and its detail. Answers the text's length.
+// `refused`, a refusal's number and its detail: at most 40 bytes.
+pub fn put_refused(out: &mut [u8], at: usize, number: u32, detail: u64) -> usize
+    ensures { λ r. ⌜ Puts (now (out .entry)) at (now (out .exit)) r (refusedText number detail) 40 ⌝ }
+{
+    let first = put_text(out, at, b"refused ");
+    let second = put_word(out, first, number, b' ');
+    put_field(out, second, detail, b'\n')
+}
+
+// The same as a whole text. Answers its length.
 pub fn refused(number: u32, detail: u64, out: &mut [u8; 1024]) -> usize
     ensures { λ r. ⌜ (r ≡ length (refusedText number detail)) × (now (out .exit) ≡ refusedText number detail ++ drop (length (refusedText number detail)) (now (out .entry))) ⌝ }
     ensures { λ r. ⌜ Counts r (now (out .exit)) ⌝ }
 {
-    let first = put_text(out, 0, b"refused ");
-    let second = put_word(out, first, number, b' ');
-    put_field(out, second, detail, b'\n')
+    put_refused(out, 0, number, detail)
 }

@@ -1,4 +1,7 @@
-use Rattle.night.proofs.Texts.{put-there}
+use mathlib.Core.Path.{sym, subst}
+use Rattle.report.proofs.Texts.{put-there}
+use Rattle.night_run.specs.Ran.{Told}
+use Rattle.night.specs.Printed.{printed}
 use borrow.Author.Needs.{needs}
 use Rattle.night.proofs.night.Statement.{statement}
 use Rattle.night.proofs.night.Tie as tie
@@ -22,9 +25,7 @@ slice-aggregate-show : tie.Need-slice-aggregate-show
 slice-aggregate-show c = search needs
 
 show-requires : tie.Need-show-requires
-show-requires c κs =
-    let e = c .before .before .before .text-for .ensures .0 in
-    (e .0, e .1, put-there _ _ _ _ (e .2))
+show-requires c κs = let e = c .before .before .before .text-for .ensures .0 in subst (Told printed (c .before .before .before .text-for .result .taken)) (sym (put-there _ _ _ _ (e .2))) (e .1)
 
 returns-2 : tie.Need-returns-2
 returns-2 c = search needs

@@ -39,8 +39,7 @@ loop-again c =
 
 returns : tie.Need-returns Inv-loop μ-loop
 returns c =
-    let h = c .before .before .loop .inv .1 in
-    (
+    let h = c .before .before .loop .inv .1 in (
       c .before .before .loop .inv .0,
       record {
         bytes = h .bytes;

@@ -22,7 +22,7 @@ returns : tie.Need-returns
 unfolding reportOf header ascii
 returns c =
     let n : length (c .before .before .before .before .before .before .args .out .now) ≡ 1024 = search (needs, c .before .before .before .before .put-text-arg) in
-    whole-is (puts {most = 40} (c .before .before .put-text .ensures) (omega arith) then c .put-partitions .ensures) n (omega arith)
+    whole-is (puts {most = 40} (c .before .before .put-text .ensures) (omega arith) then c .put-partitions .ensures) (omega (arith, n))
 
 pub report-spec : {M : Type 1} → statement M
 report-spec =
