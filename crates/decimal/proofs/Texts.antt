@@ -1,9 +1,9 @@
 -- Texts that are put one behind the other.
-use mathlib.Core.Path.{_≡_, refl, sym, ap, _∙_}
+use mathlib.Core.Path.{_≡_, refl, sym, ap, subst, _∙_}
 use mathlib.Core.Bool.{Bool, true, false, cond}
 use mathlib.Core.List.{List, [], _∷_, _++_}
-use Prim.Native.Nat.{ℕ, suc, _+_, _/_, _^_, _<_, _≤_}
-use native.Mathlib.Nat.{add-zero}
+use Prim.Native.Nat.{ℕ, suc, _+_, _*_, _/_, _^_, _<_, _≤_}
+use native.Mathlib.Nat.{add-zero, mul-suc}
 use native.Mathlib.Numerals.{add-one}
 use native.Mathlib.Omega.{arith}
 use borrow.Author.Tests.{lt-ltb, le-ltb}
@@ -11,7 +11,7 @@ use lib.Dec.{ltb}
 use lib.ListN.{length, getD, set, take, drop, length-append, length-set, drop-of-length-le}
 use lib.Seq.{drop-cons, sets, sets-eq}
 use Rattle.decimal.specs.Decimals.{digit, decimal}
-use Rattle.decimal.specs.Texts.{Text, text, put, Puts}
+use Rattle.decimal.specs.Texts.{joined, Text, text, put, Puts}
 use Rattle.decimal.proofs.Decimals.{one-digit, more-digits, few-digits}
 
 put-more : (t : Text) (a b : List ℕ) → put t (a ++ b) ≡ put (put t a) b
@@ -115,3 +115,17 @@ nothing = record { stands = refl; short = omega arith }
 -- a number of 64 bits has at most 20 digits
 pub decimal-puts : {out o : List ℕ} {at r : ℕ} (n : ℕ) → n < 2 ^ 64 → text o r ≡ put (text out at) (decimal n) → Puts out at o r (decimal n) 20
 decimal-puts n l e = puts e (few-digits 19 n (omega arith))
+
+-- ---- parts that a loop puts: before the first, with one part more, and all
+
+module _ (f : ℕ → List ℕ) (m : ℕ) where
+  pub parts-begin : {s : List ℕ} {u : ℕ} → Puts s u s u (joined f 0) (m * 0)
+  unfolding joined
+  parts-begin = roomy (m * 0) nothing (omega arith)
+
+  pub parts-on : {s t r : List ℕ} {u v w : ℕ} (i : ℕ) → Puts s u t v (joined f i) (m * i) → Puts t v r w (f i) m → Puts s u r w (joined f (i + 1)) (m * (i + 1))
+  unfolding joined
+  parts-on i p q = rw (add-one i, mul-suc m i) (p then q)
+
+  pub parts-end : {s t : List ℕ} {u v : ℕ} (i n : ℕ) → i ≤ n → n ≤ i → Puts s u t v (joined f i) (m * i) → Puts s u t v (joined f n) (m * n)
+  parts-end {s} {t} {u} {v} i n a b p = let e : i ≡ n = omega arith in subst (λ (x : ℕ). Puts s u t v (joined f x) (m * x)) e p

@@ -1,5 +1,5 @@
-pub mod Appending
 pub mod Blank
 pub mod Digests
+pub mod Flags
 pub mod Lent
 pub mod Listed

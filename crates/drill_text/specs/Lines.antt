@@ -6,9 +6,9 @@ use lib.Dec.{eqb}
 use lib.ListN.{length, getD, take}
 use Rattle.dlx.specs.Choice.{if_then_else_}
 use Rattle.house.specs.declared.House.{House}
-use Rattle.decimal.specs.Texts.{ascii}
+use Rattle.decimal.specs.Texts.{ascii, joined}
 use Rattle.drill_text.specs.Digest.{digestOf}
-use Rattle.drill_text.specs.Numbers.{joined, numberOf, numbersOf}
+use Rattle.drill_text.specs.Numbers.{numberOf, numbersOf}
 
 -- a name and numbers
 unfoldable pub rowOf : List ℕ → List ℕ → List ℕ

@@ -15,8 +15,8 @@ use Rattle.house.specs.House.{partition, registersOf, framesOf}
 use Rattle.house.specs.House.{shadowOf as entriesIn}
 use Rattle.house.specs.Lists.{all}
 use Rattle.decimal.specs.Decimals.{decimal}
-use Rattle.decimal.specs.Texts.{ascii}
-use Rattle.drill_text.specs.Numbers.{joined, numberOf}
+use Rattle.decimal.specs.Texts.{ascii, joined}
+use Rattle.drill_text.specs.Numbers.{numberOf}
 use Rattle.drill_text.specs.Lines.{rowOf}
 
 -- the most bytes that tell of one partition, 388 of them in its own line

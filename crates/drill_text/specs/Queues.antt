@@ -8,8 +8,8 @@ use Rattle.dlx.specs.Choice.{if_then_else_}
 use Rattle.tickets.specs.Queues.{placesOf, waitingOf}
 use Rattle.house.specs.declared.House.{House}
 use Rattle.house.specs.House.{queuesOf}
-use Rattle.decimal.specs.Texts.{ascii}
-use Rattle.drill_text.specs.Numbers.{joined, numberOf}
+use Rattle.decimal.specs.Texts.{ascii, joined}
+use Rattle.drill_text.specs.Numbers.{numberOf}
 use Rattle.drill_text.specs.Lines.{rowOf}
 use Rattle.drill_text.specs.Partitions.{zerosOf, listedOf}
 

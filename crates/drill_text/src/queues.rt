@@ -2,9 +2,8 @@
 ghost use mathlib.Core.Path.{_≡_};
 ghost use Prim.Native.Nat.{_*_};
 ghost use lib.ListN.{length, getD};
-ghost use Rattle.decimal.specs.Texts.{Puts};
+ghost use Rattle.decimal.specs.Texts.{Puts, joined};
 ghost use Rattle.dlx.specs.Parts.{inner};
-ghost use Rattle.drill_text.specs.Numbers.{joined};
 ghost use Rattle.drill_text.specs.Queues.{idleOf, queueLineOf, queueLinesOf};
 use crate::ROOM;
 use crate::lines::rest;

@@ -4,10 +4,11 @@ use native.Mathlib.Omega.{arith}
 use borrow.Author.Needs.{needs}
 use lib.ListN.{getD}
 use Rattle.dlx.specs.Choice.{if_then_else_}
-use Rattle.decimal.specs.Texts.{Puts}
-use Rattle.drill_text.specs.Numbers.{joined, numberOf}
+use Rattle.decimal.specs.Texts.{Puts, joined}
+use Rattle.drill_text.specs.Numbers.{numberOf}
 use Rattle.drill_text.specs.Lines.{flagsOf}
-use Rattle.drill_text.proofs.Appending.{parts-begin, parts-on, parts-end, flag-byte}
+use Rattle.decimal.proofs.Texts.{parts-begin, parts-on, parts-end}
+use Rattle.drill_text.proofs.Flags.{flag-byte}
 use Rattle.drill_text.proofs.lines.flags.Statement.{statement}
 use Rattle.drill_text.proofs.lines.flags.Tie as tie
 

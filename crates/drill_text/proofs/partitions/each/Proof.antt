@@ -2,12 +2,11 @@ use Prim.Native.Nat.{ℕ, _≤_, _-_, _*_}
 use native.Mathlib.Omega.{arith}
 use lib.ListN.{getD}
 use Rattle.dlx.specs.Parts.{inner}
-use Rattle.decimal.specs.Texts.{Puts}
+use Rattle.decimal.specs.Texts.{Puts, joined}
 use Rattle.translate.specs.Walk.{entries}
 use Rattle.house.specs.House.{noPartition}
-use Rattle.drill_text.specs.Numbers.{joined}
 use Rattle.drill_text.specs.Partitions.{longest, partitionOf}
-use Rattle.drill_text.proofs.Appending.{parts-begin, parts-on, parts-end}
+use Rattle.decimal.proofs.Texts.{parts-begin, parts-on, parts-end}
 use borrow.Author.Needs.{needs}
 use Rattle.drill_text.proofs.partitions.each.Statement.{statement}
 use Rattle.drill_text.proofs.partitions.each.Tie as tie

@@ -2,10 +2,9 @@ use Prim.Native.Nat.{ℕ, _≤_, _-_, _*_}
 use native.Mathlib.Omega.{arith}
 use borrow.Author.Needs.{needs}
 use lib.ListN.{length, getD}
-use Rattle.decimal.specs.Texts.{Puts}
-use Rattle.drill_text.specs.Numbers.{joined}
+use Rattle.decimal.specs.Texts.{Puts, joined}
 use Rattle.drill_text.specs.Partitions.{entryOf, entriesOf}
-use Rattle.drill_text.proofs.Appending.{parts-begin, parts-on, parts-end}
+use Rattle.decimal.proofs.Texts.{parts-begin, parts-on, parts-end}
 use Rattle.drill_text.proofs.partitions.entries.Statement.{statement}
 use Rattle.drill_text.proofs.partitions.entries.Tie as tie
 

@@ -2,10 +2,9 @@ use Prim.Native.Nat.{ℕ, _≤_, _-_, _*_}
 use native.Mathlib.Omega.{arith}
 use lib.ListN.{getD}
 use Rattle.dlx.specs.Parts.{inner}
-use Rattle.decimal.specs.Texts.{Puts}
-use Rattle.drill_text.specs.Numbers.{joined}
+use Rattle.decimal.specs.Texts.{Puts, joined}
 use Rattle.drill_text.specs.Queues.{queueLineOf}
-use Rattle.drill_text.proofs.Appending.{parts-begin, parts-on, parts-end}
+use Rattle.decimal.proofs.Texts.{parts-begin, parts-on, parts-end}
 use Rattle.drill_text.proofs.Lent.{lent-part, lent-length}
 use borrow.Author.Needs.{needs}
 use Rattle.drill_text.proofs.queues.each.Statement.{statement}

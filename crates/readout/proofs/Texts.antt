@@ -1,0 +1,95 @@
+-- Which text an answer gives.
+use mathlib.Core.Path.{_≡_, refl, sym, ap, subst, _∙_}
+use mathlib.Core.Bool.{true, false, not, _||_}
+use mathlib.Core.List.{List, [], _∷_}
+use Prim.Native.Nat.{ℕ, _+_, _*_, _/_, _%_, _^_, _<_, _≤_}
+use native.Mathlib.Omega.{arith}
+use borrow.Author.Tests.{eq-eqb, ne-eqb, ltb-true, ltb-false, leb-false}
+use lib.Dec.{eqb, ltb, leb}
+use lib.ListN.{length, getD, replicate}
+use Rattle.dlx.specs.Choice.{if_then_else_}
+use Rattle.dlx.proofs.Kept.{either}
+use Rattle.house.specs.House.{pagesOf}
+use Rattle.house.specs.Damage.{damaged}
+use Rattle.house.specs.Boot.{Verdict, verdict, firstOf}
+use Rattle.house.specs.Turns.{World}
+use Rattle.house.specs.Calls.{Read, read, answered, beyondOf, readVerdict, readCall}
+use Rattle.house.proofs.Lists.Bounded.{or-right}
+use Rattle.house.proofs.Damage.Undamaged.{undamaged-gives}
+use Rattle.house.specs.declared.House.{House}
+use Rattle.housefile.specs.Records.{number}
+use Rattle.report.specs.Put.{put}
+use Rattle.report.specs.Report.{refusedText}
+use Rattle.readout.specs.Printed.{lowFirst, wordsText, readText, noWords, printed}
+use Rattle.readout.specs.declared.Want.{Want}
+
+pub put-same : (t t′ out : List ℕ) (g : ℕ × List ℕ) → g ≡ put t out → t ≡ t′ → g ≡ put t′ out
+put-same t t′ out g h e = h ∙ ap (λ (x : List ℕ). put x out) e
+
+-- ---- the read-out
+
+-- one that is done has room for its words
+abbrev Roomy : List ℕ → ℕ → Verdict → Type 0
+Roomy out count v = v .number ≡ 0 → count ≤ length out
+
+done-roomy : (w : World) (i a count : ℕ) (out : List ℕ) → Roomy out count (readVerdict w i a count out)
+unfolding readVerdict firstOf
+done-roomy w i a count out =
+    either (Roomy out count) (damaged (w .house)) (λ _ e. absurd (omega arith)) λ _.
+    either (Roomy out count) (not (eqb (length (w .memory)) (w .house .words))) (λ _ e. absurd (omega arith)) λ _.
+    either (Roomy out count) (leb (w .house .count) i) (λ _ e. absurd (omega arith)) λ _.
+    either (Roomy out count) (beyondOf (pagesOf (w .house) i) a count) (λ _ e. absurd (omega arith)) λ _.
+    either (Roomy out count) (ltb (length out) count) (λ _ e. absurd (omega arith)) λ t e.
+    ltb-false (length out) count t
+
+-- The refusal 13, an output that is too short, never comes: the output holds the largest partition.
+abbrev NotShort : Verdict → Type 0
+NotShort v = v .number ≡ 13 → ⊥
+
+pub never-short : (w : World) (i a count : ℕ) (out : List ℕ) → length out ≡ 262144 → readVerdict w i a count out .number ≡ 13 → ⊥
+unfolding readVerdict firstOf
+never-short w i a count out l =
+    let h = w .house in
+    let high = ltb (4096 * pagesOf h i) (a + 4 * count) in
+    either NotShort (damaged h) (λ _ e. omega arith) λ d.
+    either NotShort (not (eqb (length (w .memory)) (h .words))) (λ _ e. omega arith) λ _.
+    either NotShort (leb (h .count) i) (λ _ e. omega arith) λ k.
+    either NotShort (beyondOf (pagesOf h i) a count) (λ _ e. omega arith) λ b.
+    either NotShort (ltb (length out) count)
+    (λ t e.
+    omega (
+      arith,
+      l,
+      ltb-true (length out) count t,
+      ltb-false (4096 * pagesOf h i) (a + 4 * count) (or-right (not (eqb (a % 4) 0)) high b),
+      undamaged-gives h d .pages i (leb-false (h .count) i k) .1,
+    ))
+    (λ _ e. omega arith)
+
+module _ (want : Want) (w : World) (out : List ℕ) (n d : ℕ) (h : House) (o : List ℕ) (e : read (verdict n d) h o ≡ readCall w (want .partition) (want .address) (want .count) out) where
+  pub read-refused : (n ≡ 0 → ⊥) → refusedText n d ≡ readText want w out
+  unfolding readText
+  read-refused z = sym (rw (← e, ne-eqb n 0 z))
+
+  pub read-done : n ≡ 0 → wordsText (want .raw) o (want .count) ≡ readText want w out
+  unfolding readText
+  read-done z = sym (rw (← e, eq-eqb n 0 z))
+
+  pub read-fits : length out ≡ 262144 → n ≡ 0 → want .count ≤ 262144
+  unfolding readCall
+  read-fits l z =
+      let v : Roomy out (want .count) (verdict n d) = subst (λ (r : Read). Roomy out (want .count) (r .verdict)) (sym e) (done-roomy w (want .partition) (want .address) (want .count) out) in
+      omega (arith, l, v z)
+
+pub text-refused : (want : Want) (n d : ℕ) (w : World) → (n ≡ 0 → ⊥) → refusedText n d ≡ printed want (answered (verdict n d) w)
+unfolding printed
+text-refused want n d w z = rw (ne-eqb n 0 z)
+
+pub text-done : (want : Want) (n d : ℕ) (w : World) → n ≡ 0 → readText want w (replicate 262144 0) ≡ printed want (answered (verdict n d) w)
+unfolding printed noWords
+text-done want n d w z = sym (rw (eq-eqb n 0 z))
+
+-- raw words are little-endian: the house file's reading gives them back
+pub raw-reads : (w : ℕ) → w < 2 ^ 32 → number (lowFirst w) ≡ w
+unfolding number lowFirst
+raw-reads w l = omega arith
