@@ -1,6 +1,7 @@
 //! The command line.
 
 use std::io::{self, Read, Write};
+use std::os::unix::fs::MetadataExt;
 use std::path::Path;
 use std::process::ExitCode;
 use std::time::Duration;
@@ -28,14 +29,18 @@ emulator play [SCRIPT]
     Plays a script (FORMAT.md) and prints what it sees after each call.
 emulator night [FILE]
     Reads a house file, boots, runs, and prints the report.
-emulator show [SCRIPT]
-    Prints the commands of a script.
+emulator show [FILE]
+    Tells what a house file holds, as a source that makes the same file again; or prints the
+    commands of a script. FILE.house is a house file and FILE.script a script; of another name, or on
+    standard input, what begins with the head of a kind 1 record is a house file.
 emulator shrink --drill CMD [SCRIPT]
     Makes a script on which CMD differs as small as it goes.
 emulator generate --out DIR [--seed N] [--steps N] [--files N]
     Writes the named and random scripts and house files into DIR.
 emulator make [SOURCE] --out FILE
-    Makes a house file from a readable source; `emulator form` tells what stands in one.
+    Makes a house file from a readable source.
+emulator form
+    Tells what stands in a source, and lists every instruction.
 
 Without a file, or for -, standard input is read.
 ";
@@ -55,6 +60,9 @@ fn command(arguments: &[String]) -> Result<ExitCode, String> {
     let Some((name, rest)) = arguments.split_first() else {
         return Err("expected a command, was given none; `emulator help` lists them".into());
     };
+    if rest.iter().any(|word| matches!(word.as_str(), "--help" | "-h")) {
+        return print(HELP);
+    }
     match name.as_str() {
         "compare" => run_compare(&Arguments::parse(rest)?),
         "play" => print(&script::play(&input(&Arguments::parse(rest)?)?, &mut Counts::default())),
@@ -65,7 +73,7 @@ fn command(arguments: &[String]) -> Result<ExitCode, String> {
         "shrink" => run_shrink(&Arguments::parse(rest)?),
         "generate" => run_generate(&Arguments::parse(rest)?),
         "make" => make(&Arguments::parse(rest)?),
-        "form" => print(source::FORM),
+        "form" => print(&source::form()),
         "help" | "--help" | "-h" => print(HELP),
         other => Err(format!(
             "expected compare, play, night, show, shrink, generate, make, form or help, was given {other}"
@@ -164,8 +172,21 @@ fn run_shrink(arguments: &Arguments) -> Result<ExitCode, String> {
     }
 }
 
+/// The head of a kind 1 record.
+const FIRST_HEAD: [u8; housefile::HEAD] = [8, 0, 0, 0, 1, 0];
+
 fn show(arguments: &Arguments) -> Result<ExitCode, String> {
-    let (commands, wrong) = script::read(&input(arguments)?);
+    let bytes = input(arguments)?;
+    let name = arguments.file.as_deref().unwrap_or("-");
+    let house = match name.rsplit_once('.') {
+        Some((_, "house")) => true,
+        Some((_, "script")) => false,
+        _ => bytes.starts_with(&FIRST_HEAD),
+    };
+    if house {
+        return print(&source::show(&bytes));
+    }
+    let (commands, wrong) = script::read(&bytes);
     let mut text: String = commands.iter().map(|command| format!("{command}\n")).collect();
     if let Some(at) = wrong {
         text.push_str(&format!("wrong command at {at}\n"));
@@ -195,15 +216,36 @@ fn save(directory: &str, name: &str, kind: &str, bytes: &[u8]) -> Result<(), Str
     fs::write(&path, bytes).map_err(|error| format!("{}: {error}", path.display()))
 }
 
+/// Makes a house file. No file that it is made from is written over.
 fn make(arguments: &Arguments) -> Result<ExitCode, String> {
     let out = arguments.text("--out").ok_or("expected --out FILE, was given none")?;
-    let text = String::from_utf8(input(arguments)?).map_err(|_| "the source is not UTF-8 text")?;
-    let bytes = source::bytes(&text).map_err(|message| match &arguments.file {
-        Some(path) => format!("{path}: {message}"),
-        None => message,
-    })?;
+    let path = arguments.file.as_deref().filter(|&path| path != "-").unwrap_or("/dev/stdin");
+    let text = String::from_utf8(input(arguments)?);
+    let text = text.map_err(|_| format!("{path}: expected a source, which is text, in UTF-8"))?;
+    spare(path, out)?;
+    let folder = Path::new(path).parent().filter(|_| path != "/dev/stdin").unwrap_or(Path::new(""));
+    let bytes = source::bytes_with(&text, &mut |name| {
+        let image = folder.join(name);
+        spare(&image.to_string_lossy(), out)?;
+        fs::read(&image).map_err(|error| format!("{}: {error}", image.display()))
+    });
+    let bytes = bytes.map_err(|message| format!("{path}: {message}"))?;
     fs::write(out, bytes).map_err(|error| format!("{out}: {error}"))?;
     Ok(ExitCode::SUCCESS)
+}
+
+/// An error where both names are those of one regular file.
+fn spare(input: &str, out: &str) -> Result<(), String> {
+    let file = |path: &str| {
+        let found = fs::metadata(path).ok().filter(fs::Metadata::is_file);
+        found.map(|of| (of.dev(), of.ino()))
+    };
+    match (file(input), file(out)) {
+        (Some(one), Some(other)) if one == other => {
+            Err(format!("expected --out another file than {input}, which it is made from"))
+        }
+        _ => Ok(()),
+    }
 }
 
 /// The bytes of the file, or of standard input.

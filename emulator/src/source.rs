@@ -1,90 +1,172 @@
-//! House files from readable sources, one record or instruction a line.
+//! House files from readable sources, one record or instruction a line; and back.
 
 use std::collections::HashMap;
 
-use crate::assemble::{function, i_type, j_type, movi2s, movs2i, opcode, r_type, rfe};
-use crate::dlx::special;
 use crate::housefile::{record_bytes, word_bytes};
 use crate::memory::FRAME_WORDS;
 
+mod instructions;
+mod show;
+
+pub use show::show;
+
+const FRAME_BYTES: usize = 4 * FRAME_WORDS;
+
 /// What stands in a source, for the help text.
-pub const FORM: &str = "\
+pub fn form() -> String {
+    let instructions = instructions::list();
+    format!(
+        "\
 A source has one line for each record or instruction; # starts a comment. Numbers are decimal, or
 hexadecimal after 0x.
   turns Q run N      kind 1: turns of Q steps, a run of N
   partition F F ..   kind 2: a partition's frames
   frame F            kind 3: frame F; the lines behind it are its words, from its first on:
-    addi r1 r0 5       an instruction by its name: RD RS1 IMM, RD RS1 RS2, RS1 IMM (branches),
-                       RS1 (jr, jalr), IMM (j, jal, trap), RD SPECIAL (movs2i),
-                       SPECIAL RS1 (movi2s), nothing (rfe); opcodes 24 to 31 end in i: slsi.
-                       SPECIAL is a number or one of the names sr esr eca epc edpc edata mode
-                       pto ptl emode tcount tload
     word N             a word
     at N               the next word stands at byte N of the frame
-    name:              a label; a branch or jump may name it in place of IMM
-  end                kind 4
-  bytes XX XX ..     bytes as they are, in hexadecimal
-  words N N ..       words as they are, little-endian
-";
+    name:              a label, alone or before an instruction; a branch or jump may name it for IMM
+    addi r1 r0 5       an instruction, as listed below
+  image FILE F F ..  kind 3: the file's bytes as words, little-endian, in frame after frame, the last
+                     one filled up with 0. Without frames: into those of partition 0 for the first
+                     such line, of partition 1 for the next, and so on. FILE is looked for where the
+                     source is
+  end                kind 4: the last line
+  bytes XX XX ..     bytes as they are, in hexadecimal; where they are the last, no end is needed
+  words N N ..       words as they are, little-endian; likewise
+
+Instructions. RD, RS1 and RS2 are registers, r0 to r31, of which r0 is always 0. IMM is a number from
+-32768 to 32767 (j, jal and trap: -33554432 to 33554431, lhgi: 0 to 65535); in a branch or jump it
+counts in bytes from the instruction behind it. SPECIAL is 0 SR, 1 ESR, 2 ECA, 3 EPC, 4 EDPC, 5 EDATA,
+6 MODE, 7 PTO, 8 PTL, 9 EMODE.
+{instructions}"
+    )
+}
+
+/// Gives the bytes of an image by its name.
+pub type Images<'a> = &'a mut dyn FnMut(&str) -> Result<Vec<u8>, String>;
 
 /// The bytes of a source, or the number of its first wrong line and what is wrong there.
-pub fn bytes(source: &str) -> Result<Vec<u8>, String> {
-    let mut file = Vec::new();
-    let mut frame: Option<Frame> = None;
+pub fn bytes_with(source: &str, images: Images) -> Result<Vec<u8>, String> {
+    let mut maker = Maker::default();
     for (number, line) in source.lines().enumerate() {
-        let told = |message: String| format!("line {}: {message}", number + 1);
         let line = line.split('#').next().unwrap_or_default();
+        maker.line(line, number + 1, images)?;
+    }
+    maker.close()?;
+    if !maker.whole {
+        return Err(told(source.lines().count(), "expected `end` as the last record".into()));
+    }
+    Ok(maker.file)
+}
+
+/// The bytes of a source whose images stand in the current folder.
+pub fn bytes(source: &str) -> Result<Vec<u8>, String> {
+    bytes_with(source, &mut |name| std::fs::read(name).map_err(|error| format!("{name}: {error}")))
+}
+
+fn told(line: usize, message: String) -> String {
+    format!("line {line}: {message}")
+}
+
+/// The file as its lines come.
+#[derive(Default)]
+struct Maker {
+    file: Vec<u8>,
+    /// The frame whose lines are read.
+    frame: Option<Frame>,
+    /// The frames of the partitions so far.
+    partitions: Vec<Vec<u32>>,
+    /// Images without frames so far.
+    images: usize,
+    /// The last record ends the file, or it is written as it is.
+    whole: bool,
+}
+
+impl Maker {
+    fn line(&mut self, line: &str, number: usize, images: Images) -> Result<(), String> {
+        let told = |message| told(number, message);
         let items: Vec<&str> = line.split_whitespace().collect();
-        let Some((&name, rest)) = items.split_first() else { continue };
-        if let Some(body) = record(name, rest).map_err(told)? {
-            close(&mut file, frame.take())?;
-            match body {
-                Line::Frame(of) => frame = Some(Frame::new(of)),
-                Line::Bytes(bytes) => file.extend(bytes),
+        let Some((&name, rest)) = items.split_first() else { return Ok(()) };
+        match name {
+            "turns" | "partition" | "frame" | "image" | "end" | "bytes" | "words" => {
+                self.close()?;
+                self.whole = matches!(name, "end" | "bytes" | "words");
+                self.record(name, rest, images).map_err(told)
             }
-            continue;
+            _ => match self.frame.as_mut() {
+                Some(frame) => frame.line(line, number).map_err(told),
+                None => Err(told(format!(
+                    "expected a record (turns, partition, frame, image, end, bytes or words), was given {name}"
+                ))),
+            },
         }
-        let Some(open) = frame.as_mut() else {
-            return Err(told(format!("expected a record, was given {name}")));
+    }
+
+    /// Ends the frame whose lines were read.
+    fn close(&mut self) -> Result<(), String> {
+        if let Some(frame) = self.frame.take() {
+            let (of, words) = frame.finished()?;
+            self.put_frame(of, &word_bytes(&words));
+        }
+        Ok(())
+    }
+
+    fn put_frame(&mut self, of: u32, bytes: &[u8]) {
+        let mut body = of.to_le_bytes().to_vec();
+        body.extend(bytes);
+        body.resize(4 + FRAME_BYTES, 0);
+        self.file.extend(record_bytes(3, &body));
+    }
+
+    fn record(&mut self, name: &str, rest: &[&str], images: Images) -> Result<(), String> {
+        let bytes = match (name, rest) {
+            ("turns", [q, "run", steps]) => {
+                record_bytes(1, &word_bytes(&[number(q)?, number(steps)?]))
+            }
+            ("turns", _) => return Err("expected `turns Q run N`".into()),
+            ("partition", _) => {
+                self.partitions.push(numbers(rest)?);
+                record_bytes(2, &word_bytes(&numbers(rest)?))
+            }
+            ("frame", [of]) => {
+                self.frame = Some(Frame::new(number(of)?));
+                return Ok(());
+            }
+            ("frame", _) => return Err("expected `frame F`".into()),
+            ("image", [file, frames @ ..]) => return self.image(&images(file)?, file, frames),
+            ("image", _) => return Err("expected `image FILE F F ..`".into()),
+            ("end", []) => record_bytes(4, &[]),
+            ("end", _) => return Err("expected `end`, and nothing behind it".into()),
+            ("bytes", _) => rest.iter().map(|item| hexadecimal(item)).collect::<Result<_, _>>()?,
+            _ => word_bytes(&numbers(rest)?),
         };
-        open.line(name, rest, number + 1).map_err(told)?;
+        self.file.extend(bytes);
+        Ok(())
     }
-    close(&mut file, frame)?;
-    Ok(file)
-}
 
-/// A line that ends the frame before it.
-enum Line {
-    Frame(u32),
-    Bytes(Vec<u8>),
-}
-
-fn record(name: &str, rest: &[&str]) -> Result<Option<Line>, String> {
-    let bytes = match name {
-        "turns" => {
-            let [q, "run", steps] = rest else {
-                return Err("expected `turns Q run N`".into());
-            };
-            record_bytes(1, &word_bytes(&[number(q)?, number(steps)?]))
+    /// An image in frame after frame, as many as it fills.
+    fn image(&mut self, bytes: &[u8], file: &str, frames: &[&str]) -> Result<(), String> {
+        let mut frames = numbers(frames)?;
+        if frames.is_empty() {
+            let of = self.images;
+            let list = self.partitions.get(of);
+            frames =
+                list.ok_or(format!("there is no partition {of} for the image {file}"))?.clone();
+            self.images += 1;
         }
-        "partition" => record_bytes(2, &word_bytes(&numbers(rest)?)),
-        "frame" => {
-            let [of] = rest else { return Err("expected `frame F`".into()) };
-            return Ok(Some(Line::Frame(number(of)?)));
+        let many = bytes.len().div_ceil(FRAME_BYTES);
+        if many == 0 || many > frames.len() {
+            return Err(format!(
+                "{file} has {} bytes, which fill {many} frames of {FRAME_BYTES}; was given {} for it",
+                bytes.len(),
+                frames.len()
+            ));
         }
-        "end" => record_bytes(4, &[]),
-        "bytes" => rest.iter().map(|item| hexadecimal(item)).collect::<Result<_, _>>()?,
-        "words" => word_bytes(&numbers(rest)?),
-        _ => return Ok(None),
-    };
-    Ok(Some(Line::Bytes(bytes)))
-}
-
-fn close(file: &mut Vec<u8>, frame: Option<Frame>) -> Result<(), String> {
-    if let Some(frame) = frame {
-        file.extend(frame.record()?);
+        for (of, piece) in frames.iter().zip(bytes.chunks(FRAME_BYTES)) {
+            self.put_frame(*of, piece);
+        }
+        Ok(())
     }
-    Ok(())
 }
 
 /// A frame as its lines come.
@@ -110,33 +192,59 @@ impl Frame {
         Frame { of, words, next: 0, labels: HashMap::new(), branches: Vec::new() }
     }
 
-    fn line(&mut self, name: &str, rest: &[&str], line: usize) -> Result<(), String> {
-        if let Some(label) = name.strip_suffix(':') {
-            return match self.labels.insert(label.into(), self.next) {
-                Some(_) => Err(format!("the label {label} stands twice in its frame")),
-                None => Ok(()),
-            };
+    fn line(&mut self, line: &str, number: usize) -> Result<(), String> {
+        let line = match line.split_once(':') {
+            Some((label, behind)) => {
+                self.label(label.trim())?;
+                behind
+            }
+            None => line,
+        };
+        let items: Vec<&str> = line.split_whitespace().collect();
+        match items.split_first() {
+            Some((name, rest)) => self.word_line(name, rest, number),
+            None => Ok(()),
         }
+    }
+
+    fn label(&mut self, label: &str) -> Result<(), String> {
+        if !is_label(label) {
+            return Err(format!(
+                "expected a label of letters, digits and _, a letter first, was given {label}:"
+            ));
+        }
+        match self.labels.insert(label.into(), self.next) {
+            Some(_) => Err(format!("the label {label} stands twice in its frame")),
+            None => Ok(()),
+        }
+    }
+
+    fn word_line(&mut self, name: &str, rest: &[&str], line: usize) -> Result<(), String> {
         match (name, rest) {
             ("at", [place]) => {
                 let place = number(place)? as usize;
-                if !place.is_multiple_of(4) || place >= 4 * FRAME_WORDS {
+                if !place.is_multiple_of(4) || place >= FRAME_BYTES {
                     return Err(format!("expected a multiple of 4 below 4096, was given {place}"));
                 }
                 self.next = place / 4;
                 return Ok(());
             }
+            ("at", _) => return Err("expected `at N`".into()),
             ("word", [value]) => return self.push(number(value)?),
+            ("word", _) => return Err("expected `word N`".into()),
             _ => {}
         }
-        if let Some((mask, label)) = branch_label(name, rest) {
-            let at = self.next;
-            self.branches.push(Branch { at, mask, label: label.into(), line });
-            let mut plain = rest.to_vec();
-            plain[rest.len() - 1] = "0";
-            return self.push(instruction(name, &plain)?);
+        if let (Some(bits), Some((label, before))) =
+            (instructions::target_bits(name), rest.split_last())
+        {
+            if is_label(label) {
+                let word = instructions::word(name, &[before, &["0"]].concat())?;
+                let (at, mask) = (self.next, (1 << bits) - 1);
+                self.branches.push(Branch { at, mask, label: (*label).into(), line });
+                return self.push(word);
+            }
         }
-        self.push(instruction(name, rest)?)
+        self.push(instructions::word(name, rest)?)
     }
 
     fn push(&mut self, word: u32) -> Result<(), String> {
@@ -146,126 +254,21 @@ impl Frame {
         Ok(())
     }
 
-    fn record(mut self) -> Result<Vec<u8>, String> {
+    /// Its number and its words, with the labels' places in them. A frame is so short that every
+    /// one fits.
+    fn finished(mut self) -> Result<(u32, Vec<u32>), String> {
         for Branch { at, mask, label, line } in &self.branches {
             let to = self.labels.get(label);
-            let to = to.ok_or(format!("line {line}: there is no label {label} in this frame"))?;
+            let to = to.ok_or(told(*line, format!("there is no label {label} in this frame")))?;
             self.words[*at] |= (4 * (*to as i64 - *at as i64 - 1)) as u32 & mask;
         }
-        self.words.insert(0, self.of);
-        Ok(record_bytes(3, &word_bytes(&self.words)))
+        Ok((self.of, self.words))
     }
 }
 
-/// The immediate's bits and the label, where a branch or jump names one.
-fn branch_label<'a>(name: &str, rest: &[&'a str]) -> Option<(u32, &'a str)> {
-    let mask = match name {
-        "beqz" | "bnez" => 0xFFFF,
-        "j" | "jal" => 0x03FF_FFFF,
-        _ => return None,
-    };
-    let last = rest.last()?;
-    last.starts_with(|letter: char| letter.is_ascii_alphabetic()).then_some((mask, *last))
-}
-
-const TESTS: [&str; 8] = ["clr", "sgr", "seq", "sge", "sls", "sne", "sle", "set"];
-
-fn instruction(name: &str, rest: &[&str]) -> Result<u32, String> {
-    let opcode = match name {
-        "j" => Some(opcode::J),
-        "jal" => Some(opcode::JAL),
-        "beqz" => Some(opcode::BEQZ),
-        "bnez" => Some(opcode::BNEZ),
-        "addi" => Some(opcode::ADDI),
-        "subi" => Some(opcode::SUBI),
-        "andi" => Some(opcode::ANDI),
-        "ori" => Some(opcode::ORI),
-        "xori" => Some(opcode::XORI),
-        "lhgi" => Some(opcode::LHGI),
-        "jr" => Some(opcode::JR),
-        "jalr" => Some(opcode::JALR),
-        "lb" => Some(opcode::LB),
-        "lh" => Some(opcode::LH),
-        "lw" => Some(opcode::LW),
-        "lbu" => Some(opcode::LBU),
-        "lhu" => Some(opcode::LHU),
-        "sb" => Some(opcode::SB),
-        "sh" => Some(opcode::SH),
-        "sw" => Some(opcode::SW),
-        "trap" => Some(opcode::TRAP),
-        "rfe" => Some(opcode::RFE),
-        _ => test(name.strip_suffix('i')).map(|test| opcode::CLRI + test),
-    };
-    let function = match name {
-        "add" => Some(function::ADD),
-        "sub" => Some(function::SUB),
-        "and" => Some(function::AND),
-        "or" => Some(function::OR),
-        "xor" => Some(function::XOR),
-        _ => test(Some(name)).map(|test| function::CLR + test),
-    };
-    match (opcode, function, rest) {
-        (Some(opcode::RFE), _, []) => Ok(rfe()),
-        (Some(op @ (opcode::J | opcode::JAL | opcode::TRAP)), _, [imm]) => {
-            Ok(j_type(op, immediate(imm, 26)?))
-        }
-        (Some(op @ (opcode::BEQZ | opcode::BNEZ)), _, [rs1, imm]) => {
-            Ok(i_type(op, 0, register(rs1)?, immediate(imm, 16)?))
-        }
-        (Some(op @ (opcode::JR | opcode::JALR)), _, [rs1]) => Ok(i_type(op, 0, register(rs1)?, 0)),
-        (Some(op @ opcode::LHGI), _, [rd, imm]) => {
-            Ok(i_type(op, register(rd)?, 0, immediate(imm, 16)?))
-        }
-        (
-            Some(
-                op @ (opcode::ADDI..=opcode::XORI
-                | opcode::CLRI..=opcode::SETI
-                | opcode::LB..=opcode::SW),
-            ),
-            _,
-            [rd, rs1, imm],
-        ) => Ok(i_type(op, register(rd)?, register(rs1)?, immediate(imm, 16)?)),
-        (None, Some(function), [rd, rs1, rs2]) => {
-            Ok(r_type(function, register(rd)?, register(rs1)?, register(rs2)?))
-        }
-        _ => match (name, rest) {
-            ("movs2i", [rd, special]) => Ok(movs2i(register(rd)?, special_number(special)?)),
-            ("movi2s", [special, rs1]) => Ok(movi2s(special_number(special)?, register(rs1)?)),
-            _ => Err(format!("expected an instruction, was given `{name} {}`", rest.join(" "))),
-        },
-    }
-}
-
-fn test(name: Option<&str>) -> Option<u32> {
-    TESTS.iter().position(|&test| Some(test) == name).map(|place| place as u32)
-}
-
-fn register(text: &str) -> Result<u32, String> {
-    let number: Option<u32> = text.strip_prefix('r').and_then(|digits| digits.parse().ok());
-    number.filter(|&n| n < 32).ok_or(format!("expected a register r0 to r31, was given {text}"))
-}
-
-/// A special register by name or number; a number that no register has is a guest's matter.
-fn special_number(text: &str) -> Result<usize, String> {
-    if let Some(named) = special::NAMES.iter().position(|&name| name == text) {
-        return Ok(named);
-    }
-    let below = number(text).ok().filter(|&n| n < 32);
-    below
-        .map(|n| n as usize)
-        .ok_or(format!("expected a special register's name or a number below 32, was given {text}"))
-}
-
-/// A number of so many bits, with or without a sign.
-fn immediate(text: &str, bits: u32) -> Result<u32, String> {
-    let value = match text.strip_prefix('-') {
-        Some(digits) => -i64::from(number(digits)?),
-        None => i64::from(number(text)?),
-    };
-    if value < -(1 << (bits - 1)) || value >= 1 << bits {
-        return Err(format!("expected a number of {bits} bits, was given {text}"));
-    }
-    Ok(value as u32)
+fn is_label(text: &str) -> bool {
+    text.starts_with(|letter: char| letter.is_ascii_alphabetic())
+        && text.chars().all(|letter| letter.is_ascii_alphanumeric() || letter == '_')
 }
 
 fn number(text: &str) -> Result<u32, String> {
@@ -291,6 +294,10 @@ mod tests {
     use super::*;
     use crate::housefile::read;
 
+    fn no_image(name: &str) -> Result<Vec<u8>, String> {
+        Err(format!("{name}: there is none"))
+    }
+
     #[test]
     fn a_whole_file() {
         let source =
@@ -301,58 +308,93 @@ mod tests {
     }
 
     #[test]
-    fn instructions() {
-        let word = |line: &str| {
-            let items: Vec<&str> = line.split_whitespace().collect();
-            instruction(items[0], &items[1..])
-        };
-        assert_eq!(word("add r3 r1 r2"), Ok(0x0022_1820));
-        assert_eq!(word("beqz r0 -4"), Ok(0x1000_FFFC));
-        assert_eq!(word("trap 7"), Ok(0xF800_0007));
-        assert_eq!(word("trap -1"), Ok(0xFBFF_FFFF));
-        assert_eq!(word("rfe"), Ok(0xFC00_0000));
-        assert_eq!(word("movi2s 7 r1"), Ok(0x0020_01D1));
-        assert_eq!(word("movi2s pto r1"), word("movi2s 7 r1"));
-        assert_eq!(word("movi2s tcount r1"), Ok(1 << 21 | 10 << 6 | 17));
-        assert_eq!(word("movs2i r1 tload"), Ok(1 << 11 | 11 << 6 | 16));
-        assert_eq!(word("movs2i r1 31"), Ok(1 << 11 | 31 << 6 | 16));
-        for wrong in ["movs2i r1 32", "movs2i r1 timer", "movi2s TCOUNT r1"] {
-            assert!(word(wrong).unwrap_err().starts_with("expected a special register's name"));
-        }
-        assert_eq!(word("lb r1 r2 3"), Ok(0x8041_0003));
-        assert_eq!(word("lh r1 r2 2"), Ok(0x8441_0002));
-        assert_eq!(word("lbu r1 r2 -1"), Ok(0x9041_FFFF));
-        assert_eq!(word("lhu r1 r2 2"), Ok(0x9441_0002));
-        assert_eq!(word("sb r1 r2 3"), Ok(0xA041_0003));
-        assert_eq!(word("sh r1 r2 2"), Ok(0xA441_0002));
-        assert_eq!(word("slsi r1 r2 -1"), Ok(28 << 26 | 2 << 21 | 1 << 16 | 0xFFFF));
-        assert_eq!(word("sls r1 r2 r3"), Ok(2 << 21 | 3 << 16 | 1 << 11 | 44));
-        assert!(word("addi r1 r32 5").unwrap_err().contains("r32"));
-        assert!(word("addi r1 r0 70000").unwrap_err().contains("70000"));
-        assert!(word("halt").unwrap_err().contains("halt"));
-    }
-
-    #[test]
     fn labels() {
-        let source = "frame 1\n at 8\nback:\n j back\n beqz r0 on\n addi r0 r0 0\non:\n rfe\n";
+        let source = "frame 1\n at 8\nback:\n j back\n beqz r0 on\n addi r0 r0 0\non: rfe\nnext:word 7\n jal next\nend";
         let record = bytes(source).unwrap();
         let word = |at: usize| u32::from_le_bytes(record[10 + at..14 + at].try_into().unwrap());
         assert_eq!(word(8), 2 << 26 | 0x03FF_FFFC);
         assert_eq!(word(12), 4 << 26 | 4);
         assert_eq!(word(20), 0xFC00_0000);
+        assert_eq!(word(24), 7);
+        assert_eq!(word(28), 3 << 26 | 0x03FF_FFF8);
+    }
+
+    #[test]
+    fn images() {
+        let source =
+            "turns 1 run 0\npartition 2 3\npartition 4 5\nimage a\nimage b\nimage c 7 6\nend";
+        let mut asked = |name: &str| {
+            Ok(match name {
+                "a" => vec![1, 0, 0, 0, 2],
+                "b" => [vec![3; 4_096], vec![4; 4_096]].concat(),
+                _ => [vec![5; 4_096], vec![6]].concat(),
+            })
+        };
+        let memory = read(&bytes_with(source, &mut asked).unwrap()).unwrap().memory;
+        let frame = |of: usize| &memory[1_024 * of..1_024 * (of + 1)];
+        assert_eq!(frame(2)[..3], [1, 2, 0]);
+        assert!(frame(3).iter().all(|&word| word == 0));
+        assert!(frame(4).iter().all(|&word| word == 0x0303_0303));
+        assert!(frame(5).iter().all(|&word| word == 0x0404_0404));
+        assert!(frame(7).iter().all(|&word| word == 0x0505_0505));
+        assert_eq!(frame(6)[..2], [6, 0]);
+    }
+
+    #[test]
+    fn images_that_do_not_fit() {
+        let told =
+            |source: &str, size: usize| bytes_with(source, &mut |_| Ok(vec![0; size])).unwrap_err();
+        let two = "line 2: a has 4097 bytes, which fill 2 frames of 4096; was given 1 for it";
+        assert_eq!(told("partition 1\nimage a\nend", 4_097), two);
+        assert_eq!(told("partition 1 2\nimage a 1\nend", 4_097), two);
+        let none = "line 1: a has 0 bytes, which fill 0 frames of 4096; was given 1 for it";
+        assert_eq!(told("image a 1\nend", 0), none);
+        let second = "line 3: there is no partition 1 for the image b";
+        assert_eq!(told("partition 1\nimage a\nimage b\nend", 4), second);
     }
 
     #[test]
     fn wrong_lines_are_told() {
         for (source, told) in [
-            ("addi r1 r0 5", "line 1: expected a record"),
-            ("frame 1\n\n j away", "line 3: there is no label away"),
+            ("addi r1 r0 5", "line 1: expected a record (turns, "),
+            ("frame 1\n\n j away\nend", "line 3: there is no label away"),
+            ("frame 1\n j away", "line 2: there is no label away"),
             ("turns 2", "line 1: expected `turns Q run N`"),
             ("frame 1\n at 4096", "line 2: expected a multiple of 4"),
             ("frame 1\na:\na:", "line 3: the label a stands twice"),
+            ("frame 1\n1: rfe", "line 2: expected a label"),
+            ("frame 1\n rfe\n addi r1 r0 40000\nend", "line 3: expected `addi RD RS1 IMM`"),
+            ("frame 1\n lw r1 r0\nend", "line 2: expected `lw RD RS1 IMM`, was given `lw r1 r0`"),
+            ("frame 1\n at 4092\n rfe\n rfe\nend", "line 4: the frame is full"),
+            ("turns 1 run 1\npartition 1\nimage x 1", "line 3: x: there is none"),
+            ("image", "line 1: expected `image FILE F F ..`"),
+            ("", "line 0: expected `end` as the last record"),
+            ("turns 1 run 1\npartition 1\nframe 1\n rfe\n", "line 4: expected `end` as the last"),
+            ("turns 1 run 1\npartition 1\nend\nframe 1", "line 4: expected `end` as the last"),
+            ("end now", "line 1: expected `end`, and nothing behind it"),
         ] {
-            let message = bytes(source).unwrap_err();
+            let message = bytes_with(source, &mut no_image).unwrap_err();
             assert!(message.starts_with(told), "{message}");
+        }
+    }
+
+    #[test]
+    fn what_is_written_as_it_is_needs_no_end() {
+        assert_eq!(bytes("bytes 01 ff\n"), Ok(vec![1, 255]));
+        assert_eq!(
+            bytes("turns 1 run 2\nwords 1"),
+            Ok([&bytes("turns 1 run 2\nend").unwrap()[..14], &[1, 0, 0, 0]].concat())
+        );
+    }
+
+    #[test]
+    fn the_form_names_every_record() {
+        for name in ["turns", "partition", "frame", "image", "end", "bytes", "words", "at", "word"]
+        {
+            assert!(
+                form().lines().any(|line| line.split_whitespace().next() == Some(name)),
+                "{name}"
+            );
         }
     }
 }

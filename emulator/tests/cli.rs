@@ -98,7 +98,7 @@ fn wrong_use_is_told() {
 #[test]
 fn help_names_every_command() {
     let help = text(&emulator(&["help"], b""));
-    for command in ["compare", "play", "night", "show", "shrink", "generate"] {
+    for command in ["compare", "play", "night", "show", "shrink", "generate", "make", "form"] {
         assert!(help.contains(&format!("emulator {command}")), "{command}");
     }
 }
