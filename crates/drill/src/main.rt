@@ -1,4 +1,4 @@
-// The drill: plays a script of calls from standard input, and tells of the house after each call on standard output.
+// The drill: plays a script of calls from standard input, and tells of the house after each call on standard output. It takes no words.
 // The script's format is FORMAT.md of the second emulator, which plays the same scripts.
 mod calls;
 mod reading;
@@ -8,8 +8,11 @@ ghost use mathlib.Core.Path.{_≡_};
 ghost use Prim.Native.Nat.{_<_};
 ghost use lib.ListN.{length};
 ghost use Rattle.drill.specs.Goes.{Goes};
+use command::asks_help;
+use command::wrong;
 use drill_text::ROOM;
 use house::House;
+use libc::STDOUT_FILENO;
 use reading::Reading;
 
 // The most words of memory: 257 frames, so that a partition of 256 pages fits beside frame 0.
@@ -98,7 +101,32 @@ fn text_space() -> [u8; ROOM]
     [0; ROOM]
 }
 
+fn help() {
+    io::write_all(
+        STDOUT_FILENO,
+        b"drill: plays a script of calls from standard input, and writes what it sees after each call; emulator/FORMAT.md has both\n",
+    );
+}
+
+// What is said where words are given.
+fn answer_words() {
+    let mut space = io::buffer();
+    let length = os::arg(1, &mut space);
+    if asks_help(&space[..length]) {
+        help();
+        return;
+    }
+    wrong(
+        b"no words, and a script on standard input",
+        &space[..length],
+    );
+}
+
 fn main() {
+    if os::arg_count() > 1 {
+        answer_words();
+        return;
+    }
     let mut input = io::large_buffer();
     let mut memory = memory_space();
     let mut few = few_space();

@@ -6,6 +6,7 @@ ghost use lib.ListN.{length};
 ghost use Rattle.decimal.specs.Decimals.{decimal};
 ghost use Rattle.decimal.specs.Texts.{ascii, Puts};
 ghost use Rattle.drill.specs.Told.{mostTold, toldOf, shownOf};
+use command::fail;
 use decimal::put_byte;
 use decimal::put_decimal;
 use decimal::put_text;
@@ -41,11 +42,17 @@ pub fn shown(number: u32, detail: u64) -> usize
     detail as usize
 }
 
+fn put(text: &[u8]) {
+    if !io::write_all(STDOUT_FILENO, text) {
+        fail(b"standard output");
+    }
+}
+
 // Writes the text.
 fn written(text: &[u8], used: usize)
     requires { ⌜ used ≤ length (now text) ⌝ }
 {
-    io::write_all(STDOUT_FILENO, &text[..used]);
+    put(&text[..used]);
 }
 
 // Writes the text where there is much of it. Gives how much is left.

@@ -1,8 +1,11 @@
 // The measured run: the guest of speed/walker.rs in the house, booted and run by the house's calls.
 // Standard input has decimal numbers: steps, at most 1,000,000, the turn's length, 1..10,000, and 1 for the loop of bytes, where it
-// is not that of words. Standard output is the
-// number of steps done and a digest of the registers, the special registers and the whole memory; or a refusal's number.
+// is not that of words. Standard output is the number of steps done and a digest of the registers, the special registers and the whole
+// memory; or `refused N D`. It takes no words.
 use boot::boot;
+use command::asks_help;
+use command::fail;
+use command::wrong;
 use dlx::partition::Partition;
 use dlx::partition::Processor;
 use dlx::partition::Table;
@@ -186,10 +189,18 @@ fn after(line: &[u8], end: usize) -> u32 {
     0
 }
 
+fn end_line() {
+    if !io::write_all(STDOUT_FILENO, b"\n") {
+        fail(b"standard output");
+    }
+}
+
 fn refused(a: Answer) {
     io::write_all(STDOUT_FILENO, b"refused ");
     io::print_decimal(STDOUT_FILENO, a.number as u64);
-    io::write_all(STDOUT_FILENO, b"\n");
+    io::write_all(STDOUT_FILENO, b" ");
+    io::print_decimal(STDOUT_FILENO, a.detail);
+    end_line();
 }
 
 // One partition of 67 pages.
@@ -228,10 +239,36 @@ fn measure(steps: u32, q: u32, kind: u32) {
     io::print_decimal(STDOUT_FILENO, a.detail);
     io::write_all(STDOUT_FILENO, b" ");
     io::print_decimal(STDOUT_FILENO, digest(after, &words));
-    io::write_all(STDOUT_FILENO, b"\n");
+    end_line();
+}
+
+fn help() {
+    io::write_all(
+        STDOUT_FILENO,
+        b"drill_measure: reads `STEPS TURN LOOP` from standard input (LOOP 0 of words, 1 of bytes), runs the measured guest, and prints the steps done\n",
+    );
+    io::write_all(
+        STDOUT_FILENO,
+        b"and a digest, or `refused N D`; docs/SPEED.md has what it is for\n",
+    );
+}
+
+// What is said where words are given.
+fn answer_words() {
+    let mut space = io::buffer();
+    let length = os::arg(1, &mut space);
+    if asks_help(&space[..length]) {
+        help();
+        return;
+    }
+    wrong(b"no words, and numbers on standard input", &space[..length]);
 }
 
 fn main() {
+    if os::arg_count() > 1 {
+        answer_words();
+        return;
+    }
     let mut line = [0u8; 64];
     io::read_full(STDIN_FILENO, &mut line);
     let steps = number(&line, 0);

@@ -4,14 +4,14 @@ use borrow.Author.Needs.{needs}
 use Rattle.drill.proofs.told.written.Statement.{statement}
 use Rattle.drill.proofs.told.written.Tie as tie
 
-slice-aggregate-write-all : tie.Need-slice-aggregate-write-all
-slice-aggregate-write-all c = sym (length-take-le (c .before .before .args .used) (c .before .before .args .text .now) (c .before .before .pre))
+slice-aggregate-put : tie.Need-slice-aggregate-put
+slice-aggregate-put c = sym (length-take-le (c .before .before .args .used) (c .before .before .args .text .now) (c .before .before .pre))
 
-write-all-requires : tie.Need-write-all-requires
-write-all-requires c κs = tt
+put-requires : tie.Need-put-requires
+put-requires c κs = tt
 
 returns : tie.Need-returns
 returns c = search needs
 
 pub written-spec : {M : Type 1} → statement M
-written-spec = tie.close (tie.spec slice-aggregate-write-all write-all-requires returns)
+written-spec = tie.close (tie.spec slice-aggregate-put put-requires returns)
