@@ -64,14 +64,16 @@ fn damaged_cut_and_named_files() {
 fn the_examples() {
     let folder = Path::new(env!("CARGO_MANIFEST_DIR")).join("../examples");
     let mut seen = 0;
-    for entry in fs::read_dir(folder).expect("the examples") {
+    for entry in fs::read_dir(&folder).expect("the examples") {
         let path = entry.expect("an example").path();
         let name = path.display().to_string();
         let file = if name.ends_with(".house") {
             fs::read(&path).expect("a house file")
         } else if name.ends_with(".source") {
             let text = fs::read_to_string(&path).expect("a source");
-            source::bytes(&text).unwrap_or_else(|wrong| panic!("{name}: {wrong}"))
+            let mut image = |image: &str| fs::read(folder.join(image)).map_err(|e| e.to_string());
+            let made = source::bytes_with(&text, &mut image);
+            made.unwrap_or_else(|wrong| panic!("{name}: {wrong}"))
         } else {
             continue;
         };
