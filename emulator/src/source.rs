@@ -14,7 +14,7 @@ const FRAME_BYTES: usize = 4 * FRAME_WORDS;
 
 /// What stands in a source, for the help text.
 pub fn form() -> String {
-    let instructions = instructions::list();
+    let (specials, instructions) = (instructions::specials(), instructions::list());
     format!(
         "\
 A source has one line for each record or instruction; # starts a comment. Numbers are decimal, or
@@ -36,8 +36,8 @@ hexadecimal after 0x.
 
 Instructions. RD, RS1 and RS2 are registers, r0 to r31, of which r0 is always 0. IMM is a number from
 -32768 to 32767 (j, jal and trap: -33554432 to 33554431, lhgi: 0 to 65535); in a branch or jump it
-counts in bytes from the instruction behind it. SPECIAL is 0 SR, 1 ESR, 2 ECA, 3 EPC, 4 EDPC, 5 EDATA,
-6 MODE, 7 PTO, 8 PTL, 9 EMODE.
+counts in bytes from the instruction behind it. SPECIAL is a special register, by number or name:
+{specials}.
 {instructions}"
     )
 }

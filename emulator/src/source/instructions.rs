@@ -9,7 +9,8 @@ use crate::dlx::special;
 enum Operand {
     /// A register, and the lowest bit of its field.
     Register(&'static str, u32),
-    /// The number of a special register, in bits 10..6.
+    /// A special register, by name or number, in bits 10..6. A number that none has is a guest's
+    /// matter.
     Special,
     /// A number of so many bits that the machine extends by its sign.
     Signed(u32),
@@ -27,6 +28,10 @@ const RS2: Operand = Register("RS2", 16);
 const RD: Operand = Register("RD", 16);
 /// RD of R-type instructions.
 const RD_R: Operand = Register("RD", 11);
+
+/// The special registers by their numbers.
+const SPECIALS: [&str; special::COUNT] =
+    ["sr", "esr", "eca", "epc", "edpc", "edata", "mode", "pto", "ptl", "emode"];
 
 const IMMEDIATE: &[Operand] = &[RD, RS1, Signed(16)];
 const REGISTERS: &[Operand] = &[RD_R, RS1, RS2];
@@ -131,8 +136,14 @@ impl Operand {
         let (low, bits, least, most) = self.field();
         let wrong = || match self {
             Register(name, _) => format!("{name} is r0 to r31"),
+            Special => format!("SPECIAL is a special register's name, or {least} to {most}"),
             _ => format!("{} is {least} to {most}", self.name()),
         };
+        if self == Special {
+            if let Some(number) = SPECIALS.iter().position(|&name| name == text) {
+                return Ok((number as u32) << low);
+            }
+        }
         let digits = match self {
             Register(..) => text.strip_prefix('r').ok_or_else(wrong)?,
             _ => text,
@@ -153,8 +164,9 @@ impl Operand {
         let (low, bits, least, _) = self.field();
         let value = i64::from(word >> low & ((1 << bits) - 1));
         let value = if least < 0 && value >= -least { value + 2 * least } else { value };
-        match self {
-            Register(..) => format!("r{value}"),
+        match (self, SPECIALS.get(value as usize)) {
+            (Register(..), _) => format!("r{value}"),
+            (Special, Some(name)) => (*name).into(),
             _ => value.to_string(),
         }
     }
@@ -222,6 +234,12 @@ pub fn text(word: u32) -> Option<String> {
     (legal && instruction.assembled(&operands) == Ok(word)).then_some(text)
 }
 
+/// The special registers, each by number and name.
+pub fn specials() -> String {
+    let one = |(number, name): (usize, &&str)| format!("{number} {name}");
+    SPECIALS.iter().enumerate().map(one).collect::<Vec<_>>().join(", ")
+}
+
 /// Every instruction, a line each.
 pub fn list() -> String {
     let line = |one: &Instruction| format!("    {:<20}{}\n", one.shape(), one.effect);
@@ -277,6 +295,8 @@ mod tests {
         assert_eq!(word("lhgi r1 0xFFFF"), Ok(0x3C01_FFFF));
         assert_eq!(word("movi2s 7 r1"), Ok(0x0020_01D1));
         assert_eq!(word("movs2i r1 2"), Ok(0x0000_0890));
+        assert_eq!(word("movi2s pto r1"), word("movi2s 7 r1"));
+        assert_eq!(word("movs2i r1 31"), Ok(1 << 11 | 31 << 6 | 16));
         assert_eq!(word("jalr r2"), Ok(23 << 26 | 2 << 21));
         assert_eq!(word("lb r1 r2 3"), Ok(0x8041_0003));
         assert_eq!(word("lh r1 r2 2"), Ok(0x8441_0002));
@@ -319,7 +339,7 @@ mod tests {
             ),
             (
                 "movs2i r1 32",
-                "expected `movs2i RD SPECIAL`, was given `movs2i r1 32`: SPECIAL is 0 to 31",
+                "expected `movs2i RD SPECIAL`, was given `movs2i r1 32`: SPECIAL is a special register's name, or 0 to 31",
             ),
             ("add r1 r2 3", "expected `add RD RS1 RS2`, was given `add r1 r2 3`: RS2 is r0 to r31"),
             ("rfe 1", "expected `rfe`, was given `rfe 1`"),
