@@ -9,9 +9,11 @@ ghost use Prim.Native.Nat.{_<_};
 ghost use lib.ListN.{length};
 ghost use Rattle.drill.specs.Goes.{Goes};
 use command::asks_help;
+use command::fail;
 use command::wrong;
 use drill_text::ROOM;
 use house::House;
+use libc::STDIN_FILENO;
 use libc::STDOUT_FILENO;
 use reading::Reading;
 
@@ -101,6 +103,12 @@ fn text_space() -> [u8; ROOM]
     [0; ROOM]
 }
 
+// Standard input can be read: a read of no byte answers so. A folder, or a closed one, cannot.
+fn readable() -> bool {
+    let mut none = [0u8; 0];
+    libc::read(STDIN_FILENO, &mut none) >= 0
+}
+
 fn help() {
     io::write_all(
         STDOUT_FILENO,
@@ -125,6 +133,10 @@ fn answer_words() {
 fn main() {
     if os::arg_count() > 1 {
         answer_words();
+        return;
+    }
+    if !readable() {
+        fail(b"standard input");
         return;
     }
     let mut input = io::large_buffer();
