@@ -29,10 +29,6 @@ const RD: Operand = Register("RD", 16);
 /// RD of R-type instructions.
 const RD_R: Operand = Register("RD", 11);
 
-/// The special registers by their numbers.
-const SPECIALS: [&str; special::COUNT] =
-    ["sr", "esr", "eca", "epc", "edpc", "edata", "mode", "pto", "ptl", "emode"];
-
 const IMMEDIATE: &[Operand] = &[RD, RS1, Signed(16)];
 const REGISTERS: &[Operand] = &[RD_R, RS1, RS2];
 const JUMP: &[Operand] = &[Target(26)];
@@ -140,7 +136,7 @@ impl Operand {
             _ => format!("{} is {least} to {most}", self.name()),
         };
         if self == Special {
-            if let Some(number) = SPECIALS.iter().position(|&name| name == text) {
+            if let Some(number) = special::NAMES.iter().position(|&name| name == text) {
                 return Ok((number as u32) << low);
             }
         }
@@ -164,7 +160,7 @@ impl Operand {
         let (low, bits, least, _) = self.field();
         let value = i64::from(word >> low & ((1 << bits) - 1));
         let value = if least < 0 && value >= -least { value + 2 * least } else { value };
-        match (self, SPECIALS.get(value as usize)) {
+        match (self, special::NAMES.get(value as usize)) {
             (Register(..), _) => format!("r{value}"),
             (Special, Some(name)) => (*name).into(),
             _ => value.to_string(),
@@ -237,7 +233,7 @@ pub fn text(word: u32) -> Option<String> {
 /// The special registers, each by number and name.
 pub fn specials() -> String {
     let one = |(number, name): (usize, &&str)| format!("{number} {name}");
-    SPECIALS.iter().enumerate().map(one).collect::<Vec<_>>().join(", ")
+    special::NAMES.iter().enumerate().map(one).collect::<Vec<_>>().join(", ")
 }
 
 /// Every instruction, a line each.
