@@ -15,7 +15,7 @@ use Rattle.look.specs.Look.{causeOf, faultOf, headOf, interruptOf, fault
 unfoldable pub interrupts : List (List ℕ × String)
 interrupts =
     (interruptOf 0 7, "  latest interrupt: none\n")
-    ∷ (interruptOf 2 0, "  latest interrupt: ill, an instruction that is none, EDATA 0\n")
+    ∷ (interruptOf 2 0, "  latest interrupt: ill, an illegal instruction, EDATA 0\n")
     ∷ (interruptOf 4 0, "  latest interrupt: mal, a misaligned address, EDATA 0\n")
     ∷ (interruptOf 8 4096, "  latest interrupt: pff, a page fault in fetching, EDATA 4096\n")
     ∷ (interruptOf 16 8192, "  latest interrupt: pfls, a page fault of a load or store, EDATA 8192\n")

@@ -25,7 +25,7 @@ named name n = name ++ decimal n
 -- a cause, by its number
 unfoldable pub causeOf : ℕ → List ℕ
 causeOf level =
-    if eqb level 1 then ascii "ill, an instruction that is none" else
+    if eqb level 1 then ascii "ill, an illegal instruction" else
     if eqb level 2 then ascii "mal, a misaligned address" else
     if eqb level 3 then ascii "pff, a page fault in fetching" else
     if eqb level 4 then ascii "pfls, a page fault of a load or store" else
@@ -41,7 +41,7 @@ faultOf fault =
     if eqb fault 2 then ascii "2, a page above 1023" else
     if eqb fault 3 then ascii "3, a table entry outside the pages" else
     if eqb fault 4 then ascii "4, a table entry that is not valid" else
-    if eqb fault 5 then ascii "5, a page that the guest has not" else
+    if eqb fault 5 then ascii "5, a page that the guest does not have" else
     if eqb fault 6 then ascii "6, a store to a protected page" else
     ascii "7, an address beyond the pages in system mode"
 

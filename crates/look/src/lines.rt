@@ -35,7 +35,7 @@ fn put_cause(out: &mut [u8; ROOM], at: usize, level: u32) -> usize
     ensures { λ r. ⌜ Puts (now (out .entry)) at (now (out .exit)) r (causeOf level) 50 ⌝ }
 {
     match level {
-        1 => put_text(out, at, b"ill, an instruction that is none"),
+        1 => put_text(out, at, b"ill, an illegal instruction"),
         2 => put_text(out, at, b"mal, a misaligned address"),
         3 => put_text(out, at, b"pff, a page fault in fetching"),
         4 => put_text(out, at, b"pfls, a page fault of a load or store"),
@@ -55,7 +55,7 @@ fn put_fault(out: &mut [u8; ROOM], at: usize, fault: u32) -> usize
         2 => put_text(out, at, b"2, a page above 1023"),
         3 => put_text(out, at, b"3, a table entry outside the pages"),
         4 => put_text(out, at, b"4, a table entry that is not valid"),
-        5 => put_text(out, at, b"5, a page that the guest has not"),
+        5 => put_text(out, at, b"5, a page that the guest does not have"),
         6 => put_text(out, at, b"6, a store to a protected page"),
         _ => put_text(out, at, b"7, an address beyond the pages in system mode"),
     }

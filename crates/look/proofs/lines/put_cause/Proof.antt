@@ -1,93 +1,83 @@
+use native.Mathlib.Omega.{arith}
+use borrow.Author.Tests.{ne-eqb}
+use Rattle.decimal.specs.Texts.{ascii}
+use Rattle.decimal.proofs.Texts.{puts}
+use Rattle.look.specs.Look.{causeOf}
 use borrow.Author.Needs.{needs}
 use Rattle.look.proofs.lines.put_cause.Statement.{statement}
 use Rattle.look.proofs.lines.put_cause.Tie as tie
-use Rattle.look.proofs.lines.put_cause.Reads as reads
-use Rattle.look.proofs.lines.put_cause.Lts as lts
-use Rattle.decimal.proofs.put_text.Reads as put-text-reads
 
--- src/lines.rt:37:32
 slice-aggregate-put-text : tie.Need-slice-aggregate-put-text
 slice-aggregate-put-text c = search needs
 
--- src/lines.rt:37:14
 put-text-requires : tie.Need-put-text-requires
-put-text-requires c κs = search needs
+put-text-requires c κs = tt
 
--- src/lines.rt:38:32
 slice-aggregate-put-text-2 : tie.Need-slice-aggregate-put-text-2
 slice-aggregate-put-text-2 c = search needs
 
--- src/lines.rt:38:14
 put-text-requires-2 : tie.Need-put-text-requires-2
-put-text-requires-2 c κs = search needs
+put-text-requires-2 c κs = tt
 
--- src/lines.rt:39:32
 slice-aggregate-put-text-3 : tie.Need-slice-aggregate-put-text-3
 slice-aggregate-put-text-3 c = search needs
 
--- src/lines.rt:39:14
 put-text-requires-3 : tie.Need-put-text-requires-3
-put-text-requires-3 c κs = search needs
+put-text-requires-3 c κs = tt
 
--- src/lines.rt:40:32
 slice-aggregate-put-text-4 : tie.Need-slice-aggregate-put-text-4
 slice-aggregate-put-text-4 c = search needs
 
--- src/lines.rt:40:14
 put-text-requires-4 : tie.Need-put-text-requires-4
-put-text-requires-4 c κs = search needs
+put-text-requires-4 c κs = tt
 
--- src/lines.rt:41:32
 slice-aggregate-put-text-5 : tie.Need-slice-aggregate-put-text-5
 slice-aggregate-put-text-5 c = search needs
 
--- src/lines.rt:41:14
 put-text-requires-5 : tie.Need-put-text-requires-5
-put-text-requires-5 c κs = search needs
+put-text-requires-5 c κs = tt
 
--- src/lines.rt:42:32
 slice-aggregate-put-text-6 : tie.Need-slice-aggregate-put-text-6
 slice-aggregate-put-text-6 c = search needs
 
--- src/lines.rt:42:14
 put-text-requires-6 : tie.Need-put-text-requires-6
-put-text-requires-6 c κs = search needs
+put-text-requires-6 c κs = tt
 
--- src/lines.rt:43:32
 slice-aggregate-put-text-7 : tie.Need-slice-aggregate-put-text-7
 slice-aggregate-put-text-7 c = search needs
 
--- src/lines.rt:43:14
 put-text-requires-7 : tie.Need-put-text-requires-7
-put-text-requires-7 c κs = search needs
+put-text-requires-7 c κs = tt
 
--- src/lines.rt:33:1
 returns : tie.Need-returns
-returns c = ?
+unfolding causeOf ascii
+returns c = rw (c .before .before .before .match .keys1) (puts {most = 50} (c .put-text .ensures) (omega arith))
 
--- src/lines.rt:33:1
 returns-2 : tie.Need-returns-2
-returns-2 c = ?
+unfolding causeOf ascii
+returns-2 c = rw (c .before .before .before .match .keys2) (puts {most = 50} (c .put-text2 .ensures) (omega arith))
 
--- src/lines.rt:33:1
 returns-3 : tie.Need-returns-3
-returns-3 c = ?
+unfolding causeOf ascii
+returns-3 c = rw (c .before .before .before .match .keys3) (puts {most = 50} (c .put-text3 .ensures) (omega arith))
 
--- src/lines.rt:33:1
 returns-4 : tie.Need-returns-4
-returns-4 c = ?
+unfolding causeOf ascii
+returns-4 c = rw (c .before .before .before .match .keys4) (puts {most = 50} (c .put-text4 .ensures) (omega arith))
 
--- src/lines.rt:33:1
 returns-5 : tie.Need-returns-5
-returns-5 c = ?
+unfolding causeOf ascii
+returns-5 c = rw (c .before .before .before .match .keys5) (puts {most = 50} (c .put-text5 .ensures) (omega arith))
 
--- src/lines.rt:33:1
 returns-6 : tie.Need-returns-6
-returns-6 c = ?
+unfolding causeOf ascii
+returns-6 c = rw (c .before .before .before .match .keys6) (puts {most = 50} (c .put-text6 .ensures) (omega arith))
 
--- src/lines.rt:33:1
 returns-7 : tie.Need-returns-7
-returns-7 c = ?
+unfolding causeOf ascii
+returns-7 c =
+    let r = c .before .before .before .match .rest in
+    rw (ne-eqb _ _ (r .1), ne-eqb _ _ (r .0 .1), ne-eqb _ _ (r .0 .0 .1), ne-eqb _ _ (r .0 .0 .0 .1), ne-eqb _ _ (r .0 .0 .0 .0 .1), ne-eqb _ _ (r .0 .0 .0 .0 .0 .1)) (puts {most = 50} (c .put-text7 .ensures) (omega arith))
 
 pub put-cause-spec : {M : Type 1} → statement M
 put-cause-spec =

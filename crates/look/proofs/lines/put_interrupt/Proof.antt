@@ -1,57 +1,51 @@
+use native.Mathlib.Omega.{arith}
+use borrow.Author.Tests.{eq-eqb, ne-eqb}
+use Rattle.decimal.specs.Texts.{ascii}
+use Rattle.decimal.proofs.Texts.{exactly, roomy, _then_}
+use Rattle.look.specs.Look.{interruptOf}
 use borrow.Author.Needs.{needs}
 use Rattle.look.proofs.lines.put_interrupt.Statement.{statement}
 use Rattle.look.proofs.lines.put_interrupt.Tie as tie
-use Rattle.look.proofs.lines.put_interrupt.Reads as reads
-use Rattle.look.proofs.lines.put_interrupt.Lts as lts
-use Rattle.decimal.proofs.put_byte.Reads as put-byte-reads
-use Rattle.decimal.proofs.put_text.Reads as put-text-reads
-use Rattle.dlx.proofs.interrupt.level.Reads as level-reads
-use Rattle.look.proofs.lines.put_cause.Reads as put-cause-reads
-use Rattle.look.proofs.lines.put_named.Reads as put-named-reads
 
--- src/lines.rt:97:35
 slice-aggregate-put-text : tie.Need-slice-aggregate-put-text
 slice-aggregate-put-text c = search needs
 
--- src/lines.rt:97:9
 put-text-requires : tie.Need-put-text-requires
-put-text-requires c κs = search needs
+put-text-requires c κs = tt
 
--- src/lines.rt:99:37
 slice-aggregate-put-text-2 : tie.Need-slice-aggregate-put-text-2
 slice-aggregate-put-text-2 c = search needs
 
--- src/lines.rt:99:9
 put-text-requires-2 : tie.Need-put-text-requires-2
-put-text-requires-2 c κs = search needs
+put-text-requires-2 c κs = tt
 
--- src/lines.rt:99:9
 returns : tie.Need-returns
-returns c = ?
+unfolding interruptOf ascii
+returns c = rw (eq-eqb _ _ (c .before .before .before .if1 .taken)) (roomy 99 (exactly (c .before .before .before .before .put-text .ensures) then exactly (c .put-text2 .ensures)) (omega arith))
 
--- src/lines.rt:101:40
 level-requires : tie.Need-level-requires
-level-requires c κs = search needs
+level-requires c κs = tt
 
--- src/lines.rt:101:9
 put-cause-requires : tie.Need-put-cause-requires
-put-cause-requires c κs = search needs
+put-cause-requires c κs = tt
 
--- src/lines.rt:102:40
 slice-aggregate-put-named : tie.Need-slice-aggregate-put-named
 slice-aggregate-put-named c = search needs
 
--- src/lines.rt:102:9
 put-named-requires : tie.Need-put-named-requires
-put-named-requires c κs = search needs
+put-named-requires c κs = tt
 
--- src/lines.rt:103:5
 put-byte-requires : tie.Need-put-byte-requires
-put-byte-requires c κs = search needs
+put-byte-requires c κs = tt
 
--- src/lines.rt:94:1
 returns-2 : tie.Need-returns-2
-returns-2 c = ?
+unfolding interruptOf ascii
+returns-2 c =
+    rw (ne-eqb _ _ (c .before .before .before .before .before .before .before .before .if1 .left))
+    (exactly (c .before .before .before .before .before .before .before .before .before .put-text .ensures)
+    then (rw (c .before .before .before .before .before .before .level .ensures) at (c .before .before .before .before .before .put-cause .ensures))
+    then c .before .before .put-named .ensures
+    then exactly (c .put-byte .ensures))
 
 pub put-interrupt-spec : {M : Type 1} → statement M
 put-interrupt-spec =

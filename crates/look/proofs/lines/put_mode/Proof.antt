@@ -1,33 +1,31 @@
+use native.Mathlib.Omega.{arith}
+use borrow.Author.Tests.{eq-eqb, ne-eqb}
+use Rattle.decimal.specs.Texts.{ascii}
+use Rattle.decimal.proofs.Texts.{puts}
+use Rattle.look.specs.Look.{modeOf}
 use borrow.Author.Needs.{needs}
 use Rattle.look.proofs.lines.put_mode.Statement.{statement}
 use Rattle.look.proofs.lines.put_mode.Tie as tie
-use Rattle.look.proofs.lines.put_mode.Reads as reads
-use Rattle.look.proofs.lines.put_mode.Lts as lts
-use Rattle.decimal.proofs.put_text.Reads as put-text-reads
 
--- src/lines.rt:76:34
 slice-aggregate-put-text : tie.Need-slice-aggregate-put-text
 slice-aggregate-put-text c = search needs
 
--- src/lines.rt:76:9
 put-text-requires : tie.Need-put-text-requires
-put-text-requires c κs = search needs
+put-text-requires c κs = tt
 
--- src/lines.rt:76:9
 returns : tie.Need-returns
-returns c = ?
+unfolding modeOf ascii
+returns c = rw (eq-eqb _ _ (c .before .before .before .if1 .taken)) (puts {most = 11} (c .put-text .ensures) (omega arith))
 
--- src/lines.rt:78:23
 slice-aggregate-put-text-2 : tie.Need-slice-aggregate-put-text-2
 slice-aggregate-put-text-2 c = search needs
 
--- src/lines.rt:78:5
 put-text-requires-2 : tie.Need-put-text-requires-2
-put-text-requires-2 c κs = search needs
+put-text-requires-2 c κs = tt
 
--- src/lines.rt:72:1
 returns-2 : tie.Need-returns-2
-returns-2 c = ?
+unfolding modeOf ascii
+returns-2 c = rw (ne-eqb _ _ (c .before .before .before .if1 .left)) (puts {most = 11} (c .put-text2 .ensures) (omega arith))
 
 pub put-mode-spec : {M : Type 1} → statement M
 put-mode-spec =
