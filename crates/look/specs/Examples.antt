@@ -21,7 +21,9 @@ interrupts =
     ∷ (interruptOf 16 8192, "  latest interrupt: pfls, a page fault of a load or store, EDATA 8192\n")
     ∷ (interruptOf 32 (2 ^ 32 - 1), "  latest interrupt: trap, EDATA 4294967295\n")
     ∷ (interruptOf 64 0, "  latest interrupt: ovf, an overflow, EDATA 0\n")
+    ∷ (interruptOf 8192 7, "  latest interrupt: timer, TCOUNT reached 0, EDATA 7\n")
     -- the lowest bit counts; the guest wrote ECA
+    ∷ (interruptOf 8224 7, "  latest interrupt: trap, EDATA 7\n")
     ∷ (interruptOf 72 0, "  latest interrupt: pff, a page fault in fetching, EDATA 0\n")
     ∷ (interruptOf 1 0, "  latest interrupt: no cause, since ECA was written, EDATA 0\n")
     ∷ (interruptOf (2 ^ 31) 0, "  latest interrupt: no cause, since ECA was written, EDATA 0\n")
@@ -36,7 +38,7 @@ lines =
     -- a house of one partition at boot; one of none; a refusal
     ∷ (
       lookOf (bootedHouse (1 ∷ []) 2 (1 ∷ []) 2048),
-      "house: partitions 1, turn length 2, current 0, steps left 2\npartition 0: running, system mode, pages 1, steps 0\n  latest interrupt: none\n  latest translation fault: none\n  DPC 0, PC 4, SR 0, ESR 0, ECA 0, EPC 0, EDPC 0\n  EDATA 0, MODE 0, PTO 0, PTL 0, EMODE 0\n  r0: 0 0 0 0 0 0 0 0\n  r8: 0 0 0 0 0 0 0 0\n  r16: 0 0 0 0 0 0 0 0\n  r24: 0 0 0 0 0 0 0 0\n",
+      "house: partitions 1, turn length 2, current 0, steps left 2\npartition 0: running, system mode, pages 1, steps 0\n  latest interrupt: none\n  latest translation fault: none\n  DPC 0, PC 4, SR 0, ESR 0, ECA 0, EPC 0, EDPC 0\n  EDATA 0, MODE 0, PTO 0, PTL 0, EMODE 0, TCOUNT 0, TLOAD 0\n  r0: 0 0 0 0 0 0 0 0\n  r8: 0 0 0 0 0 0 0 0\n  r16: 0 0 0 0 0 0 0 0\n  r24: 0 0 0 0 0 0 0 0\n",
     )
     ∷ (lookOf noHouse, "house: partitions 0, turn length 0, current 0, steps left 0\n")
     ∷ (printed (answered (verdict 15 24) (world noHouse [])), "refused 15 24\n")

@@ -9,6 +9,7 @@ use Rattle.dlx.specs.Interrupts.{levelOf}
 use Rattle.dlx.specs.declared.partition.Partition.{Partition}
 use Rattle.dlx.specs.declared.partition.Processor.{Processor}
 use Rattle.dlx.specs.declared.partition.Table.{Table}
+use Rattle.dlx.specs.declared.partition.Timer.{Timer}
 use Rattle.house.specs.House.{partition, runs}
 use Rattle.house.specs.Calls.{Answered}
 use Rattle.house.specs.declared.House.{House}
@@ -31,6 +32,7 @@ causeOf level =
     if eqb level 4 then ascii "pfls, a page fault of a load or store" else
     if eqb level 5 then ascii "trap" else
     if eqb level 6 then ascii "ovf, an overflow" else
+    if eqb level 13 then ascii "timer, TCOUNT reached 0" else
     ascii "no cause, since ECA was written"
 
 -- a translation fault, by its number
@@ -82,13 +84,15 @@ savedOf p =
     ++ ascii "\n"))))))
 
 -- the first register's row ends this line
-unfoldable pub specialsOf : Processor → Table → List ℕ
-specialsOf p t =
+unfoldable pub specialsOf : Processor → Table → Timer → List ℕ
+specialsOf p t k =
     named (ascii "  EDATA ") (p .edata)
     ++ (named (ascii ", MODE ") (p .mode)
     ++ (named (ascii ", PTO ") (t .pto)
     ++ (named (ascii ", PTL ") (t .ptl)
-    ++ named (ascii ", EMODE ") (p .emode))))
+    ++ (named (ascii ", EMODE ") (p .emode)
+    ++ (named (ascii ", TCOUNT ") (k .tcount)
+    ++ named (ascii ", TLOAD ") (k .tload))))))
 
 -- register j: eight to a row, which begins with the number of its first
 unfoldable pub registerOf : ℕ → ℕ → List ℕ
@@ -103,7 +107,7 @@ blockOf i running p regs =
     ++ (interruptOf (p .processor .eca) (p .processor .edata)
     ++ (faultLineOf (p .fault)
     ++ (savedOf (p .processor)
-    ++ (specialsOf (p .processor) (p .table)
+    ++ (specialsOf (p .processor) (p .table) (p .timer)
     ++ (registersFrom regs i
     ++ ascii "\n")))))
 

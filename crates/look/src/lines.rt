@@ -14,11 +14,12 @@ use dlx::interrupt::level;
 use dlx::partition::Partition;
 use dlx::partition::Processor;
 use dlx::partition::Table;
+use dlx::partition::Timer;
 use dlx::words::wide;
 use house::House;
 
-// A partition's lines have at most 2,077 bytes.
-pub const ROOM: usize = 16768;
+// A partition's lines have at most 2,134 bytes.
+pub const ROOM: usize = 17224;
 
 // A text and the number behind it.
 fn put_named(out: &mut [u8; ROOM], at: usize, name: &[u8], n: u64) -> usize
@@ -41,6 +42,7 @@ fn put_cause(out: &mut [u8; ROOM], at: usize, level: u32) -> usize
         4 => put_text(out, at, b"pfls, a page fault of a load or store"),
         5 => put_text(out, at, b"trap"),
         6 => put_text(out, at, b"ovf, an overflow"),
+        13 => put_text(out, at, b"timer, TCOUNT reached 0"),
         _ => put_text(out, at, b"no cause, since ECA was written"),
     }
 }
@@ -125,14 +127,16 @@ fn put_saved(out: &mut [u8; ROOM], at: usize, p: Processor) -> usize
     put_byte(out, seventh, b'\n')
 }
 
-fn put_specials(out: &mut [u8; ROOM], at: usize, p: Processor, t: Table) -> usize
-    ensures { λ r. ⌜ Puts (now (out .entry)) at (now (out .exit)) r (specialsOf p t) 135 ⌝ }
+fn put_specials(out: &mut [u8; ROOM], at: usize, p: Processor, t: Table, k: Timer) -> usize
+    ensures { λ r. ⌜ Puts (now (out .entry)) at (now (out .exit)) r (specialsOf p t k) 192 ⌝ }
 {
     let first = put_named(out, at, b"  EDATA ", p.edata as u64);
     let second = put_named(out, first, b", MODE ", p.mode as u64);
     let third = put_named(out, second, b", PTO ", t.pto as u64);
     let fourth = put_named(out, third, b", PTL ", t.ptl as u64);
-    put_named(out, fourth, b", EMODE ", p.emode as u64)
+    let fifth = put_named(out, fourth, b", EMODE ", p.emode as u64);
+    let sixth = put_named(out, fifth, b", TCOUNT ", k.tcount as u64);
+    put_named(out, sixth, b", TLOAD ", k.tload as u64)
 }
 
 // Register j, of which eight stand in a row.
@@ -170,13 +174,13 @@ fn put_partition(
     regs: &[u32; 256],
 ) -> usize
     requires { ⌜ i < 8 ⌝ }
-    ensures { λ r. ⌜ Puts (now (out .entry)) at (now (out .exit)) r (blockOf i running p (now (regs .entry))) 2077 ⌝ }
+    ensures { λ r. ⌜ Puts (now (out .entry)) at (now (out .exit)) r (blockOf i running p (now (regs .entry))) 2134 ⌝ }
 {
     let first = put_head(out, at, i, running, p);
     let second = put_interrupt(out, first, p.processor.eca, p.processor.edata);
     let third = put_fault_line(out, second, p.fault);
     let fourth = put_saved(out, third, p.processor);
-    let fifth = put_specials(out, fourth, p.processor, p.table);
+    let fifth = put_specials(out, fourth, p.processor, p.table, p.timer);
     let sixth = put_registers(out, fifth, regs, i);
     put_byte(out, sixth, b'\n')
 }
@@ -191,7 +195,7 @@ fn put_partitions(
     regs: &[u32; 256],
 ) -> usize
     requires { ⌜ n ≤ 8 ⌝ }
-    ensures { λ r. ⌜ Puts (now (out .entry)) at (now (out .exit)) r (joined (λ i. blockOf i (getD (now (running .entry)) i false) (getD parts i noPartition) (now (regs .entry))) n) (2077 * n) ⌝ }
+    ensures { λ r. ⌜ Puts (now (out .entry)) at (now (out .exit)) r (joined (λ i. blockOf i (getD (now (running .entry)) i false) (getD parts i noPartition) (now (regs .entry))) n) (2134 * n) ⌝ }
 {
     let mut end = at;
     let mut i = 0;

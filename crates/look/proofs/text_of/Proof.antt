@@ -15,7 +15,7 @@ put-refused-requires c κs = tt
 
 returns : tie.Need-returns
 returns c =
-    let n : length (c .before .before .before .args .out .now) ≡ 16768 = search (needs, c .before .put-refused-arg) in
+    let n : length (c .before .before .before .args .out .now) ≡ 17224 = search (needs, c .before .put-refused-arg) in
     let e = whole-is (c .put-refused .ensures) (omega (arith, n)) in
     (λ m. put-as _ _ _ _ _ (e .0 .0) (e .0 .1) (text-refused (c .before .before .before .args .number) (c .before .before .before .args .detail) _ (c .before .before .if1 .taken)), e .1)
 

@@ -49,6 +49,12 @@ slice-aggregate-put-text-7 c = search needs
 put-text-requires-7 : tie.Need-put-text-requires-7
 put-text-requires-7 c κs = tt
 
+slice-aggregate-put-text-8 : tie.Need-slice-aggregate-put-text-8
+slice-aggregate-put-text-8 c = search needs
+
+put-text-requires-8 : tie.Need-put-text-requires-8
+put-text-requires-8 c κs = tt
+
 returns : tie.Need-returns
 unfolding causeOf ascii
 returns c = rw (c .before .before .before .match .keys1) (puts {most = 50} (c .put-text .ensures) (omega arith))
@@ -75,9 +81,13 @@ returns-6 c = rw (c .before .before .before .match .keys6) (puts {most = 50} (c 
 
 returns-7 : tie.Need-returns-7
 unfolding causeOf ascii
-returns-7 c =
+returns-7 c = rw (c .before .before .before .match .keys7) (puts {most = 50} (c .put-text7 .ensures) (omega arith))
+
+returns-8 : tie.Need-returns-8
+unfolding causeOf ascii
+returns-8 c =
     let r = c .before .before .before .match .rest in
-    rw (ne-eqb _ _ (r .1), ne-eqb _ _ (r .0 .1), ne-eqb _ _ (r .0 .0 .1), ne-eqb _ _ (r .0 .0 .0 .1), ne-eqb _ _ (r .0 .0 .0 .0 .1), ne-eqb _ _ (r .0 .0 .0 .0 .0 .1)) (puts {most = 50} (c .put-text7 .ensures) (omega arith))
+    rw (ne-eqb _ _ (r .1), ne-eqb _ _ (r .0 .1), ne-eqb _ _ (r .0 .0 .1), ne-eqb _ _ (r .0 .0 .0 .1), ne-eqb _ _ (r .0 .0 .0 .0 .1), ne-eqb _ _ (r .0 .0 .0 .0 .0 .1), ne-eqb _ _ (r .0 .0 .0 .0 .0 .0 .1)) (puts {most = 50} (c .put-text8 .ensures) (omega arith))
 
 pub put-cause-spec : {M : Type 1} → statement M
 put-cause-spec =
@@ -97,10 +107,13 @@ put-cause-spec =
     put-text-requires-6
     slice-aggregate-put-text-7
     put-text-requires-7
+    slice-aggregate-put-text-8
+    put-text-requires-8
     returns
     returns-2
     returns-3
     returns-4
     returns-5
     returns-6
-    returns-7)
+    returns-7
+    returns-8)

@@ -27,10 +27,10 @@ put-partitions-requires c κs = omega (arith, c .before .before .used .ensures)
 returns : tie.Need-returns
 unfolding lookOf ascii
 returns c =
-    let n : length (c .before .before .before .before .before .before .before .before .before .before .before .before .before .args .out .now) ≡ 16768 = search (needs, c .before .before .before .before .before .before .before .before .before .put-text-arg) in
+    let n : length (c .before .before .before .before .before .before .before .before .before .before .before .before .before .args .out .now) ≡ 17224 = search (needs, c .before .before .before .before .before .before .before .before .before .put-text-arg) in
     let h = c .before .before .before .before .before .before .before .before .before .before .before .before .before .args .h in
     let p = exactly (c .before .before .before .before .before .before .before .put-text .ensures) then c .before .before .before .before .before .put-turn .ensures then (rw (c .before .before .before .used .ensures) at (c .put-partitions .ensures)) in
-    let e = whole-is (roomy 16768 p (omega (arith, c .before .before .before .used .ensures))) (omega (arith, n)) in
+    let e = whole-is (roomy 17224 p (omega (arith, c .before .before .before .used .ensures))) (omega (arith, n)) in
     (put-as (lookOf h) (lookOf h) (c .before .before .before .before .before .before .before .before .before .before .before .before .before .args .out .now) _ _ (e .0 .0) (e .0 .1) refl, e .1)
 
 pub put-house-spec : {M : Type 1} → statement M

@@ -50,14 +50,34 @@ cast-put-named-5 c = search needs
 put-named-requires-5 : tie.Need-put-named-requires-5
 put-named-requires-5 c κs = tt
 
+slice-aggregate-put-named-6 : tie.Need-slice-aggregate-put-named-6
+slice-aggregate-put-named-6 c = search needs
+
+cast-put-named-6 : tie.Need-cast-put-named-6
+cast-put-named-6 c = search needs
+
+put-named-requires-6 : tie.Need-put-named-requires-6
+put-named-requires-6 c κs = tt
+
+slice-aggregate-put-named-7 : tie.Need-slice-aggregate-put-named-7
+slice-aggregate-put-named-7 c = search needs
+
+cast-put-named-7 : tie.Need-cast-put-named-7
+cast-put-named-7 c = search needs
+
+put-named-requires-7 : tie.Need-put-named-requires-7
+put-named-requires-7 c κs = tt
+
 returns : tie.Need-returns
 unfolding specialsOf ascii
 returns c =
-    c .before .before .before .before .before .before .before .before .before .before .before .before .before .before .before .before .put-named .ensures
-    then c .before .before .before .before .before .before .before .before .before .before .before .before .put-named2 .ensures
-    then c .before .before .before .before .before .before .before .before .put-named3 .ensures
-    then c .before .before .before .before .put-named4 .ensures
-    then c .put-named5 .ensures
+    c .before .before .before .before .before .before .before .before .before .before .before .before .before .before .before .before .before .before .before .before .before .before .before .before .put-named .ensures
+    then c .before .before .before .before .before .before .before .before .before .before .before .before .before .before .before .before .before .before .before .before .put-named2 .ensures
+    then c .before .before .before .before .before .before .before .before .before .before .before .before .before .before .before .before .put-named3 .ensures
+    then c .before .before .before .before .before .before .before .before .before .before .before .before .put-named4 .ensures
+    then c .before .before .before .before .before .before .before .before .put-named5 .ensures
+    then c .before .before .before .before .put-named6 .ensures
+    then c .put-named7 .ensures
 
 pub put-specials-spec : {M : Type 1} → statement M
 put-specials-spec =
@@ -78,4 +98,10 @@ put-specials-spec =
     slice-aggregate-put-named-5
     cast-put-named-5
     put-named-requires-5
+    slice-aggregate-put-named-6
+    cast-put-named-6
+    put-named-requires-6
+    slice-aggregate-put-named-7
+    cast-put-named-7
+    put-named-requires-7
     returns)
