@@ -37,7 +37,7 @@ pub fn compose(entry: u32, pages: u32, access: u32) -> u32
 }
 
 // The shadow entry that the guest's table and the host's list give now for page px, or the fault's number.
-fn walk(words: &[u32], frames: &[u32], pages: u32, t: Table, px: u32) -> u32
+pub fn walk(words: &[u32], frames: &[u32], pages: u32, t: Table, px: u32) -> u32
     requires { ⌜ Placed (now frames) pages (length (now words)) ⌝ }
     ensures { λ r. ⌜ r ≡ given (now (frames .entry)) pages t (now (words .entry)) px ⌝ }
 {

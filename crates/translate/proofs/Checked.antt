@@ -13,10 +13,10 @@ use Rattle.dlx.specs.Execute.{written, valueOf, overflowsOf, operated, reached,
 use Rattle.dlx.specs.Machine.{executed, fetched, loaded, stored, accessed, received, afterRead, afterWrite, left, handled, changed, settled, retabled, step, steps}
 use Rattle.translate.specs.Entries.{judged, composed}
 use Rattle.translate.specs.Walk.{walked, direct}
-use Rattle.translate.specs.Memory.{loneFound, loneRead, loneWritten, hosted, given, filled, looked, served, hostRead, emptied, hostWritten, hostReads, hostWrites}
+use Rattle.translate.specs.Memory.{loneFound, loneRead, loneWritten, hosted, given, stale, filled, looked, served, hostRead, emptied, hostWritten, hostReads, hostWrites}
 use Rattle.dlx.specs.Examples.{same}
-use Rattle.translate.specs.Examples.{compositions, wordsFrom, sameHost, answer, gives, faults, refuses, writes, walks, hits, emptyings, sameLone, loneLoads, loneStores, alone, booted, stepped, once, system, user, numbers, leaves, goesOn, interrupt, fails, single, parts, struck, rings, ringing, all}
+use Rattle.translate.specs.Examples.{compositions, wordsFrom, sameHost, answer, gives, faults, refuses, writes, walks, hits, emptyings, stales, sameLone, loneLoads, loneStores, alone, booted, stepped, once, system, user, numbers, leaves, goesOn, interrupt, fails, single, parts, struck, rings, ringing, all}
 
-pub checked : all (compositions ++ (walks ++ (hits ++ (emptyings ++ (alone ++ (stepped ++ (single ++ (parts ++ ringing)))))))) ≡ true
-unfolding all same compositions walks hits emptyings alone stepped single parts struck rings ringing wordsFrom sameHost answer gives faults refuses writes sameLone loneLoads loneStores booted once system user numbers leaves goesOn interrupt fails judged composed walked direct loneFound loneRead loneWritten hosted given filled looked served hostRead emptied hostWritten hostReads hostWrites step steps fetched executed loaded stored accessed received afterRead afterWrite left handled changed settled ticked raised retabled instructionOf registerType partType field put width brought placed effectOf written valueOf overflowsOf operated reached loads stores movedTo trapOf specialOf withSpecial withCount interrupted levelOf trailingZeros extendedBy readIn holds
+pub checked : all (compositions ++ (walks ++ (hits ++ (emptyings ++ (stales ++ (alone ++ (stepped ++ (single ++ (parts ++ ringing))))))))) ≡ true
+unfolding all same compositions walks hits emptyings stales alone stepped single parts struck rings ringing wordsFrom sameHost answer gives faults refuses writes sameLone loneLoads loneStores booted once system user numbers leaves goesOn interrupt fails judged composed walked direct loneFound loneRead loneWritten hosted given stale filled looked served hostRead emptied hostWritten hostReads hostWrites step steps fetched executed loaded stored accessed received afterRead afterWrite left handled changed settled ticked raised retabled instructionOf registerType partType field put width brought placed effectOf written valueOf overflowsOf operated reached loads stores movedTo trapOf specialOf withSpecial withCount interrupted levelOf trailingZeros extendedBy readIn holds
 checked = refl

@@ -6,4 +6,5 @@ pub mod Isolation
 pub mod Kept
 pub mod Shadow
 pub mod Simulation
+pub mod Stale
 pub mod Steps

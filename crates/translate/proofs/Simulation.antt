@@ -11,20 +11,21 @@ use Rattle.dlx.proofs.Like.{Both, Like}
 use Rattle.dlx.proofs.Kept.{either, getD-set-elim}
 use Rattle.translate.specs.Entries.{valid, Found, fault, found}
 use Rattle.translate.specs.Walk.{entries, walked}
-use Rattle.translate.specs.Memory.{Lone, lone, loneWord, loneFound, loneRead, loneWritten, loneMemory, wordIn, Host, host, place, hosted, given, looked, served, hostRead, hostWritten, hostReads, hostWrites, emptied, freshShadow, hostMemory}
+use Rattle.translate.specs.Memory.{Lone, lone, loneWord, loneFound, loneRead, loneWritten, loneMemory, wordIn, Host, host, place, hosted, given, stale, looked, served, hostRead, hostWritten, hostReads, hostWrites, emptied, freshShadow, hostMemory}
 use Rattle.translate.specs.Premises.{Placed, Own, Shadowed}
 use Rattle.dlx.proofs.Tests.{by-test, set-both}
-use Rattle.translate.proofs.Entries.{number-entry, valid-entry, protection-entry, fault-invalid, Within, found-within, walked-same, given-own, empty-invalid, fresh-invalid}
+use Rattle.translate.proofs.Entries.{number-entry, valid-entry, protection-entry, fault-invalid, Within, found-within, walked-same, given-own}
+use Rattle.translate.proofs.Stale.{stale-denied, not-stale, empty-not-stale, fresh-not-stale}
 use Rattle.translate.proofs.Shadow.{place-page, serving, emptied-each, emptied-count, given-missed, Untouched, stored-untouched}
 
--- The lone memory s and the host h, whose words were base: its pages agree, its valid shadow entries are what is given now, all else is as in base.
+-- The lone memory s and the host h, whose words were base: its pages agree, no entry of its shadow is stale, all else is as in base.
 pub record Right (fr : List ℕ) (n : ℕ) (base : List ℕ) (s : Lone) (h : Host) : Type 0 where
   pub table : s .table ≡ h .table
   pub pages : length (s .words) ≡ n * 1024
   pub size : length (h .words) ≡ length base
   pub agree : (i : ℕ) → i < n * 1024 → getD (s .words) i 0 ≡ getD (h .words) (place fr i) 0
   pub count : length (h .shadow) ≡ entries
-  pub shadow : (px : ℕ) → valid (getD (h .shadow) px 0) ≡ true → getD (h .shadow) px 0 ≡ given fr n (h .table) (h .words) px
+  pub shadow : (px : ℕ) → stale fr n (h .table) (h .words) px (getD (h .shadow) px 0) ≡ false
   pub others : Untouched fr n base (h .words)
 
 module _ {fr base : List ℕ} {n : ℕ} where
@@ -38,7 +39,7 @@ module _ {fr base : List ℕ} {n : ℕ} where
     size = l′;
     agree = e;
     count = length-replicate {A = ℕ} entries 0;
-    shadow = λ px q. absurd (fresh-invalid px q);
+    shadow = fresh-not-stale fr n t hw;
     others = u;
   }
 
@@ -51,9 +52,13 @@ module _ {fr base : List ℕ} {n : ℕ} {s : Lone} {h : Host} (r : Right fr n ba
   pub right-emptied : Right fr n base s (host (h .table) (h .words) freshShadow)
   right-emptied = subst (λ t. Right fr n base s (host t (h .words) freshShadow)) (r .table) (right-retable (s .table))
 
+  -- a valid entry is what is given
+  right-entry : (px : ℕ) → valid (getD (h .shadow) px 0) ≡ true → getD (h .shadow) px 0 ≡ given fr n (h .table) (h .words) px
+  right-entry px = stale-denied fr n (h .table) (h .words) px _ (r .shadow px)
+
   -- the frames of a right shadow are own
   pub right-shadowed : Shadowed fr n (h .shadow)
-  right-shadowed = record { count = r .count; own = λ px q. let e = r .shadow px q in rw e (given-own fr n (h .table) (h .words) px (rw e at q)) }
+  right-shadowed = record { count = r .count; own = λ px q. let e = right-entry px q in rw e (given-own fr n (h .table) (h .words) px (rw e at q)) }
 
   -- ---- the search
 
@@ -66,7 +71,7 @@ module _ {fr base : List ℕ} {n : ℕ} {s : Lone} {h : Host} (r : Right fr n ba
   unfolding served looked loneFound
   reach true a =
       either (λ (g : ℕ × Host). g .0 ≡ hosted fr (walked (loneWord s) n (s .table) (a / 4096))) (valid (getD (h .shadow) (a / 4096) 0))
-      (λ q. r .shadow (a / 4096) q ∙ given-lone (a / 4096))
+      (λ q. right-entry (a / 4096) q ∙ given-lone (a / 4096))
       (λ _. given-lone (a / 4096))
   reach false a = refl
 
@@ -78,7 +83,7 @@ module _ {fr base : List ℕ} {n : ℕ} {s : Lone} {h : Host} (r : Right fr n ba
         size = r .size;
         agree = r .agree;
         count = simp length-set (r .count);
-        shadow = λ j. getD-set-elim (λ e. valid e ≡ true → e ≡ given fr n (h .table) (h .words) j) (h .shadow) px j _ 0 (λ q _. rw q) (r .shadow j);
+        shadow = λ j. getD-set-elim (λ e. stale fr n (h .table) (h .words) j e ≡ false) (h .shadow) px j _ 0 (λ q. not-stale fr n (h .table) (h .words) j _ (λ _. rw q)) (r .shadow j);
         others = r .others;
       }
 
@@ -108,9 +113,9 @@ module _ {fr base : List ℕ} {n : ℕ} {s : Lone} {h : Host} (r : Right fr n ba
               (λ q. let e : i / 1024 ≡ k = F .distinct (i / 1024) k (omega arith) hk (omega arith) in omega arith)
               (r .agree i hi);
           count = emptied-count fr n (h .table) f off (h .shadow) ∙ r .count;
-          shadow = λ px. emptied-each fr n (λ e. valid e ≡ true → e ≡ given fr n (h .table) (set (h .words) (f * 1024 + off) x) px) (h .table) f off (h .shadow) px
-              (λ q. absurd (empty-invalid q))
-              (λ m q. r .shadow px q ∙ sym (given-missed fr n (h .table) (h .words) f off x px ho m));
+          shadow = λ px. emptied-each fr n (λ e. stale fr n (h .table) (set (h .words) (f * 1024 + off) x) px e ≡ false) (h .table) f off (h .shadow) px
+              (empty-not-stale fr n (h .table) (set (h .words) (f * 1024 + off) x) px)
+              (λ m. not-stale fr n (h .table) (set (h .words) (f * 1024 + off) x) px _ (λ q. right-entry px q ∙ sym (given-missed fr n (h .table) (h .words) f off x px ho m)));
           others = stored-untouched fr n base (h .words) f off x o ho (r .others);
         }
 

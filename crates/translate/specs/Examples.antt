@@ -15,7 +15,7 @@ use Rattle.dlx.specs.declared.execute.Access.{Access}
 use Rattle.dlx.specs.declared.execute.Access.the-variants.{Fault, Word}
 use Rattle.translate.specs.Entries.{compositionOf}
 use Rattle.translate.specs.Walk.{entries}
-use Rattle.translate.specs.Memory.{Lone, lone, loneMemory, Host, host, hostWord, hostMemory, emptied, freshShadow}
+use Rattle.translate.specs.Memory.{Lone, lone, loneMemory, Host, host, hostWord, stale, hostMemory, emptied, freshShadow}
 
 -- ---- entry composition: 0 is load, 1 store; 4,294,967,295 is a fault
 
@@ -260,6 +260,38 @@ emptyings =
     -- [store: what is written] a store's update of the word that stands there
     ∷ (let g = hostMemory frames 3 .write (guest 1 6) false 0x0ABC (λ w. w + 7) in
     eqb (g .0) 0 && sameHost (g .1) (host (table 1 6) (set memory 2735 (word 2742)) freshShadow))
+    ∷ []
+
+-- ---- stale entries
+
+unfoldable pub stales : List Bool
+stales =
+    -- [stale: not] what table and list give now: of pages 0, 1 and 2, protected and not, and of page 1,023
+    not (stale frames 3 (table 1 6) memory 0 0x00002800)
+    ∷ not (stale frames 3 (table 1 6) memory 1 0x00003800)
+    ∷ not (stale frames 3 (table 1 6) memory 2 0x00001C00)
+    ∷ not (stale frames 3 (table 1 6) memory 5 0x00001800)
+    ∷ not (stale frames 3 (table 1 1024) memory 1023 0x00001800)
+    -- [stale: frame] another own frame
+    ∷ stale frames 3 (table 1 6) memory 0 0x00003800
+    ∷ stale frames 3 (table 1 6) memory 2 0x00002C00
+    -- [stale: protection] one that the table has not, and one that it has
+    ∷ stale frames 3 (table 1 6) memory 0 0x00002C00
+    ∷ stale frames 3 (table 1 6) memory 2 0x00001800
+    -- [stale: a fault] from PTL on, from 1,024 on, outside guest memory, not valid, a page that is not there
+    ∷ stale frames 3 (table 1 6) memory 6 0x00001800
+    ∷ not (stale frames 3 (table 1 7) memory 6 0x00001800)
+    ∷ stale frames 3 (table 1 1025) memory 1024 0x00002800
+    ∷ stale frames 3 (table 3 6) memory 0 0x00002800
+    ∷ stale frames 3 (table 1 6) memory 4 0x00001800
+    ∷ stale frames 3 (table 1 6) memory 3 0x00001800
+    -- [stale: a word edited] of the table, behind the shadow's back
+    ∷ stale frames 3 (table 1 6) (set memory 3072 0x00001800) 0 0x00002800
+    ∷ not (stale frames 3 (table 1 6) (set memory 3073 0) 0 0x00002800)
+    -- [stale: empty] an entry that is not valid is never stale
+    ∷ not (stale frames 3 (table 1 6) memory 0 0)
+    ∷ not (stale frames 3 (table 1 6) memory 0 0x000027FF)
+    ∷ not (stale frames 3 (table 1 6) memory 3 0)
     ∷ []
 
 -- ---- the same guest as a lone machine: its pages in order, and no shadow

@@ -77,6 +77,10 @@ hosted fr (found k p) = entryOf (getD fr k 0) p
 unfoldable pub given : List ℕ → ℕ → Table → List ℕ → ℕ → ℕ
 given fr n t ws px = hosted fr (walked (hostWord fr ws) n t px)
 
+-- An entry e of the shadow, of page px, is stale where it is valid and is not what table and list give now: another frame, another protection, or a fault.
+unfoldable pub stale : List ℕ → ℕ → Table → List ℕ → ℕ → ℕ → Bool
+stale fr n t ws px e = valid e && not (eqb e (given fr n t ws px))
+
 unfoldable pub filled : Host → ℕ → ℕ → Host
 filled s px e = if valid e then host (s .table) (s .words) (set (s .shadow) px e) else s
 
