@@ -27,7 +27,7 @@ use Rattle.demands.proofs.Isolation.IsolatedRun.{same-verdict, answers-
 use Rattle.demands.proofs.Isolation.FrameZero.{apart-undamaged, apart-given}
 use Rattle.demands.proofs.Booted.FreshHouse.{booted-few, booted-whole, booted-ready}
 use Rattle.demands.proofs.Histories.Stays.{history-stays}
-use Rattle.demands.proofs.Histories.Standing.{step-of}
+use Rattle.demands.proofs.Histories.Standing.{step-of, firm}
 use Rattle.demands.proofs.Histories.Grown.{standing, run-grown, run-busy}
 use Rattle.demands.proofs.Histories.Landings.{lands}
 use Rattle.demands.proofs.Histories.Counted.{at-end, end-lone, end-counter}
@@ -90,14 +90,14 @@ never-damaged b t w g =
     (history-stays (booted b) (booted-ready b t .typed) (booted-whole b) (g .0) .whole)
 
 pub step-demand : Step
-step-demand b w g _ = step-of b w (standing b w g)
+step-demand b w g _ = step-of w (firm b w (standing b w g))
 
 pub within-runs : WithinRuns
 unfolding runCall
 within-runs b w g k j e l = let d = run-done w k e in (run-grown b w g k j d l, run-busy b w g k j d l)
 
 pub reach-demand : Reach
-reach-demand b w g = lands b w (standing b w g)
+reach-demand b w g = lands w (firm b w (standing b w g))
 
 -- ---- demand 3
 

@@ -11,7 +11,7 @@ use Rattle.dlx.specs.declared.execute.Reply.{Reply}
 use Rattle.dlx.specs.declared.partition.Partition.{Partition}
 use Rattle.dlx.specs.declared.partition.Table.{Table}
 use Rattle.translate.specs.Walk.{entries}
-use Rattle.translate.specs.Memory.{Host, host, hostMemory}
+use Rattle.translate.specs.Memory.{Host, host, stale, hostMemory}
 use Rattle.dlx.specs.Parts.{outer}
 use Rattle.house.specs.House.{guests, turn, withTurn, withGuests, withQueues, partition, pagesOf, registersOf, framesOf, shadowOf, queuesOf}
 use Rattle.tickets.specs.Queues.{Queues, desk}
@@ -56,6 +56,12 @@ guest w i =
 
 abbrev pub guestMemory : House → ℕ → Ops Host
 guestMemory h i = hostMemory (framesOf h i) (pagesOf h i)
+
+-- entry px of its shadow is stale: valid, and not what its table and its frame list give now
+abbrev pub staleAt : World → ℕ → ℕ → Bool
+staleAt w i px =
+    let p = partition (w .house) i in
+    stale (framesOf (w .house) i) (p .pages) (p .table) (w .memory) px (getD (shadowOf (w .house) i) px 0)
 
 -- what its step asks, the answer to it, and the queues after it
 unfoldable pub requestNow : World → ℕ → Request

@@ -25,7 +25,7 @@ use Rattle.demands.specs.Demands.{StepOf}
 use Rattle.demands.proofs.Booted.FreshHouse.{booted-partition, booted-pages}
 use Rattle.demands.proofs.Booted.FreshGuests.{booted-lone}
 use Rattle.demands.proofs.Histories.Grown.{standing-boot, standing-steps, standing-after}
-use Rattle.demands.proofs.Histories.Standing.{Standing, step-of, queues-kept}
+use Rattle.demands.proofs.Histories.Standing.{Standing, step-of, queues-kept, firm}
 
 -- ---- logs
 
@@ -105,7 +105,7 @@ module _ (b : Boot) (i : ℕ) (l : i < length (b .pages)) where
 
     lone-own : w .house .current ≡ i → loneOf (hostStep w) i ≡ steps (loneMemory (getD (b .pages) i 0)) (fed (answersTo i log ++ (loneAnswer w i ∷ []))) (length (answersTo i log ++ (loneAnswer w i ∷ []))) (loneAtBoot b i)
     lone-own e =
-        let s = subst (StepOf w (hostStep w)) e (step-of b w st) in
+        let s = subst (StepOf w (hostStep w)) e (step-of w (firm b w st)) in
         let O = loneMemory (getD (b .pages) i 0) in
         s .own
         ∙ ap (λ (n : ℕ). let o = step (loneMemory n) (loneAnswer w i) (loneOf w i) in (o .0 .core, o .1)) (st .layout .pages i ∙ booted-pages b i l)
@@ -121,13 +121,13 @@ module _ (b : Boot) (i : ℕ) (l : i < length (b .pages)) where
         each-more (λ e. sentTo (e .asks) (e .answer) i) log (eventOf w)
         ∙ ap (λ x. x ++ S) (a .tickets)
         ∙ append-assoc (ticketsOff i log) (queueIn w i) S
-        ∙ ap (λ x. ticketsOff i log ++ x) (queues-kept b w st i below)
+        ∙ ap (λ x. ticketsOff i log ++ x) (queues-kept w (firm b w st) i below)
         ∙ sym (append-assoc (ticketsOff i log) T (queueIn (hostStep w) i))
         ∙ ap (λ x. x ++ queueIn (hostStep w) i) (sym (each-more (λ e. takenBy (e .who) (e .asks) (e .answer) i) log (eventOf w)))
 
     at-own : w .house .current ≡ i → At (hostStep w) (log ++ (eventOf w ∷ []))
     at-own e =
-        let s = subst (StepOf w (hostStep w)) e (step-of b w st) in
+        let s = subst (StepOf w (hostStep w)) e (step-of w (firm b w st)) in
         record {
           lone = lone-own e ∙ ap (λ (x : List Reply). steps (loneMemory (getD (b .pages) i 0)) (fed x) (length x) (loneAtBoot b i)) (sym (own-answers e));
           counter = s .counters i below ∙ rw (eq-eqb i i refl) (omega (arith, a .counter, length-append (answersTo i log) (loneAnswer w i ∷ []), ap length (own-answers e)));
@@ -136,7 +136,7 @@ module _ (b : Boot) (i : ℕ) (l : i < length (b .pages)) where
 
     at-other : (w .house .current ≡ i → ⊥) → At (hostStep w) (log ++ (eventOf w ∷ []))
     at-other d =
-        let s = step-of b w st in
+        let s = step-of w (firm b w st) in
         record {
           lone = s .others i below (λ e. d (sym e)) ∙ a .lone ∙ ap (λ (x : List Reply). steps (loneMemory (getD (b .pages) i 0)) (fed x) (length x) (loneAtBoot b i)) (sym (other-answers d));
           counter = s .counters i below ∙ rw (ne-eqb i (w .house .current) (λ e. d (sym e))) (a .counter ∙ ap (λ (x : List Reply). length x % 2 ^ 64) (sym (other-answers d)));

@@ -8,9 +8,8 @@ use borrow.Author.Tests.{eq-eqb, ne-eqb, le-ltb}
 use lib.Dec.{eqb}
 use lib.ListN.{length, getD, set, length-set}
 use Rattle.dlx.proofs.Kept.{either}
-use Rattle.translate.specs.Entries.{valid}
-use Rattle.translate.specs.Memory.{given, freshShadow}
-use Rattle.translate.proofs.Entries.{fresh-invalid}
+use Rattle.translate.specs.Memory.{stale, freshShadow}
+use Rattle.translate.proofs.Stale.{fresh-not-stale}
 use Rattle.dlx.proofs.Tests.{by-eq, getD-replicate-same}
 use Rattle.house.specs.Lists.{any}
 use Rattle.house.specs.House.{partition, framesOf, shadowOf, turn, withTurn}
@@ -25,13 +24,16 @@ use Rattle.house.proofs.Calls.Emptied.{emptied-shaped, emptied-own, emptied-oth
 use Rattle.house.proofs.Turns.SameLayout.{same-layout, layout-on, changed-layout}
 use Rattle.house.proofs.Damage.Undamaged.{sound}
 use Rattle.house.proofs.Calls.Verdicts.{RunDone}
-use Rattle.demands.proofs.Histories.Standing.{RightShadow, Standing, standing-small, standing-step}
+use Rattle.demands.proofs.Histories.Standing.{RightShadow, Standing, standing-small, firm, standing-step}
 use Rattle.house.proofs.Turns.Kept.{next-below, steps-keep, sound-steps}
 use Rattle.demands.proofs.Histories.LeftByCalls.{Done, after-keeps, history-keeps}
 
 -- an empty shadow is right
 fresh-right : (w : World) (i : ℕ) → shadowOf (w .house) i ≡ freshShadow → RightShadow w i
-fresh-right w i e px v = absurd (fresh-invalid px (subst (λ (sh : List ℕ). valid (getD sh px 0) ≡ true) e v))
+fresh-right w i e px =
+    let p = partition (w .house) i in
+    let fr = framesOf (w .house) i in
+    ap (λ (sh : List ℕ). stale fr (p .pages) (p .table) (w .memory) px (getD sh px 0)) e ∙ fresh-not-stale fr (p .pages) (p .table) (w .memory) px
 
 pub standing-boot : (b : Boot) → Standing b (booted b)
 unfolding bootedHouse
@@ -85,7 +87,7 @@ module _ (b : Boot) (w : World) (st : Standing b w) where
     standing-emptied : Standing b (world (emptiedHouse (w .house) i) (w .memory))
     unfolding emptiedHouse
     standing-emptied =
-        let small = standing-small b w st l in
+        let small = standing-small w (firm b w st) l in
         let x = world (emptiedHouse (w .house) i) (w .memory) in
         record {
           shaped = emptied-shaped (w .house) i (st .shaped) small;
@@ -97,8 +99,8 @@ module _ (b : Boot) (w : World) (st : Standing b w) where
           right = λ j m. by-eq j i
               (λ e. subst (RightShadow x) (sym e) (fresh-right x i (emptied-own (w .house) i (st .shaped) small)))
               (λ d.
-              subst (λ (sh : List ℕ). (px : ℕ) → valid (getD sh px 0) ≡ true → getD sh px 0 ≡ given (framesOf (w .house) j) (partition (w .house) j .pages) (partition (w .house) j .table) (w .memory) px)
-              (sym (emptied-other (w .house) i (st .shaped) small j (standing-small b w st m) d)) (st .right j m));
+              subst (λ (sh : List ℕ). (px : ℕ) → stale (framesOf (w .house) j) (partition (w .house) j .pages) (partition (w .house) j .table) (w .memory) px (getD sh px 0) ≡ false)
+              (sym (emptied-other (w .house) i (st .shaped) small j (standing-small w (firm b w st) m) d)) (st .right j m));
         }
 
   standing-done : Done (Standing b) w

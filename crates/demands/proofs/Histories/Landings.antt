@@ -12,9 +12,9 @@ use Rattle.translate.proofs.Simulation.{reach}
 use Rattle.dlx.proofs.Tests.{by-test}
 use Rattle.house.specs.House.{pagesOf, framesOf}
 use Rattle.house.specs.Turns.{World}
-use Rattle.demands.specs.Histories.{Boot, loneOf}
+use Rattle.demands.specs.Histories.{loneOf}
 use Rattle.demands.specs.Demands.{Landing, fails, word, byShadow, listed, byTable}
-use Rattle.demands.proofs.Histories.Standing.{Standing, right-of}
+use Rattle.demands.proofs.Histories.Standing.{Firm, right-of}
 
 -- through one entry
 abbrev landed : Bool → ℕ → ℕ → Landing
@@ -30,7 +30,7 @@ hosted-lands fr n store a (found k p) h =
     rw (valid-entry (getD fr k 0) p (h .1), protection-entry (getD fr k 0) p (h .1), number-entry (getD fr k 0) p (h .1))
     (by-test (refused store p) (λ e. rw e) (λ e. rw e))
 
-pub lands : (b : Boot) (w : World) → Standing b w → (i : ℕ) → i < w .house .count → (store user : Bool) (a : ℕ) → byShadow w i store user a ≡ byTable w i store user a
-lands b w st i l store user a =
-    ap (landed store a) (reach (right-of b w st i l) user a)
+pub lands : (w : World) → Firm w → (i : ℕ) → i < w .house .count → (store user : Bool) (a : ℕ) → byShadow w i store user a ≡ byTable w i store user a
+lands w st i l store user a =
+    ap (landed store a) (reach (right-of w st i l) user a)
     ∙ hosted-lands (framesOf (w .house) i) (pagesOf (w .house) i) store a _ (found-within (pagesOf (w .house) i) (loneOf w i .1) user a)

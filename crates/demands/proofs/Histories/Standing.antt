@@ -1,6 +1,7 @@
--- What holds of every house and memory grown from a boot, kept by host steps: every shadow is right. So a host step is one lone step.
+-- A house that is not damaged, and whose every shadow is right: a host step is one lone step, and the shadows stay right. So it is in every house and
+-- memory grown from a boot.
 use mathlib.Core.Path.{_≡_, refl, sym, ap, subst, _∙_}
-use mathlib.Core.Bool.{true}
+use mathlib.Core.Bool.{false}
 use mathlib.Core.List.{List, _++_}
 use Prim.Native.Nat.{ℕ, _+_, _*_, _/_, _%_, _^_, _<_, _≤_}
 use native.Mathlib.Omega.{arith}
@@ -14,16 +15,16 @@ use Rattle.dlx.specs.declared.execute.Reply.{Reply}
 use Rattle.dlx.specs.declared.partition.Partition.{Partition}
 use Rattle.dlx.specs.declared.partition.Table.{Table}
 use Rattle.dlx.proofs.Like.{Both, asked-like, step-like}
-use Rattle.translate.specs.Entries.{valid}
 use Rattle.translate.specs.Walk.{entries}
-use Rattle.translate.specs.Memory.{Lone, lone, loneMemory, Host, place, hostWord, hosted, given}
+use Rattle.translate.specs.Memory.{Lone, lone, loneMemory, Host, place, hostWord, hosted, given, stale}
 use Rattle.translate.specs.Premises.{Placed}
 use Rattle.translate.proofs.Entries.{walked-same}
 use Rattle.translate.proofs.Simulation.{Right, simulation}
+use Rattle.translate.proofs.Stale.{stale-same}
 use Rattle.dlx.proofs.Tests.{by-eq}
 use Rattle.house.specs.Lists.{listFrom}
 use Rattle.house.specs.House.{partition, pagesOf, registersOf, framesOf, shadowOf, queuesOf}
-use Rattle.house.specs.Turns.{World, turnAfter, guest, requestNow, replyNow, queuesNext, guestStep, queuedOn, counted, settledHouse, stepWith, hostStep}
+use Rattle.house.specs.Turns.{World, turnAfter, guest, staleAt, requestNow, replyNow, queuesNext, guestStep, queuedOn, counted, settledHouse, stepWith, hostStep}
 use Rattle.house.specs.Sound.{Shaped, LaidOut}
 use Rattle.house.specs.Boot.{bootedHouse}
 use Rattle.demands.specs.Histories.{Boot, booted, loneOf, queueIn, loneAsks, loneAnswer}
@@ -39,11 +40,22 @@ use Rattle.house.proofs.Turns.SameLayout.{layout-on, step-layout}
 use Rattle.house.proofs.Damage.Undamaged.{sound-partition}
 use Rattle.demands.proofs.Booted.FreshHouse.{booted-shaped, booted-undamaged, booted-whole}
 
--- every valid entry of the shadow is what the guest's table and the host's list give now
+-- no entry of the shadow is stale: every valid one is what the guest's table and the host's list give now
 abbrev pub RightShadow : World → ℕ → Type 0
-RightShadow w i = (px : ℕ) → valid (getD (shadowOf (w .house) i) px 0) ≡ true →
-    getD (shadowOf (w .house) i) px 0 ≡ given (framesOf (w .house) i) (pagesOf (w .house) i) (partition (w .house) i .table) (w .memory) px
+RightShadow w i = (px : ℕ) → staleAt w i px ≡ false
 
+-- frames in the memory, each once, queues of at most 32, and right shadows
+pub record Firm (w : World) : Type 0 where
+  pub shaped : Shaped (w .house)
+  pub few : w .house .count ≤ 8
+  pub placed : (i : ℕ) → i < w .house .count → Placed (framesOf (w .house) i) (pagesOf (w .house) i) (length (w .memory))
+  pub apart : (i j k l : ℕ) → i < w .house .count → j < w .house .count → k < pagesOf (w .house) i → l < pagesOf (w .house) j
+      → getD (framesOf (w .house) i) k 0 ≡ getD (framesOf (w .house) j) l 0 → i ≡ j
+  pub here : w .house .current < w .house .count
+  pub most : (j : ℕ) → waitingOf (queuesOf (w .house)) j ≤ 32
+  pub right : (i : ℕ) → i < w .house .count → RightShadow w i
+
+-- what stands so from a boot on
 pub record Standing (b : Boot) (w : World) : Type 0 where
   pub shaped : Shaped (w .house)
   pub layout : LaidOut (booted b .house) (w .house)
@@ -67,22 +79,9 @@ right-is {fr} {base} {n} {s} {h} r =
 abbrev alone : Partition → List ℕ → List ℕ → List ℕ → Core × Lone
 alone p regs fr m = (core (p .processor) regs (p .fault) (p .timer), lone (p .table) (listFrom (hostWord fr m) 0 (p .pages * 1024)))
 
-module _ (b : Boot) (w : World) (st : Standing b w) where
+module _ (w : World) (st : Firm w) where
   pub standing-small : {i : ℕ} → i < w .house .count → i < 8
-  standing-small l = omega (arith, st .layout .count, booted-undamaged b .few)
-
-  -- as the booted house has them
-  placed : (i : ℕ) → i < w .house .count → Placed (framesOf (w .house) i) (pagesOf (w .house) i) (length (w .memory))
-  unfolding bootedHouse
-  placed i l =
-      rw (st .layout .frames, st .layout .pages i, st .size)
-      (sound-partition (booted b .house) (booted-whole b) (b .memory) (booted-shaped b) refl i (rw (st .layout .count) at l) .placed)
-
-  apart : (i j k l : ℕ) → i < w .house .count → j < w .house .count → k < pagesOf (w .house) i → l < pagesOf (w .house) j
-      → getD (framesOf (w .house) i) k 0 ≡ getD (framesOf (w .house) j) l 0 → i ≡ j
-  apart i j k l hi hj hk hl e =
-      let y = st .layout in
-      booted-undamaged b .once i j k l (omega (arith, y .count)) (omega (arith, y .count)) (omega (arith, y .pages i)) (omega (arith, y .pages j)) (rw (y .frames) at e) .0
+  standing-small l = omega (arith, st .few)
 
   -- each partition's lone machine, and the guest that stands for it
   pub right-of : (i : ℕ) → i < w .house .count → Right (framesOf (w .house) i) (pagesOf (w .house) i) (w .memory) (loneOf w i .1) (guest w i .1)
@@ -103,27 +102,24 @@ module _ (b : Boot) (w : World) (st : Standing b w) where
   unfolding loneOf
   like-now = record { same = refl; rest = right-of (w .house .current) (st .here) }
 
-  few : w .house .count ≤ 8
-  few = omega (arith, st .layout .count, booted-undamaged b .few)
-
   queued : Queued (queuesOf (w .house))
   queued = queued-of (w .house) (st .shaped) (st .most)
 
   request-same : requestNow w (w .house .current) ≡ loneAsks w (w .house .current)
   unfolding requestNow loneAsks
-  request-same = sym (asked-like _ _ _ (simulation _ _ _ (placed (w .house .current) (st .here))) _ _ like-now)
+  request-same = sym (asked-like _ _ _ (simulation _ _ _ (st .placed (w .house .current) (st .here))) _ _ like-now)
 
   reply-same : replyNow w (w .house .current) ≡ loneAnswer w (w .house .current)
   unfolding replyNow loneAnswer
   reply-same =
-      desk-ruled (w .house .count) (w .house .current) (queuesOf (w .house)) queued few (standing-small (st .here)) (requestNow w (w .house .current))
+      desk-ruled (w .house .count) (w .house .current) (queuesOf (w .house)) queued (st .few) (standing-small (st .here)) (requestNow w (w .house .current))
       ∙ ap (ruled (w .house .count) (w .house .current) (queueIn w)) request-same
 
   abbrev on : World
   on = queuedOn w
 
   on-queued : Queued (queuesNext w (w .house .current))
-  on-queued = queued-next w queued few (standing-small (st .here))
+  on-queued = queued-next w queued (st .few) (standing-small (st .here))
 
   on-shaped : Shaped (on .house)
   on-shaped = queued-shaped (w .house) (st .shaped) _ on-queued
@@ -134,7 +130,7 @@ module _ (b : Boot) (w : World) (st : Standing b w) where
   both =
       subst (λ (y : Reply). Both (Right (framesOf (w .house) (w .house .current)) (pagesOf (w .house) (w .house .current)) (w .memory)) (step (loneMemory (pagesOf (w .house) (w .house .current))) y (loneOf w (w .house .current))) (guestStep w (w .house .current)))
       reply-same
-      (step-like _ _ _ (simulation _ _ _ (placed (w .house .current) (st .here))) (replyNow w (w .house .current)) _ _ like-now)
+      (step-like _ _ _ (simulation _ _ _ (st .placed (w .house .current) (st .here))) (replyNow w (w .house .current)) _ _ like-now)
 
   regs : length (guestStep w (w .house .current) .0 .core .registers) ≡ 32
   regs = step-registers w (st .shaped) (standing-small (st .here))
@@ -171,7 +167,7 @@ module _ (b : Boot) (w : World) (st : Standing b w) where
     other-word : (x : ℕ) → x < pagesOf (w .house) j * 1024 → hostWord (framesOf (w .house) j) (made .1 .words) x ≡ hostWord (framesOf (w .house) j) (w .memory) x
     other-word x m =
         both .rest .others (place (framesOf (w .house) j) x)
-        (λ o. d (apart j (w .house .current) (x / 1024) (o .0) l (st .here) (omega arith) (o .1) (omega (arith, o .2))))
+        (λ o. d (st .apart j (w .house .current) (x / 1024) (o .0) l (st .here) (omega arith) (o .1) (omega (arith, o .2))))
 
     other-lone : loneOf (hostStep w) j ≡ loneOf w j
     unfolding hostStep stepWith settledHouse loneOf
@@ -185,41 +181,52 @@ module _ (b : Boot) (w : World) (st : Standing b w) where
 
     other-right : RightShadow (hostStep w) j
     unfolding hostStep stepWith settledHouse given
-    other-right px v =
+    other-right px =
         let i = w .house .current in
-        let p = other-partition on i on-shaped (standing-small (st .here)) made regs shadow next j (standing-small l) d in
-        let e = other-shadow on i on-shaped (standing-small (st .here)) made regs shadow next j (standing-small l) d in
         let fr = framesOf (w .house) j in
         let t = partition (w .house) j .table in
-        ap (λ (sh : List ℕ). getD sh px 0) e
-        ∙ st .right j l px (subst (λ (sh : List ℕ). valid (getD sh px 0) ≡ true) e v)
-        ∙ ap (hosted fr) (walked-same (hostWord fr (w .memory)) (hostWord fr (made .1 .words)) (pagesOf (w .house) j) t px (λ a b c. sym (other-word (t .pto * 1024 + px) (omega arith))))
-        ∙ ap (λ (p : Partition). given fr (p .pages) (p .table) (made .1 .words) px) (sym p)
+        ap (λ (p : Partition). stale fr (p .pages) (p .table) (made .1 .words) px (getD (shadowOf (hostStep w .house) j) px 0)) (other-partition on i on-shaped (standing-small (st .here)) made regs shadow next j (standing-small l) d)
+        ∙ ap (λ (sh : List ℕ). stale fr (pagesOf (w .house) j) t (made .1 .words) px (getD sh px 0)) (other-shadow on i on-shaped (standing-small (st .here)) made regs shadow next j (standing-small l) d)
+        ∙ stale-same fr (pagesOf (w .house) j) t (made .1 .words) (w .memory) px _
+        (ap (hosted fr) (walked-same (hostWord fr (made .1 .words)) (hostWord fr (w .memory)) (pagesOf (w .house) j) t px (λ a b c. other-word (t .pto * 1024 + px) (omega arith))))
+        ∙ st .right j l px
 
   own-right : RightShadow (hostStep w) (w .house .current)
   unfolding hostStep stepWith settledHouse
-  own-right px v =
+  own-right px =
       let i = w .house .current in
-      let e = settled-shadow on i on-shaped (standing-small (st .here)) made regs shadow next in
-      ap (λ (sh : List ℕ). getD sh px 0) e
-      ∙ both .rest .shadow px (subst (λ (sh : List ℕ). valid (getD sh px 0) ≡ true) e v)
-      ∙ ap (λ (p : Partition). given (framesOf (w .house) i) (p .pages) (p .table) (made .1 .words) px) (sym own-partition)
+      let fr = framesOf (w .house) i in
+      ap (λ (p : Partition). stale fr (p .pages) (p .table) (made .1 .words) px (getD (shadowOf (hostStep w .house) i) px 0)) own-partition
+      ∙ ap (λ (sh : List ℕ). stale fr (pagesOf (w .house) i) (made .1 .table) (made .1 .words) px (getD sh px 0)) (settled-shadow on i on-shaped (standing-small (st .here)) made regs shadow next)
+      ∙ both .rest .shadow px
 
   -- ---- the host step
 
-  pub standing-step : Standing b (hostStep w)
+  pub firm-step : Firm (hostStep w)
   unfolding hostStep stepWith settledHouse
-  standing-step = record {
-    shaped = settled-shaped on (w .house .current) on-shaped (standing-small (st .here)) made regs shadow next;
-    layout = layout-on (booted b .house) (w .house) _ (st .layout) (step-layout w);
-    here = turn-here (w .house .running) (w .house .count) (w .house .q) (w .house .current) (w .house .left) (made .0 .calls) (st .here);
-    turns = turn-most (w .house .running) (w .house .count) (w .house .q) (w .house .current) (w .house .left) (made .0 .calls) (st .turns);
-    size = both .rest .size ∙ st .size;
-    most = on-queued .most;
-    right = λ j l. by-eq j (w .house .current)
-        (λ e. subst (RightShadow (hostStep w)) (sym e) own-right)
-        (λ d. other-right j l d);
-  }
+  firm-step =
+      let y = step-layout w in
+      record {
+        shaped = settled-shaped on (w .house .current) on-shaped (standing-small (st .here)) made regs shadow next;
+        few = st .few;
+        placed = λ i l. rw (y .pages i, both .rest .size) (st .placed i l);
+        apart = λ i j k l hi hj hk hl. st .apart i j k l hi hj (omega (arith, y .pages i)) (omega (arith, y .pages j));
+        here = turn-here (w .house .running) (w .house .count) (w .house .q) (w .house .current) (w .house .left) (made .0 .calls) (st .here);
+        most = on-queued .most;
+        right = λ j l. by-eq j (w .house .current)
+            (λ e. subst (RightShadow (hostStep w)) (sym e) own-right)
+            (λ d. other-right j l d);
+      }
+
+  -- the memory stays as long
+  pub step-size : length (hostStep w .memory) ≡ length (w .memory)
+  unfolding hostStep stepWith
+  step-size = both .rest .size
+
+  -- and at most q steps are left
+  pub step-turns : w .house .left ≤ w .house .q → hostStep w .house .left ≤ hostStep w .house .q
+  unfolding hostStep stepWith settledHouse
+  step-turns = turn-most (w .house .running) (w .house .count) (w .house .q) (w .house .current) (w .house .left) (made .0 .calls)
 
   step-counter : (j : ℕ) → j < w .house .count → partition (hostStep w .house) j .counter ≡
       (if eqb j (w .house .current) then (partition (w .house) j .counter + 1) % 2 ^ 64 else partition (w .house) j .counter)
@@ -237,7 +244,7 @@ module _ (b : Boot) (w : World) (st : Standing b w) where
       let i = w .house .current in
       subst (λ (y : Reply). queueIn w j ++ sentTo (loneAsks w i) y j ≡ takenBy i (loneAsks w i) y j ++ queueIn (hostStep w) j) reply-same
       (subst (λ (r : Request). queueIn w j ++ sentTo r (replyNow w i) j ≡ takenBy i r (replyNow w i) j ++ queueIn (hostStep w) j) request-same
-      (unfold replyNow in desk-kept (w .house .count) i (queuesOf (w .house)) queued few (standing-small (st .here)) (requestNow w i) j (standing-small l)))
+      (unfold replyNow in desk-kept (w .house .count) i (queuesOf (w .house)) queued (st .few) (standing-small (st .here)) (requestNow w i) j (standing-small l)))
 
   queues-lined : (j : ℕ) → j < w .house .count → let i = w .house .current in
       queueIn (hostStep w) j ≡ lined i (loneAsks w i) (loneAnswer w i) (queueIn w j) j
@@ -257,3 +264,37 @@ module _ (b : Boot) (w : World) (st : Standing b w) where
     running = refl;
     queues = queues-lined;
   }
+
+-- ---- from a boot on
+
+-- as the booted house has its frames
+pub firm : (b : Boot) (w : World) → Standing b w → Firm w
+unfolding bootedHouse
+firm b w st =
+    let y = st .layout in
+    let u = booted-undamaged b in
+    record {
+      shaped = st .shaped;
+      few = omega (arith, y .count, u .few);
+      placed = λ i l.
+          rw (y .frames, y .pages i, st .size)
+          (sound-partition (booted b .house) (booted-whole b) (b .memory) (booted-shaped b) refl i (rw (y .count) at l) .placed);
+      apart = λ i j k l hi hj hk hl e.
+          u .once i j k l (omega (arith, y .count)) (omega (arith, y .count)) (omega (arith, y .pages i)) (omega (arith, y .pages j)) (rw (y .frames) at e) .0;
+      here = st .here;
+      most = st .most;
+      right = st .right;
+    }
+
+pub standing-step : (b : Boot) (w : World) → Standing b w → Standing b (hostStep w)
+standing-step b w st =
+    let f = firm-step w (firm b w st) in
+    record {
+      shaped = f .shaped;
+      layout = layout-on (booted b .house) (w .house) _ (st .layout) (step-layout w);
+      here = f .here;
+      turns = step-turns w (firm b w st) (st .turns);
+      size = step-size w (firm b w st) ∙ st .size;
+      most = f .most;
+      right = f .right;
+    }

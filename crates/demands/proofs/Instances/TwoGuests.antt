@@ -20,7 +20,7 @@ use Rattle.dlx.specs.Machine.{executed, fetched, loaded, stored, accessed, rece
 use Rattle.dlx.specs.declared.execute.Reply.{Reply}
 use Rattle.translate.specs.Entries.{entryOf, judged}
 use Rattle.translate.specs.Walk.{entries, walked, direct}
-use Rattle.translate.specs.Memory.{loneMemory, loneFound, loneRead, hosted, given, filled, looked, served, hostRead, emptied, hostWritten, hostReads, hostWrites}
+use Rattle.translate.specs.Memory.{loneMemory, loneFound, loneRead, hosted, given, filled, looked, served, hostRead, emptied, hostWritten, hostReads, hostWrites, stale}
 use Rattle.dlx.specs.Parts.{inner, outer}
 use Rattle.dlx.proofs.Parts.{part-at}
 use Rattle.dlx.proofs.Kept.{getD-set-elim}
@@ -30,7 +30,7 @@ use Rattle.house.specs.House.{freshShadows, noHouse, partition, pagesOf, runs, 
 use Rattle.tickets.specs.Queues.{sending, taking, desk, queueOf, oldest, ruled}
 use Rattle.house.specs.Damage.{damaged}
 use Rattle.house.specs.Boot.{Verdict, verdict, sum, firstOf, bootVerdict, laid, offset, bootedHouse}
-use Rattle.house.specs.Turns.{World, world, nextFrom, turnOf, requestNow, replyNow, queuesNext, guestStep, settledHouse, stepWith, hostStep, hostSteps}
+use Rattle.house.specs.Turns.{World, world, nextFrom, turnOf, requestNow, replyNow, queuesNext, guestStep, settledHouse, stepWith, hostStep, hostSteps, staleAt}
 use Rattle.house.specs.Calls.{bootCall, runVerdict, runCall, started, stopped, emptiedHouse, startCall, stopCall, emptyCall, readVerdict, readCall}
 use Rattle.house.specs.Sound.{Proper, Stays, Ready}
 use Rattle.demands.specs.Histories.{Boot, booted, Call, run, start, stop, empty, readOut, after, history, Grown, turnsIn, stepsOf, stepsMade, turnsMade, StaysRunning, loneOf, loneAtBoot, loneAsks, loneAnswer, eventOf, logIn, logOf, each, answersTo, feedOf}
@@ -352,12 +352,18 @@ isolated-words = (
 abbrev astray : List ℕ
 astray = set (full .house .shadows) 0 (entryOf 1 0)
 
-abbrev misled : House
+abbrev pub misled : House
 misled = changed (full .house) (full .house .running) (turn (full .house .current) (full .house .left)) astray
 
 pub misled-wrong : (byShadow (world misled (full .memory)) 0 false true 4 ≡ word 1025) × (byTable (world misled (full .memory)) 0 false true 4 ≡ word 4097)
 unfolding listed loneFound loneOf
 misled-wrong = unfold computing in (refl, refl)
+
+pub misled-stale : staleAt (world misled (full .memory)) 0 0 ≡ true
+misled-stale = unfold computing stale in refl
+
+pub misled-size : length (full .memory) ≡ misled .words
+misled-size = fit-full .size
 
 misled-right : ShadowsRight (full .house) astray
 misled-right =
@@ -381,7 +387,7 @@ misled-right =
     other-frame : Proper (framesOf (full .house) 0) (pagesOf (full .house) 0) (entryOf 1 0)
     other-frame = unfold computing in record { own = λ _. (1, omega arith, refl); bits = λ _. refl; empty = λ e. one-way true refl e }
 
-misled-stays : Stays full (world misled (full .memory))
+pub misled-stays : Stays full (world misled (full .memory))
 misled-stays =
     let u = undamaged-gives (full .house) (fit-full .whole) in
     changed-stays (full .house) (full .memory) u (fit-full .typed) (full .house .running) (turn (full .house .current) (full .house .left)) astray
