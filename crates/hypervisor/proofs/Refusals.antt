@@ -38,11 +38,11 @@ pub record Plain (v : Verdict) (k : ℕ) : Type 0 where
   pub done : v .number ≡ 0 → v ≡ verdict 0 k
   pub refused : (v .number ≡ 0 → ⊥) → v ≡ verdict (v .number) 0
 
-plain-done : (k : ℕ) → Plain (firstOf [] (verdict 0 k)) k
+pub plain-done : (k : ℕ) → Plain (firstOf [] (verdict 0 k)) k
 unfolding firstOf
 plain-done k = record { done = λ z. refl; refused = λ z. absurd (z refl) }
 
-plain-case : (b : Bool) (n k : ℕ) (cs : List Case) → 0 < n → Plain (firstOf cs (verdict 0 k)) k → Plain (firstOf (case b n 0 ∷ cs) (verdict 0 k)) k
+pub plain-case : (b : Bool) (n k : ℕ) (cs : List Case) → 0 < n → Plain (firstOf cs (verdict 0 k)) k → Plain (firstOf (case b n 0 ∷ cs) (verdict 0 k)) k
 unfolding firstOf
 plain-case true n k cs l p = record { done = λ z. absurd (omega (arith, z)); refused = λ z. refl }
 plain-case false n k cs l p = p

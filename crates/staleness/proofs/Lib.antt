@@ -1,0 +1,9 @@
+pub mod Checked
+pub mod Counting
+pub mod Instances
+pub mod Lent
+pub mod Mending
+pub mod Promises
+pub mod Searching
+pub mod SoFar
+pub mod Verdicts
