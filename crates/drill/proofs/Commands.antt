@@ -17,7 +17,7 @@ use Rattle.drill_script.specs.Words.{wordAt}
 use Rattle.drill_script.specs.Commands.{sizeOf, commandOf}
 use Rattle.drill.specs.declared.reading.Reading.{Reading}
 use Rattle.drill.specs.Fit.{Stands, Plays, Boots}
-use Rattle.drill.specs.Player.{Player, player, lentOf, moreOf, playedOf}
+use Rattle.drill.specs.Player.{Player, player, changesNothing, lentOf, moreOf, playedOf}
 
 pub command-sized : (bs : List ℕ) → commandOf bs .size ≡ sizeOf (commandOf bs .op) (commandOf bs .a) (commandOf bs .c)
 unfolding commandOf sizeOf
@@ -50,7 +50,7 @@ pub sized-sixteen : (op a c : ℕ) → 0 < sizeOf op a c → 16 ≤ sizeOf op a 
 unfolding sizeOf
 sized-sixteen op a c =
     either P (eqb op 0) (λ _ l. absurd (omega arith)) λ _.
-    either P (ltb 11 op) (λ _ l. absurd (omega arith)) λ _.
+    either P (ltb 13 op) (λ _ l. absurd (omega arith)) λ _.
     either P (eqb op 6) (λ _. either P (ltb 4096 c) (λ _ l. absurd (omega arith)) (λ _ l. omega arith)) λ _.
     either P (eqb op 1)
     (λ _. either P (ltb 16 a) (λ _ l. absurd (omega arith)) λ _.
@@ -110,7 +110,7 @@ unfolding playedOf
 played-lent c more p =
     either P (eqb (c .op) 9) (λ _. omega arith) λ _.
     either P (eqb (c .op) 11) (λ _. omega arith) λ _.
-    either P (eqb (c .op) 6) (λ _. omega arith) (λ _. omega arith)
+    either P (changesNothing c) (λ _. omega arith) (λ _. omega arith)
   where
     P : Player → Type 0
     P x = x .lent ≤ p .lent

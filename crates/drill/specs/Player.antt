@@ -1,4 +1,5 @@
 -- What the player keeps, and what each command does to it and tells of it.
+use mathlib.Core.Bool.{Bool, _||_}
 use mathlib.Core.List.{List, [], _++_}
 use Prim.Native.Nat.{ℕ, _+_, _*_, _-_, min}
 use lib.Dec.{eqb}
@@ -12,7 +13,8 @@ use Rattle.house.specs.Calls.{Answered, Read, bootCall, runCall, startCall, sto
 use Rattle.drill_script.specs.declared.commands.Command.{Command}
 use Rattle.drill_script.specs.Words.{wordAt, markedOf, filledOf}
 use Rattle.drill_script.specs.Poke.{poked}
-use Rattle.drill_text.specs.Lines.{outputOf}
+use Rattle.drill_text.specs.Lines.{outputOf, staleOf}
+use Rattle.staleness.specs.Audit.{auditCall, mendCall}
 use Rattle.drill.specs.declared.reading.Reading.{Reading}
 use Rattle.drill.specs.Told.{toldOf, shownOf}
 
@@ -56,6 +58,7 @@ calledOf c more h m =
     else if eqb (c .op) 2 then runCall (world h m) (c .a)
     else if eqb (c .op) 3 then startCall (world h m) (c .a)
     else if eqb (c .op) 4 then stopCall (world h m) (c .a)
+    else if eqb (c .op) 13 then mendCall (world h m)
     else emptyCall (world h m) (c .a)
 
 -- into an output of so many words
@@ -74,12 +77,24 @@ readTextOf c more h m words =
     toldOf (c .op) (r .verdict .number) (r .verdict .detail) (r .house) m
     ++ outputOf (r .output) (shownOf (r .verdict .number) (r .verdict .detail))
 
--- any call
+-- with the first stale entry, where the audit is done
+unfoldable pub auditTextOf : Command → House → List ℕ → List ℕ
+auditTextOf c h m =
+    let f = auditCall (world h m) in
+    toldOf (c .op) (f .number) 0 h m ++ (if eqb (f .number) 0 then staleOf (f .stale) (f .partition) (f .page) else [])
+
+-- any call; a read-out and an audit change nothing
+abbrev pub changesNothing : Command → Bool
+changesNothing c = eqb (c .op) 6 || eqb (c .op) 12
+
 unfoldable pub madeOf : Command → List ℕ → House → List ℕ → World
-madeOf c more h m = if eqb (c .op) 6 then world h m else calledOf c more h m .world
+madeOf c more h m = if changesNothing c then world h m else calledOf c more h m .world
 
 unfoldable pub madeTextOf : Command → List ℕ → House → List ℕ → List ℕ
-madeTextOf c more h m = if eqb (c .op) 6 then readTextOf c more h m (c .c) else callTextOf c more h m
+madeTextOf c more h m =
+    if eqb (c .op) 6 then readTextOf c more h m (c .c)
+    else if eqb (c .op) 12 then auditTextOf c h m
+    else callTextOf c more h m
 
 -- ---- commands of the house
 
@@ -88,7 +103,7 @@ playedOf c more p =
     let w = calledOf c more (p .house) (take (p .lent) (p .memory)) .world in
     if eqb (c .op) 9 then player (poked (p .house) (c .a) (c .b)) (p .memory) (p .lent)
     else if eqb (c .op) 11 then player noHouse (filledOf (p .memory) 0 4294967295 0) 0
-    else if eqb (c .op) 6 then p
+    else if changesNothing c then p
     else player (w .house) (w .memory ++ drop (p .lent) (p .memory)) (p .lent)
 
 unfoldable pub textOf : Command → List ℕ → Player → List ℕ
@@ -96,5 +111,4 @@ textOf c more p =
     let lent = take (p .lent) (p .memory) in
     if eqb (c .op) 9 then []
     else if eqb (c .op) 11 then []
-    else if eqb (c .op) 6 then readTextOf c more (p .house) lent (c .c)
-    else callTextOf c more (p .house) lent
+    else madeTextOf c more (p .house) lent

@@ -8,7 +8,7 @@ ghost use Rattle.house.specs.Calls.{answered, read as readOf};
 ghost use Rattle.decimal.specs.Texts.{Puts};
 ghost use Rattle.drill.specs.Fit.{Plays, Boots};
 ghost use Rattle.drill.specs.Told.{mostTold, mostRead};
-ghost use Rattle.drill.specs.Player.{bootOf, calledOf, readOutOf, callTextOf, readTextOf, madeOf, madeTextOf, moreOf, playedOf, textOf};
+ghost use Rattle.drill.specs.Player.{bootOf, calledOf, readOutOf, callTextOf, readTextOf, auditTextOf, madeOf, madeTextOf, moreOf, playedOf, textOf};
 use crate::reading::Reading;
 use crate::told;
 use boot::boot;
@@ -47,7 +47,7 @@ fn booted(c: Command, more: &[u8], memory: &[u32], pages: &mut [u32], frames: &m
     boot(&pages[..n], c.b, &frames[..l], memory)
 }
 
-// A call but a read-out.
+// A call but a read-out and an audit.
 fn called(
     h: House,
     c: Command,
@@ -65,6 +65,7 @@ fn called(
         2 => calls::run(h, memory, c.a),
         3 => calls::start(h, c.a),
         4 => calls::stop(h, c.a),
+        13 => staleness::mend(h, memory),
         _ => calls::empty(h, c.a),
     }
 }
@@ -79,7 +80,7 @@ fn read_out(h: House, c: Command, more: &[u8], memory: &[u32], output: &mut [u32
     calls::read_out(h, memory, c.a, c.b, count, output)
 }
 
-// A call but a read-out, and its text.
+// A call but a read-out and an audit, and its text.
 fn call(
     h: House,
     c: Command,
@@ -120,6 +121,30 @@ fn read(
     Done { house, used: end }
 }
 
+// An audit, and its text with the first stale entry's.
+fn audit(h: House, c: Command, memory: &[u32], text: &mut [u8; ROOM], used: usize) -> Done
+    ensures { λ r. ⌜ (r .house ≡ h) × Puts (now (text .entry)) used (now (text .exit)) (r .used) (auditTextOf c h (now (memory .entry))) mostRead ⌝ }
+{
+    let f = staleness::audit(h, memory);
+    let a = Answer {
+        number: f.number,
+        detail: 0,
+        house: h,
+    };
+    let called = told::call(text, used, c.op, a, memory);
+    if f.number != 0 {
+        return Done {
+            house: h,
+            used: called,
+        };
+    }
+    let end = lines::stale(text, called, f.stale, f.partition, f.page);
+    Done {
+        house: h,
+        used: end,
+    }
+}
+
 // A call, and its text.
 fn made(
     h: House,
@@ -137,6 +162,9 @@ fn made(
     if c.op == 6 {
         let n = wide(c.c);
         return read(h, c, more, memory, &mut many[..n], text, used);
+    }
+    if c.op == 12 {
+        return audit(h, c, memory, text, used);
     }
     call(h, c, more, memory, few, many, text, used)
 }

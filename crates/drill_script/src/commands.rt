@@ -20,7 +20,7 @@ fn size(op: u32, a: u32, c: u32) -> usize
     if op == 0 {
         return 0;
     }
-    if op > 11 {
+    if op > 13 {
         return 0;
     }
     if op == 6 {

@@ -1,4 +1,4 @@
--- The lines that tell of the answer, the house's own numbers, the memory and a read-out's output.
+-- The lines that tell of the answer, the house's own numbers, the memory, a read-out's output and what an audit found.
 use mathlib.Core.Bool.{Bool, false}
 use mathlib.Core.List.{List, [], _∷_, _++_}
 use Prim.Native.Nat.{ℕ}
@@ -33,6 +33,8 @@ nameOf op =
     else if eqb op 3 then ascii "start"
     else if eqb op 4 then ascii "stop"
     else if eqb op 5 then ascii "empty"
+    else if eqb op 12 then ascii "audit"
+    else if eqb op 13 then ascii "mend"
     else ascii "read"
 
 unfoldable pub callOf : ℕ → ℕ → ℕ → List ℕ
@@ -44,3 +46,7 @@ memoryOf words = ascii "memory" ++ (numberOf (length words) ++ (numberOf (digest
 -- the whole output's digest, and so many of its words
 unfoldable pub outputOf : List ℕ → ℕ → List ℕ
 outputOf words shown = ascii "output" ++ (numberOf (digestOf words) ++ rowOf [] (take shown words))
+
+-- the first stale entry, by partition and page, where there is one
+unfoldable pub staleOf : Bool → ℕ → ℕ → List ℕ
+staleOf found i px = if found then ascii "stale" ++ (numberOf i ++ (numberOf px ++ ascii "\n")) else ascii "stale none\n"

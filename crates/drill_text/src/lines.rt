@@ -1,11 +1,11 @@
-// The lines that tell of the answer, the house's own numbers, the memory and a read-out's output.
+// The lines that tell of the answer, the house's own numbers, the memory, a read-out's output and what an audit found.
 ghost use mathlib.Core.List.{[], _++_};
 ghost use mathlib.Core.Path.{_≡_};
 ghost use Prim.Native.Nat.{_+_, _*_, _-_, _≤_};
 ghost use lib.ListN.{length, take, drop};
 ghost use Rattle.decimal.specs.Texts.{ascii, Puts};
 ghost use Rattle.drill_text.specs.Numbers.{numberOf, numbersOf};
-ghost use Rattle.drill_text.specs.Lines.{rowOf, flagsOf, houseOf, nameOf, callOf, memoryOf, outputOf};
+ghost use Rattle.drill_text.specs.Lines.{rowOf, flagsOf, houseOf, nameOf, callOf, memoryOf, outputOf, staleOf};
 use crate::ROOM;
 use crate::digest::digest;
 use crate::numbers::number;
@@ -77,7 +77,7 @@ struct Span {
 
 // Where the name of a call stands among the names, by its command's number.
 fn among(op: u32) -> Span
-    ensures { λ s. ⌜ (s .from ≤ s .to) × (s .to ≤ s .from + 5) × (s .to ≤ 25) × (take (s .to - s .from) (drop (s .from) (ascii "bootrunstartstopemptyread")) ≡ nameOf op) ⌝ }
+    ensures { λ s. ⌜ (s .from ≤ s .to) × (s .to ≤ s .from + 5) × (s .to ≤ 34) × (take (s .to - s .from) (drop (s .from) (ascii "bootrunstartstopemptyauditmendread")) ≡ nameOf op) ⌝ }
 {
     match op {
         1 => Span { from: 0, to: 4 },
@@ -85,14 +85,16 @@ fn among(op: u32) -> Span
         3 => Span { from: 7, to: 12 },
         4 => Span { from: 12, to: 16 },
         5 => Span { from: 16, to: 21 },
-        _ => Span { from: 21, to: 25 },
+        12 => Span { from: 21, to: 26 },
+        13 => Span { from: 26, to: 30 },
+        _ => Span { from: 30, to: 34 },
     }
 }
 
 fn name(text: &mut [u8; ROOM], used: usize, op: u32) -> usize
     ensures { λ r. ⌜ Puts (now (text .entry)) used (now (text .exit)) r (nameOf op) 5 ⌝ }
 {
-    let names = *b"bootrunstartstopemptyread";
+    let names = *b"bootrunstartstopemptyauditmendread";
     let s = among(op);
     let from = s.from;
     let to = s.to;
@@ -125,4 +127,15 @@ pub fn output(text: &mut [u8; ROOM], used: usize, words: &[u32], shown: usize) -
     let named = put_text(text, used, b"output");
     let digested = number(text, named, d);
     rest(text, digested, &words[..shown])
+}
+
+// The first stale entry, by partition and page, where one was found.
+pub fn stale(text: &mut [u8; ROOM], used: usize, found: bool, partition: u32, page: u32) -> usize
+    ensures { λ r. ⌜ Puts (now (text .entry)) used (now (text .exit)) r (staleOf found partition page) 48 ⌝ }
+{
+    if found {
+        let named = put_text(text, used, b"stale");
+        return pair(text, named, partition as u64, page as u64);
+    }
+    put_text(text, used, b"stale none\n")
 }

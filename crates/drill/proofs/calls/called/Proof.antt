@@ -21,6 +21,9 @@ start-requires c κs = tt
 stop-requires : tie.Need-stop-requires
 stop-requires c κs = tt
 
+mend-requires : tie.Need-mend-requires
+mend-requires c κs = tt
+
 empty-requires : tie.Need-empty-requires
 empty-requires c κs = tt
 
@@ -49,11 +52,18 @@ returns-4 : tie.Need-returns-4
 unfolding calledOf
 returns-4 c = simp (c .before .match .keys4) (c .stop .ensures _)
 
+same-length-4 : tie.Need-same-length-4
+same-length-4 c = search needs
+
 returns-5 : tie.Need-returns-5
 unfolding calledOf
-returns-5 c =
+returns-5 c = simp (c .before .before .match .keys5) (c .mend .ensures)
+
+returns-6 : tie.Need-returns-6
+unfolding calledOf
+returns-6 c =
     let r = c .before .match .rest in
-    simp (ne-eqb _ _ (r .1), ne-eqb _ _ (r .0 .1), ne-eqb _ _ (r .0 .0 .1), ne-eqb _ _ (r .0 .0 .0 .1)) (c .empty .ensures _)
+    simp (ne-eqb _ _ (r .1), ne-eqb _ _ (r .0 .1), ne-eqb _ _ (r .0 .0 .1), ne-eqb _ _ (r .0 .0 .0 .1), ne-eqb _ _ (r .0 .0 .0 .0 .1)) (c .empty .ensures _)
 
 pub called-spec : {M : Type 1} → statement M
-called-spec = tie.close (tie.spec booted-requires run-requires start-requires stop-requires empty-requires same-length same-length-2 returns same-length-3 returns-2 returns-3 returns-4 returns-5)
+called-spec = tie.close (tie.spec booted-requires run-requires start-requires stop-requires mend-requires empty-requires same-length same-length-2 returns same-length-3 returns-2 returns-3 returns-4 same-length-4 returns-5 returns-6)

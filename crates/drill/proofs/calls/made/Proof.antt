@@ -40,20 +40,34 @@ returns c =
     let n : length (take (c .before .before .before .before .before .before .wide .result) (c .before .before .before .before .before .before .before .before .before .before .before .before .args .many .now)) ≡ c .before .before .before .before .before .before .before .before .before .before .before .before .args .c .c = length-take-le _ _ (omega (arith, c .before .before .before .before .before .before .wide .ensures, q .0, c .before .before .before .before .before .before .before .before .before .before .before .before .pre .1 .1)) ∙ c .before .before .before .before .before .before .wide .ensures in
     (rw (d, c .before .before .read .ensures .0), rw d (as-many _ _ _ _ n (c .before .before .read .ensures .1)))
 
-call-requires : tie.Need-call-requires
-call-requires c κs = c .before .before .before .before .before .before .before .before .before .pre .1
+audit-requires : tie.Need-audit-requires
+audit-requires c κs = tt
 
 same-length-3 : tie.Need-same-length-3
 same-length-3 c = search needs
 
-same-length-4 : tie.Need-same-length-4
-same-length-4 c = search needs
-
 returns-2 : tie.Need-returns-2
 unfolding madeOf madeTextOf
 returns-2 c =
-    let d = ne-eqb _ _ (c .before .before .before .before .before .before .before .before .before .if1 .left) in
-    (rw d (c .before .before .before .before .call .ensures .0), rw d (roomy mostRead (c .before .before .before .before .call .ensures .1) (omega arith)))
+    let d = ne-eqb _ _ (c .before .before .before .before .before .if1 .left) in
+    let e = eq-eqb _ _ (c .before .before .before .if2 .taken) in
+    (rw (d, e, c .audit .ensures .0), rw (d, e) (c .audit .ensures .1))
+
+call-requires : tie.Need-call-requires
+call-requires c κs = c .before .before .before .before .before .before .before .before .before .before .before .pre .1
+
+same-length-4 : tie.Need-same-length-4
+same-length-4 c = search needs
+
+same-length-5 : tie.Need-same-length-5
+same-length-5 c = search needs
+
+returns-3 : tie.Need-returns-3
+unfolding madeOf madeTextOf
+returns-3 c =
+    let d = ne-eqb _ _ (c .before .before .before .before .before .before .before .before .before .before .before .if1 .left) in
+    let e = ne-eqb _ _ (c .before .before .before .before .before .before .before .before .before .if2 .left) in
+    (rw (d, e) (c .before .before .before .before .call .ensures .0), rw (d, e) (roomy mostRead (c .before .before .before .before .call .ensures .1) (omega arith)))
 
 pub made-spec : {M : Type 1} → statement M
-made-spec = tie.close (tie.spec wide-requires slice-relend-prefix-read slice-aggregate-read read-requires same-length same-length-2 returns call-requires same-length-3 same-length-4 returns-2)
+made-spec = tie.close (tie.spec wide-requires slice-relend-prefix-read slice-aggregate-read read-requires same-length same-length-2 returns audit-requires same-length-3 returns-2 call-requires same-length-4 same-length-5 returns-3)

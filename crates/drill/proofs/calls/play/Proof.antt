@@ -1,12 +1,11 @@
 use mathlib.Core.Path.{_≡_, refl, sym}
 use native.Mathlib.Omega.{arith}
 use borrow.Author.Tests.{eq-eqb, ne-eqb}
-use lib.Dec.{eqb}
 use lib.ListN.{length}
 use lib.Seq.{length-take-le}
 use Rattle.decimal.proofs.Texts.{nothing, roomy}
 use Rattle.drill.specs.Told.{mostRead}
-use Rattle.drill.specs.Player.{madeOf, madeTextOf, playedOf, textOf}
+use Rattle.drill.specs.Player.{changesNothing, madeOf, madeTextOf, playedOf, textOf}
 use Rattle.drill.proofs.Commands.{plays-sixteen, plays-inside, plays-read, plays-boot, more-length, made-played}
 use borrow.Author.Needs.{needs}
 use Rattle.drill.proofs.calls.play.Statement.{statement}
@@ -71,7 +70,7 @@ unfolding playedOf textOf madeOf madeTextOf
 returns-3 c =
     let a = ne-eqb _ _ (c .before .before .before .before .before .before .before .before .before .before .before .before .before .before .if1 .left) in
     let b = ne-eqb _ _ (c .before .before .before .before .before .before .before .before .before .before .before .before .if2 .left) in
-    (rw (a, b) (made-played (eqb (c .before .before .before .before .before .before .before .before .before .before .before .before .before .before .before .before .before .before .before .args .r .command .op) 6) _ _ (c .before .before .before .before .before .before .before .before .before .before .before .before .before .before .before .before .before .before .before .args .memory .now) _ (c .before .before .before .before .before .before .before .before .before .before .before .before .before .before .before .before .before .before .before .args .r .lent) _ (c .before .before .before .made .ensures .0)), rw (a, b) (c .before .before .before .made .ensures .1))
+    (rw (a, b) (made-played (changesNothing (c .before .before .before .before .before .before .before .before .before .before .before .before .before .before .before .before .before .before .before .args .r .command)) _ _ (c .before .before .before .before .before .before .before .before .before .before .before .before .before .before .before .before .before .before .before .args .memory .now) _ (c .before .before .before .before .before .before .before .before .before .before .before .before .before .before .before .before .before .before .before .args .r .lent) _ (c .before .before .before .made .ensures .0)), rw (a, b) (c .before .before .before .made .ensures .1))
 
 pub play-spec : {M : Type 1} → statement M
 play-spec = tie.close (tie.spec poke-requires returns fill-requires none-requires same-length returns-2 add-from add-end sub-made part-made-start part-made-end slice-relend-prefix-made slice-aggregate-made made-requires same-length-2 returns-3)
