@@ -24,8 +24,10 @@ const NOT_TWICE: &str = "a second time it agrees: the program does not answer th
 pub struct Options {
     /// Plays a script on standard input.
     pub drill: Option<Program>,
-    /// Reads a house file on standard input.
+    /// Reads a house file on standard input and prints the report.
     pub night: Option<Program>,
+    /// Reads a house file on standard input and prints the stale entries.
+    pub audit: Option<Program>,
     /// Start of the random numbers.
     pub seed: u64,
     /// Guest steps of the random scripts, at least.
@@ -53,10 +55,30 @@ pub fn compare(options: &Options) -> Result<Outcome, String> {
     if let Some(drill) = &options.drill {
         compare_drill(drill, options, &mut outcome)?;
     }
-    if let Some(night) = &options.night {
-        compare_night(night, options, &mut outcome)?;
+    if options.night.is_none() && options.audit.is_none() {
+        return Ok(outcome);
+    }
+    let mut files = named::files();
+    let named = files.len();
+    files.extend(generate::files(options.seed, options.files));
+    let random = files.len() - named;
+    add(&mut outcome.report, &format!("named files: {named}, random files: {random}"));
+    if let Some(program) = &options.night {
+        let night = Reader { name: "night", program, ours: housefile::night };
+        compare_reader(&night, &files, options.jobs, &mut outcome)?;
+    }
+    if let Some(program) = &options.audit {
+        let audit = Reader { name: "audit", program, ours: housefile::audit };
+        compare_reader(&audit, &files, options.jobs, &mut outcome)?;
     }
     Ok(outcome)
+}
+
+/// A program that reads house files, and what this emulator says of them.
+struct Reader<'a> {
+    name: &'static str,
+    program: &'a Program,
+    ours: fn(&[u8], &mut Counts) -> String,
 }
 
 fn compare_drill(drill: &Program, options: &Options, outcome: &mut Outcome) -> Result<(), String> {
@@ -81,19 +103,20 @@ fn compare_drill(drill: &Program, options: &Options, outcome: &mut Outcome) -> R
     Ok(())
 }
 
-fn compare_night(night: &Program, options: &Options, outcome: &mut Outcome) -> Result<(), String> {
-    let mut files = named::files();
-    let named = files.len();
-    files.extend(generate::files(options.seed, options.files));
-    let (counts, differences) = compare_files(night, &files, options.jobs)?;
+fn compare_reader(
+    reader: &Reader<'_>,
+    files: &[File],
+    jobs: usize,
+    outcome: &mut Outcome,
+) -> Result<(), String> {
+    let (counts, differences) = compare_files(reader, files, jobs)?;
     outcome.compared += counts.all_answers();
     outcome.differ += differences.len() as u64;
-    let report = &mut outcome.report;
+    let (report, name) = (&mut outcome.report, reader.name);
     if let Some(first) = differences.first() {
-        report.push_str(&explain_file(night, &files[first.0], first));
+        report.push_str(&explain_file(reader, &files[first.0], first));
     }
-    add(report, &format!("named files: {named}, random files: {}", files.len() - named));
-    add(report, &format!("files by number: {}", counts.answers_text()));
+    add(report, &format!("files of {name} by number: {}", counts.answers_text()));
     add(report, &format!("files' steps {}", counts.all_steps()));
     add(report, &format!("files {}", counts.all_answers()));
     Ok(())
@@ -377,14 +400,14 @@ fn hex(bytes: &[u8]) -> String {
 struct FileDifference(usize, String, String);
 
 fn compare_files(
-    night: &Program,
+    reader: &Reader<'_>,
     files: &[File],
     jobs: usize,
 ) -> Result<(Counts, Vec<FileDifference>), String> {
     let results = in_parallel(files.len(), jobs, |at| {
         let mut counts = Counts::default();
-        let ours = housefile::night(&files[at].bytes, &mut counts);
-        told(night, &files[at].bytes).map(|theirs| (counts, ours, theirs))
+        let ours = (reader.ours)(&files[at].bytes, &mut counts);
+        told(reader.program, &files[at].bytes).map(|theirs| (counts, ours, theirs))
     });
     let mut total = Counts::default();
     let mut differences = Vec::new();
@@ -400,12 +423,12 @@ fn compare_files(
 
 /// What the program says of a file. One that takes more than a piece is also given slowly, and what
 /// is then said counts too where it is something else.
-fn told(night: &Program, bytes: &[u8]) -> Result<String, String> {
-    let text = file_text(night.run(bytes)?);
+fn told(program: &Program, bytes: &[u8]) -> Result<String, String> {
+    let text = file_text(program.run(bytes)?);
     if bytes.len() <= PIECE {
         return Ok(text);
     }
-    let slowly = file_text(night.run_slowly(bytes)?);
+    let slowly = file_text(program.run_slowly(bytes)?);
     Ok(if slowly == text { text } else { format!("{text}slowly: {slowly}") })
 }
 
@@ -417,19 +440,19 @@ fn file_text(reply: Reply) -> String {
     }
 }
 
-fn file_differs(night: &Program, bytes: &[u8]) -> bool {
-    let ours = housefile::night(bytes, &mut Counts::default());
-    told(night, bytes).is_ok_and(|theirs| theirs != ours)
+fn file_differs(reader: &Reader<'_>, bytes: &[u8]) -> bool {
+    let ours = (reader.ours)(bytes, &mut Counts::default());
+    told(reader.program, bytes).is_ok_and(|theirs| theirs != ours)
 }
 
-fn explain_file(night: &Program, file: &File, first: &FileDifference) -> String {
-    let mut text = format!("file \"{}\" differs:\n", file.name);
+fn explain_file(reader: &Reader<'_>, file: &File, first: &FileDifference) -> String {
+    let mut text = format!("file \"{}\" differs in {}:\n", file.name, reader.name);
     text.push_str(&first_lines(&first.1, &first.2));
-    if !file_differs(night, &file.bytes) {
+    if !file_differs(reader, &file.bytes) {
         return text + NOT_TWICE;
     }
     let small = shrink(Stretch::split(&file.bytes), &mut |attempts| {
-        attempts.iter().position(|attempt| file_differs(night, &Stretch::join(attempt)))
+        attempts.iter().position(|attempt| file_differs(reader, &Stretch::join(attempt)))
     });
     add(&mut text, &format!("smallest file, {} records:", small.len()));
     for stretch in &small {

@@ -3,8 +3,13 @@
 use std::fmt;
 use std::ops::AddAssign;
 
+use crate::audit::{Stale, Why};
+use crate::dlx::special::{PTL, PTO};
 use crate::dlx::Cause;
-use crate::memory::Width;
+use crate::fields::{self, FRAMES, QUEUES, SHADOWS};
+use crate::house::House;
+use crate::memory::{Width, ENTRIES};
+use crate::script::Command;
 use crate::timer::Kind;
 
 /// Shadow entries: how many in all, and how many above entry 255.
@@ -90,6 +95,159 @@ impl AddAssign<&Timers> for Timers {
     }
 }
 
+/// What was edited by hand, and could have made a shadow entry stale.
+#[derive(Clone, Copy, Debug, Default, PartialEq, Eq)]
+pub struct Edited {
+    /// Words of the memory, while some shadow entry was valid.
+    pub memory: bool,
+    /// PTO, PTL, page counts or frame lists, while some shadow entry was valid; or a shadow entry was
+    /// put there that was not right.
+    pub house: bool,
+}
+
+impl Edited {
+    /// Notes a command before it is played.
+    pub fn note(&mut self, command: &Command, house: &House, memory: &[u32]) {
+        match *command {
+            Command::Poke { .. } | Command::Fill { .. } if !self.memory => {
+                self.memory = some_valid(house);
+            }
+            Command::Field { index, value } if !self.house => {
+                self.house = match index {
+                    SHADOWS..QUEUES => value != 0 && !right(house, memory, index - SHADOWS, value),
+                    _ => part_of_translation(index) && some_valid(house),
+                }
+            }
+            _ => {}
+        }
+    }
+}
+
+/// Whether an entry, by its place among all, would be right with this value.
+fn right(house: &House, memory: &[u32], place: u32, value: u32) -> bool {
+    let (partition, px) = (place / ENTRIES as u32, place % ENTRIES as u32);
+    let guest = &house.guests[partition as usize];
+    memory.len() == house.words as usize
+        && !house.damaged()
+        && guest.space.filling(memory, guest.table(), px) == Ok(value)
+}
+
+/// A field of the house, other than a shadow entry, on which translation depends.
+fn part_of_translation(index: u32) -> bool {
+    let scalars = |part| {
+        let pages = fields::scalar(part, fields::PAGES);
+        [pages, fields::special(part, PTO), fields::special(part, PTL)]
+    };
+    (FRAMES..SHADOWS).contains(&index) || (0..8).any(|part| scalars(part).contains(&index))
+}
+
+/// The shadow entries of all partitions that a house has.
+fn entries(house: &House) -> impl Iterator<Item = u32> + '_ {
+    let used = &house.guests[..house.guests.len().min(house.count as usize)];
+    used.iter().flat_map(|guest| guest.space.shadow)
+}
+
+/// Whether some shadow entry of a house is not empty.
+fn some_valid(house: &House) -> bool {
+    entries(house).any(|entry| entry != 0)
+}
+
+/// How many shadow entries of a house are not empty.
+fn valid_entries(house: &House) -> usize {
+    entries(house).filter(|&entry| entry != 0).count()
+}
+
+/// Audits and mends that were done.
+#[derive(Clone, Debug, Default, PartialEq, Eq)]
+pub struct Audits {
+    /// What was edited before the next call.
+    pub edited: Edited,
+    /// Audits of houses with valid entries, none of them stale: after no edit, and after some.
+    pub right: [u64; 2],
+    /// Audits that found an entry: after no edit, of the memory alone, of the house alone, of both.
+    pub found: [u64; 4],
+    /// Those of them that found the first in another partition than the first.
+    pub later: u64,
+    /// Those of them whose house had right entries, too.
+    pub mixed: u64,
+    /// Stale entries in them, by the reason.
+    pub stale: [u64; Why::COUNT],
+    /// Stale entries in them of partitions that were stopped.
+    pub stopped: u64,
+    /// Stale entries in them of partitions in system mode.
+    pub system: u64,
+    /// Stale entries in them above entry 255.
+    pub above: u64,
+    /// Mends that emptied nothing, and mends that did and left others.
+    pub mends: [u64; 2],
+    /// Entries that they emptied.
+    pub emptied: u64,
+}
+
+impl Audits {
+    /// An audit of an undamaged house.
+    pub fn audited(&mut self, house: &House, stale: &[Stale]) {
+        let valid = valid_entries(house);
+        let Edited { memory, house: by_house } = self.edited;
+        let Some(first) = stale.first() else {
+            self.right[usize::from(memory || by_house)] += u64::from(valid > 0);
+            return;
+        };
+        self.found[usize::from(memory) + 2 * usize::from(by_house)] += 1;
+        self.later += u64::from(first.partition > 0);
+        self.mixed += u64::from(valid > stale.len());
+        for entry in stale {
+            self.stale[entry.why as usize] += 1;
+            self.stopped += u64::from(!house.running[entry.partition]);
+            self.system += u64::from(!house.guests[entry.partition].user());
+            self.above += u64::from(entry.px > 255);
+        }
+    }
+
+    /// A mend of an undamaged house, which is given as the mend left it.
+    pub fn mended(&mut self, house: &House, emptied: usize) {
+        self.mends[0] += u64::from(emptied == 0);
+        self.mends[1] += u64::from(emptied > 0 && valid_entries(house) > 0);
+        self.emptied += emptied as u64;
+    }
+
+    /// What must be met often, by name.
+    pub fn kinds(&self) -> Vec<(&'static str, u64)> {
+        let [_, memory, house, both] = self.found;
+        let reasons = Why::NAMES.into_iter().zip(self.stale);
+        let others = [
+            ("of a stopped partition", self.stopped),
+            ("of system mode", self.system),
+            ("above 255", self.above),
+            ("audits after edits of the memory", memory),
+            ("audits after edits of the house", house),
+            ("audits after edits of both", both),
+            ("audits with the first in a later partition", self.later),
+            ("audits with right entries, too", self.mixed),
+            ("right audits without edits", self.right[0]),
+            ("right audits after edits", self.right[1]),
+            ("mends of nothing", self.mends[0]),
+            ("mends that left right entries", self.mends[1]),
+        ];
+        reasons.chain(others).collect()
+    }
+}
+
+impl AddAssign<&Audits> for Audits {
+    fn add_assign(&mut self, other: &Audits) {
+        add_all(&mut self.right, &other.right);
+        add_all(&mut self.found, &other.found);
+        add_all(&mut self.stale, &other.stale);
+        add_all(&mut self.mends, &other.mends);
+        self.later += other.later;
+        self.mixed += other.mixed;
+        self.stopped += other.stopped;
+        self.system += other.system;
+        self.above += other.above;
+        self.emptied += other.emptied;
+    }
+}
+
 /// Counts of steps, interrupts, loads and stores, shadow changes, tickets and answers.
 #[derive(Clone, Debug, Default, PartialEq, Eq)]
 pub struct Counts {
@@ -137,6 +295,8 @@ pub struct Counts {
     pub user_tickets: u64,
     /// Timers that reached zero.
     pub timers: Timers,
+    /// Shadow audits.
+    pub audits: Audits,
     /// Answers, by house number.
     pub answers: [u64; 17],
 }
@@ -294,7 +454,12 @@ impl fmt::Display for Counts {
         let [taken, .., none] = self.takes;
         writeln!(f, "takes by answer: done:{taken} none waiting:{none}")?;
         writeln!(f, "ticket traps in user mode: {}", self.user_tickets)?;
-        timers_text(f, &self.timers)
+        timers_text(f, &self.timers)?;
+        let kinds: Vec<String> =
+            self.audits.kinds().iter().map(|(name, count)| format!("{name}:{count}")).collect();
+        writeln!(f, "stale entries and audits: {}", kinds.join("; "))?;
+        let (found, emptied) = (self.audits.found[0], self.audits.emptied);
+        writeln!(f, "stale without edits:{found} entries emptied by mends:{emptied}")
     }
 }
 
@@ -323,6 +488,7 @@ impl AddAssign<&Counts> for Counts {
         self.sends_to_stopped += other.sends_to_stopped;
         self.user_tickets += other.user_tickets;
         self.timers += &other.timers;
+        self.audits += &other.audits;
     }
 }
 

@@ -1,5 +1,6 @@
 //! Random scripts and house files. The same seed gives the same ones.
 
+mod audits;
 mod calls;
 mod files;
 mod programs;
@@ -48,12 +49,14 @@ pub const FAULTS_EACH: u64 = 200;
 pub const TIMERS_EACH: u64 = 200;
 /// How often cause 13, masked and unmasked, must come beside each lower cause in a million steps.
 pub const BESIDE_EACH: u64 = 50;
+/// How often stale entries and audits of each kind must be met in a million steps.
+pub const AUDITS_EACH: u64 = 100;
 /// The numbers that scripts give: all but 15, which is the house file's.
 pub const SCRIPT_NUMBERS: [usize; 16] = [0, 1, 2, 3, 4, 5, 6, 7, 8, 9, 10, 11, 12, 13, 14, 16];
 
 /// Random scripts, until their guests have done `steps` steps, a quarter as many of them in user mode,
 /// every house number of theirs was answered often enough, bytes and half words were loaded and stored often enough, and every fault
-/// and every kind of timer's interrupt came often enough.
+/// and every kind of timer's interrupt and of stale shadow entry came often enough.
 pub fn scripts(seed: u64, steps: u64) -> Vec<Script> {
     let mut scripts = Vec::new();
     let mut total = Counts::default();
@@ -74,6 +77,7 @@ fn too_few(counts: &Counts, steps: u64) -> bool {
     let faults = steps * FAULTS_EACH / 1_000_000;
     let timers = steps * TIMERS_EACH / 1_000_000;
     let beside = steps * BESIDE_EACH / 1_000_000;
+    let audits = steps * AUDITS_EACH / 1_000_000;
     let lower = [&counts.timers.beside[1..], &counts.timers.masked_beside[1..]];
     counts.steps[1] < steps / 4
         || SCRIPT_NUMBERS.iter().any(|&number| counts.answers[number] < answers)
@@ -81,11 +85,12 @@ fn too_few(counts: &Counts, steps: u64) -> bool {
         || counts.faults()[1..].iter().any(|&came| came < faults)
         || counts.timers.levels.iter().any(|&came| came < timers)
         || lower.iter().any(|causes| causes.iter().any(|&came| came < beside))
+        || counts.audits.kinds().iter().any(|&(_, met)| met < audits)
 }
 
 /// Writes one script of the kind whose turn it is; tells the kind.
 fn compose(draft: &mut Draft, number: u64) -> &'static str {
-    match number % 10 {
+    match number % 11 {
         0..=4 => {
             runs::compose(draft);
             "programs"
@@ -98,9 +103,13 @@ fn compose(draft: &mut Draft, number: u64) -> &'static str {
             calls::compose(draft);
             "calls"
         }
-        _ => {
+        8 | 9 => {
             timers::compose(draft);
             "timers"
+        }
+        _ => {
+            audits::compose(draft);
+            "audits"
         }
     }
 }

@@ -253,6 +253,12 @@ impl House {
         Ok(count)
     }
 
+    /// 8, then 9.
+    pub(crate) fn check_memory_and_damage(&self, memory: &[u32]) -> Result<(), Refusal> {
+        self.check_damage()?;
+        self.check_length(memory)
+    }
+
     fn check_damage(&self) -> Result<(), Refusal> {
         if self.damaged() {
             return Err(Refusal::Damaged);

@@ -129,26 +129,38 @@ impl HouseFile {
 
 /// The program: reads a house file, boots, runs; its whole output.
 pub fn night(bytes: &[u8], counts: &mut Counts) -> String {
-    match attempt(bytes, counts) {
-        Ok(house) => {
-            counts.answers[0] += 1;
-            report(&house)
-        }
-        Err((number, detail)) => {
-            counts.answers[number as usize] += 1;
-            format!("refused {number} {detail}\n")
-        }
-    }
+    output(attempt(bytes, counts).map(|(house, _)| report(&house)), counts)
 }
 
-fn attempt(bytes: &[u8], counts: &mut Counts) -> Result<House, (u32, u64)> {
+/// The audit's program: the same, but it tells the stale entries of each partition.
+pub fn audit(bytes: &[u8], counts: &mut Counts) -> String {
+    let audited = attempt(bytes, counts).and_then(|(house, memory)| {
+        let stale = house.stale_counts(&memory);
+        stale.map_err(|refusal| numbers(Err(refusal)))
+    });
+    let lines = |stale: Vec<usize>| {
+        let line = |(partition, count)| format!("{partition} {count}\n");
+        stale.into_iter().enumerate().map(line).collect()
+    };
+    output(audited.map(lines), counts)
+}
+
+/// What a program prints: its text, or the refusal.
+fn output(text: Result<String, (u32, u64)>, counts: &mut Counts) -> String {
+    let number = text.as_ref().map_or_else(|&(number, _)| number, |_| 0);
+    counts.answers[number as usize] += 1;
+    text.unwrap_or_else(|(number, detail)| format!("refused {number} {detail}\n"))
+}
+
+/// The house and its memory after the run.
+fn attempt(bytes: &[u8], counts: &mut Counts) -> Result<(House, Vec<u32>), (u32, u64)> {
     let mut file = read(bytes).map_err(|Wrong(at)| (WRONG_FILE, at))?;
     let pages: Vec<u32> = file.lists.iter().map(|list| list.len() as u32).collect();
     let (mut house, answer) = House::boot(&pages, file.q, &file.lists.concat(), file.memory.len());
     answer.map_err(|refusal| numbers(Err(refusal)))?;
     let answer = house.run(&mut file.memory, file.steps, counts);
     answer.map_err(|refusal| numbers(Err(refusal)))?;
-    Ok(house)
+    Ok((house, file.memory))
 }
 
 /// The header, then one line for each partition in order.

@@ -1,10 +1,11 @@
 //! A second emulator of the house of partitions.
 //!
-//! It is written from document 01 and requests 1, 2, 4, 5, 7, 8 and 10 of document 02 alone, shares no
-//! line with the proved house, and exists to be compared with it: the same script of calls, or the
+//! It is written from document 01 and requests 1, 2, 4, 5, 7, 8, 9 and 10 of document 02 alone, shares
+//! no line with the proved house, and exists to be compared with it: the same script of calls, or the
 //! same house file, must give the same text.
 
 pub mod assemble;
+pub mod audit;
 pub mod compare;
 pub mod counts;
 pub mod dlx;

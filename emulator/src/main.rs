@@ -15,11 +15,12 @@ use emulator::{generate, housefile, named, script, source};
 const HELP: &str = "\
 emulator: a second emulator of the house of partitions, to be compared with the proved one
 
-emulator compare --drill CMD --night CMD [--seed N] [--steps N] [--files N] [--jobs N] [--limit N]
+emulator compare --drill CMD --night CMD --audit CMD [--seed N] [--steps N] [--files N] [--jobs N]
+                 [--limit N]
     Plays named and random scripts with CMD of --drill, and gives named and random house files
-    to CMD of --night, both on standard input, and compares every answer with its own. One of
-    the two CMD may be left out. Shows the smallest script or file that differs. Status 0 and a
-    last line `emulator: N compared, 0 differ` only when all agree.
+    to CMD of --night and to CMD of --audit, all on standard input, and compares every answer
+    with its own. Some of the three CMD may be left out. Shows the smallest script or file that
+    differs. Status 0 and a last line `emulator: N compared, 0 differ` only when all agree.
     --seed   start of the random numbers (1)
     --steps  guest steps of the random scripts, at least (1000000)
     --files  random house files that are damaged or cut (2000)
@@ -29,6 +30,9 @@ emulator play [SCRIPT]
     Plays a script (FORMAT.md) and prints what it sees after each call.
 emulator night [FILE]
     Reads a house file, boots, runs, and prints the report.
+emulator audit [FILE]
+    The same, but prints the number of each partition and how many of its shadow entries are
+    stale.
 emulator show [FILE]
     Tells what a house file holds, as a source that makes the same file again; or prints the
     commands of a script. FILE.house is a house file and FILE.script a script; of another name, or on
@@ -69,6 +73,9 @@ fn command(arguments: &[String]) -> Result<ExitCode, String> {
         "night" => {
             print(&housefile::night(&input(&Arguments::parse(rest)?)?, &mut Counts::default()))
         }
+        "audit" => {
+            print(&housefile::audit(&input(&Arguments::parse(rest)?)?, &mut Counts::default()))
+        }
         "show" => show(&Arguments::parse(rest)?),
         "shrink" => run_shrink(&Arguments::parse(rest)?),
         "generate" => run_generate(&Arguments::parse(rest)?),
@@ -76,7 +83,7 @@ fn command(arguments: &[String]) -> Result<ExitCode, String> {
         "form" => print(&source::form()),
         "help" | "--help" | "-h" => print(HELP),
         other => Err(format!(
-            "expected compare, play, night, show, shrink, generate, make, form or help, was given {other}"
+            "expected compare, play, night, audit, show, shrink, generate, make, form or help, was given {other}"
         )),
     }
 }
@@ -90,8 +97,10 @@ struct Arguments {
 
 impl Arguments {
     fn parse(arguments: &[String]) -> Result<Arguments, String> {
-        const NAMES: [&str; 8] =
-            ["--drill", "--night", "--seed", "--steps", "--files", "--jobs", "--limit", "--out"];
+        const NAMES: [&str; 9] = [
+            "--drill", "--night", "--audit", "--seed", "--steps", "--files", "--jobs", "--limit",
+            "--out",
+        ];
         let mut parsed = Arguments::default();
         let mut rest = arguments.iter();
         while let Some(argument) = rest.next() {
@@ -146,13 +155,14 @@ fn run_compare(arguments: &Arguments) -> Result<ExitCode, String> {
     let options = Options {
         drill: arguments.program("--drill")?,
         night: arguments.program("--night")?,
+        audit: arguments.program("--audit")?,
         seed: arguments.seed()?,
         steps: arguments.steps()?,
         files: arguments.files()?,
         jobs: arguments.number("--jobs", 2)? as usize,
     };
-    if options.drill.is_none() && options.night.is_none() {
-        return Err("expected --drill CMD or --night CMD, was given neither".into());
+    if options.drill.is_none() && options.night.is_none() && options.audit.is_none() {
+        return Err("expected --drill CMD, --night CMD or --audit CMD, was given none".into());
     }
     let outcome = compare(&options)?;
     let end = format!("emulator: {} compared, {} differ\n", outcome.compared, outcome.differ);

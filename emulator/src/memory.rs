@@ -211,10 +211,22 @@ impl Space {
         px: u32,
         counts: &mut Counts,
     ) -> Result<(u32, u32), Fault> {
-        let entry = self.entry(memory, table, px)?;
-        let page = entry_page(entry, self.pages, Access::Load)?;
+        let (page, entry) = self.walk(memory, table, px)?;
         self.shadow[px as usize] = shadow_entry(self.frames[page as usize], entry);
         counts.fills.add(px as usize);
+        Ok((page, entry))
+    }
+
+    /// What shadow `px` would be filled with now, whatever it holds, or why it would not be filled.
+    pub fn filling(&self, memory: &[u32], table: Table, px: u32) -> Result<u32, Fault> {
+        let (page, entry) = self.walk(memory, table, px)?;
+        Ok(shadow_entry(self.frames[page as usize], entry))
+    }
+
+    /// The guest page and the entry that the guest's table has for a page; all tests but protection.
+    fn walk(&self, memory: &[u32], table: Table, px: u32) -> Result<(u32, u32), Fault> {
+        let entry = self.entry(memory, table, px)?;
+        let page = entry_page(entry, self.pages, Access::Load)?;
         Ok((page, entry))
     }
 

@@ -1,6 +1,7 @@
 //! Scripts and house files with a name: the examples of 01, and what follows from the rules and is
 //! easy to miss.
 
+mod audits;
 mod bytes;
 mod far_pages;
 mod faults;
@@ -137,6 +138,14 @@ impl Story {
         self.then(Command::Empty { partition })
     }
 
+    fn audit(self) -> Self {
+        self.then(Command::Audit)
+    }
+
+    fn mend(self) -> Self {
+        self.then(Command::Mend)
+    }
+
     fn read(self, partition: u32, address: u32, count: u64, output: u32) -> Self {
         self.then(Command::Read { partition, address, count, output })
     }
@@ -163,6 +172,7 @@ pub fn scripts() -> Vec<Script> {
         timers::group(),
         calls(),
         house_frame::group(),
+        audits::group(),
     ];
     let named = |(name, story): (&str, Story)| Script { name: name.into(), commands: story.0 };
     groups.into_iter().flatten().map(named).collect()

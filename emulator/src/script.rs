@@ -2,7 +2,8 @@
 
 use std::fmt::{self, Write};
 
-use crate::counts::Counts;
+use crate::audit::Stale;
+use crate::counts::{Counts, Edited};
 use crate::dlx::special::TCOUNT;
 use crate::dlx::{decode, Guest};
 use crate::fields;
@@ -37,9 +38,11 @@ mod op {
     pub const FIELD: u32 = 9;
     pub const FILL: u32 = 10;
     pub const CLEAR: u32 = 11;
+    pub const AUDIT: u32 = 12;
+    pub const MEND: u32 = 13;
 }
 
-/// A command of a script; the first six are calls.
+/// A command of a script; those with a [`Command::call_name`] are calls.
 #[derive(Clone, Debug, PartialEq, Eq)]
 #[allow(missing_docs)]
 pub enum Command {
@@ -54,6 +57,8 @@ pub enum Command {
     Field { index: u32, value: u32 },
     Fill { index: u32, count: u32, value: u32 },
     Clear,
+    Audit,
+    Mend,
 }
 
 impl Command {
@@ -66,6 +71,8 @@ impl Command {
             Command::Stop { .. } => Some("stop"),
             Command::Empty { .. } => Some("empty"),
             Command::Read { .. } => Some("read"),
+            Command::Audit => Some("audit"),
+            Command::Mend => Some("mend"),
             _ => None,
         }
     }
@@ -90,6 +97,8 @@ impl Command {
             Command::Field { index, value } => vec![op::FIELD, *index, *value, 0],
             Command::Fill { index, count, value } => vec![op::FILL, *index, *count, *value],
             Command::Clear => vec![op::CLEAR, 0, 0, 0],
+            Command::Audit => vec![op::AUDIT, 0, 0, 0],
+            Command::Mend => vec![op::MEND, 0, 0, 0],
         }
     }
 
@@ -110,6 +119,8 @@ impl Command {
             op::FIELD => plain(Command::Field { index: a, value: b }),
             op::FILL => plain(Command::Fill { index: a, count: b, value: c }),
             op::CLEAR => plain(Command::Clear),
+            op::AUDIT => plain(Command::Audit),
+            op::MEND => plain(Command::Mend),
             _ => None,
         }
     }
@@ -192,6 +203,8 @@ pub struct Player {
     /// The whole store; the house is lent the first `length` words of it.
     memory: Vec<u32>,
     length: usize,
+    /// What was edited since the boot. It makes no difference but to the counts.
+    edited: Edited,
 }
 
 impl Default for Player {
@@ -203,7 +216,8 @@ impl Default for Player {
 impl Player {
     /// The house of no partitions, memory zero and of no words.
     pub fn new() -> Self {
-        Player { house: House::NONE, memory: vec![0; MOST_WORDS], length: 0 }
+        let edited = Edited::default();
+        Player { house: House::NONE, memory: vec![0; MOST_WORDS], length: 0, edited }
     }
 
     /// The lent memory.
@@ -238,8 +252,16 @@ impl Player {
             self.change(command);
             return None;
         };
+        counts.audits.edited = self.edited;
         let mut output = Vec::new();
-        let answer = self.call(command, &mut output, counts);
+        let mut first = None;
+        let answer = match command {
+            Command::Audit => self.house.audit(self.lent(), counts).map(|stale| {
+                first = stale;
+                0
+            }),
+            _ => self.call(command, &mut output, counts),
+        };
         let (number, detail) = numbers(answer);
         counts.answers[number as usize] += 1;
         line(text, format_args!("call {name} -> {number} {detail}"));
@@ -247,11 +269,15 @@ impl Player {
         if matches!(command, Command::Read { .. }) {
             describe_output(text, &output, answer);
         }
+        if *command == Command::Audit && answer.is_ok() {
+            describe_stale(text, first);
+        }
         Some(answer)
     }
 
     /// A command that is not a call.
     fn change(&mut self, command: &Command) {
+        self.edited.note(command, &self.house, &self.memory[..self.length]);
         match *command {
             Command::Poke { index, value } => self.fill(index, 1, value),
             Command::Length { words } => self.length = MOST_WORDS.min(words as usize),
@@ -274,6 +300,14 @@ impl Player {
             Command::Boot { ref pages, q, ref frames } => {
                 let (house, answer) = House::boot(pages, q, frames, self.length);
                 self.house = house;
+                self.edited = Edited::default();
+                answer
+            }
+            Command::Mend => {
+                let answer = self.house.mend(&self.memory[..self.length], counts);
+                if answer.is_ok() {
+                    self.edited = Edited::default();
+                }
                 answer
             }
             Command::Start { partition } => self.house.start(partition),
@@ -338,6 +372,14 @@ fn describe_guest(text: &mut String, partition: usize, guest: &Guest) {
     text.push('\n');
 }
 
+/// The first stale entry.
+fn describe_stale(text: &mut String, first: Option<Stale>) {
+    match first {
+        None => line(text, format_args!("stale none")),
+        Some(stale) => line(text, format_args!("stale {} {}", stale.partition, stale.px)),
+    }
+}
+
 fn describe_output(text: &mut String, output: &[u32], answer: Answer) {
     let shown = match answer {
         Ok(count) if count <= SHOWN => &output[..count as usize],
@@ -389,6 +431,8 @@ impl fmt::Display for Command {
                 write!(f, "fill word {index} count {count} = {value:#010x}")
             }
             Command::Clear => write!(f, "clear"),
+            Command::Audit => write!(f, "audit"),
+            Command::Mend => write!(f, "mend"),
         }
     }
 }

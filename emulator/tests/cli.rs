@@ -77,6 +77,24 @@ fn it_finds_a_wrong_report() {
 }
 
 #[test]
+fn it_compares_audits_where_it_is_asked_to() {
+    let program = |name: &str| format!("'{EMULATOR}' {name}");
+    let sizes = ["--files", "20", "--steps", "1"];
+    let run = |audit: &str| {
+        let alone = ["compare", "--audit", audit];
+        emulator(&[&alone[..], &sizes].concat(), b"")
+    };
+    let output = run(&program("audit"));
+    let told = text(&output);
+    assert_eq!(output.status.code(), Some(0), "{told}");
+    assert!(told.contains("files of audit by number: ") && !told.contains("files of night"));
+    let output = run(&spoilt("audit", "s/^0 0$/0 1/"));
+    let told = text(&output);
+    assert_eq!(output.status.code(), Some(1), "{told}");
+    assert!(told.contains(" differs in audit:\n  expected: 0 0\n  given:    0 1\n"), "{told}");
+}
+
+#[test]
 fn wrong_use_is_told() {
     let cases: [&[&str]; 7] = [
         &[],
@@ -98,7 +116,9 @@ fn wrong_use_is_told() {
 #[test]
 fn help_names_every_command() {
     let help = text(&emulator(&["help"], b""));
-    for command in ["compare", "play", "night", "show", "shrink", "generate", "make", "form"] {
+    for command in
+        ["compare", "play", "night", "audit", "show", "shrink", "generate", "make", "form"]
+    {
         assert!(help.contains(&format!("emulator {command}")), "{command}");
     }
 }

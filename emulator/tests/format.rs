@@ -82,7 +82,7 @@ fn wrong_commands_end_the_script() {
     let run = [2, 0, 0, 0];
     let cases: [&[u32]; 6] = [
         &[0, 0, 0, 0],
-        &[12, 0, 0, 0],
+        &[14, 0, 0, 0],
         &[1, 17, 1, 0],
         &[1, 1, 1, 4_097],
         &[6, 0, 0, 4_097, 0, 0],
@@ -157,6 +157,21 @@ fn the_latest_fault_and_the_timer_are_the_last_scalars() {
     assert_eq!(line(13 + 18 * 7 + 17, u32::MAX), format!("partition 7{} 4294967295", zeros(16)));
     assert_eq!(line(13 + 18, 5), format!("partition 1 5{}", zeros(16)));
     assert_eq!(line(13 + 12, 1), format!("partition 0{} 1 0 0 0", zeros(13)));
+}
+
+#[test]
+fn audits_and_mends_are_calls() {
+    let look = |op: u32| text(&words(&[8, 2_048, 0, 0, 1, 1, 2, 1, 1, 1, op, 7, 8, 9]));
+    let after = |op: u32| look(op).split_once("\ncall ").unwrap().1.to_string();
+    let house = look(2).split_once('\n').unwrap().1.split_once("call ").unwrap().0.to_string();
+    assert_eq!(after(12), format!("audit -> 0 0\n{house}stale none\n"));
+    assert_eq!(after(13), format!("mend -> 0 0\n{house}"));
+    // Shadow entry 3 is valid, and the guest has no table.
+    let entry = [9, 2_464, 6_144, 0, 12, 0, 0, 0, 13, 0, 0, 0];
+    let stale = text(&words(&[&[8, 2_048, 0, 0, 1, 1, 2, 1, 1, 1][..], &entry].concat()));
+    assert!(stale.contains("\nshadow 3:6144\nmemory 2048 "), "{stale}");
+    assert!(stale.contains("\nstale 0 3\ncall mend -> 0 1\n"), "{stale}");
+    assert!(!text(&words(&[12, 0, 0, 0])).contains("stale"));
 }
 
 #[test]

@@ -8,8 +8,8 @@ use emulator::dlx::special::{SR, TCOUNT, TLOAD};
 use emulator::dlx::{decode, Cause, Guest, Instruction};
 use emulator::fields;
 use emulator::generate::{
-    files, scripts, Script, ANSWERS_EACH, BESIDE_EACH, FAULTS_EACH, PARTS_EACH, SCRIPT_NUMBERS,
-    TIMERS_EACH,
+    files, scripts, Script, ANSWERS_EACH, AUDITS_EACH, BESIDE_EACH, FAULTS_EACH, PARTS_EACH,
+    SCRIPT_NUMBERS, TIMERS_EACH,
 };
 
 use emulator::house::{numbers, House, HOUSE_FRAME};
@@ -137,6 +137,44 @@ fn the_default_run_has_timers() {
     let programs = counts_of_kind("programs").timers;
     assert!(programs.levels.iter().sum::<u64>() >= 1_000, "{programs:?}");
     assert!(programs.user >= 500 && programs.masked >= 1_000, "{programs:?}");
+}
+
+#[test]
+fn the_default_run_has_audits() {
+    let audits = &default_counts().audits;
+    assert_eq!(AUDITS_EACH, 100);
+    for (name, met) in audits.kinds() {
+        assert!(met >= AUDITS_EACH, "{name}: {audits:?}");
+    }
+    // What only calls and guests have made is never stale.
+    assert_eq!(audits.found[0], 0, "{audits:?}");
+    let programs = counts_of_kind("programs").audits;
+    assert!(
+        programs.right[0] >= 100 && programs.found[1..].iter().sum::<u64>() >= 50,
+        "{programs:?}"
+    );
+}
+
+/// An audit agrees with a mend behind it, and neither is refused alone.
+#[test]
+fn audits_and_mends_agree() {
+    for one in default_scripts().iter().filter(|one| one.name.starts_with("audits")).take(20) {
+        let mut player = Player::new();
+        for command in &one.commands {
+            if command.call_name().is_some() {
+                let (mut first, mut second) = (player.clone(), player.clone());
+                let mut text = String::new();
+                let audit = first.play(&Command::Audit, &mut text, &mut Counts::default());
+                let mend = second.play(&Command::Mend, &mut String::new(), &mut Counts::default());
+                let none = text.ends_with("\nstale none\n");
+                assert_eq!(audit.unwrap().is_ok(), mend.unwrap().is_ok());
+                assert_eq!(none, mend == Some(Ok(0)), "{text}");
+                assert_eq!((&first.house, first.lent()), (&player.house, player.lent()));
+                assert_eq!(second.lent(), player.lent());
+            }
+            player.play(command, &mut String::new(), &mut Counts::default());
+        }
+    }
 }
 
 /// Most guests of the programs set their timer themselves; timers are also set by hand.

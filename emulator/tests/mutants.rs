@@ -193,7 +193,7 @@ const MUTANTS: &[Mutant] = &[
     Mutant("timer: it does not reload", "timer.rs", "1 => (load, true)", "1 => (0, true)"),
     Mutant("timer: the firing step counts for the next", "timer.rs", "1 => (load, true)", "1 => (load.saturating_sub(1), true)"),
     Mutant("timer: it stays at 1", "timer.rs", "1 => (load, true)", "1 => (1, true)"),
-    Mutant("timer: it fires one step late", "timer.rs", "0 => (0, false),\n        1 => (load, true),", "0 => (0, false),\n        1 if load == 0 => (0, true),\n        1 => (load + 1, true),"),
+    Mutant("timer: it reloads one more than TLOAD", "timer.rs", "1 => (load, true)", "1 => (load.saturating_add(u32::from(load != 0)), true)"),
     Mutant("timer: TLOAD starts a timer of 0", "timer.rs", "0 => (0, false)", "0 => (load, false)"),
     Mutant("timer: a timer of 0 fires", "timer.rs", "0 => (0, false)", "0 => (load, load != 0)"),
     Mutant("timer: the reload is TLOAD after the step", "dlx.rs", "self.specials[TCOUNT] = count;", "self.specials[TCOUNT] = if zero { self.specials[TLOAD] } else { count };"),
@@ -234,6 +234,37 @@ const MUTANTS: &[Mutant] = &[
     Mutant("timer: stopping stops it", "house.rs", "self.running[at] = false;", "self.running[at] = false;\n        self.guests[at].specials[10] = 0;"),
     Mutant("timer: starting reloads it", "house.rs", "self.running[at] = true;", "self.running[at] = true;\n        self.guests[at].specials[10] = self.guests[at].specials[11];"),
     Mutant("timer: emptying a shadow stops it", "house.rs", "counts.emptied_by_call += self.guests[at].space.empty();", "counts.emptied_by_call += self.guests[at].space.empty();\n        self.guests[at].specials[10] = 0;"),
+    // The audit.
+    Mutant("audit: the protection does not count", "audit.rs", "entry & PROTECTED == now & PROTECTED)", "entry & PROTECTED == now & PROTECTED || true)"),
+    Mutant("audit: the frame does not count", "audit.rs", "(entry >> 12 == now >> 12,", "(entry >> 12 == now >> 12 || true,"),
+    Mutant("audit: what the table does not have is right", "audit.rs", "Err(fault) => return Some(Why::of_fault(fault)),", "Err(_) => return None,"),
+    Mutant("audit: an entry is right, beyond PTL", "audit.rs", "Err(fault) => return Some(Why::of_fault(fault)),", "Err(Fault::Length) => return None,\n        Err(fault) => return Some(Why::of_fault(fault)),"),
+    Mutant("audit: an entry is right, outside", "audit.rs", "Err(fault) => return Some(Why::of_fault(fault)),", "Err(Fault::Outside) => return None,\n        Err(fault) => return Some(Why::of_fault(fault)),"),
+    Mutant("audit: an entry is right, not valid", "audit.rs", "Err(fault) => return Some(Why::of_fault(fault)),", "Err(Fault::Invalid) => return None,\n        Err(fault) => return Some(Why::of_fault(fault)),"),
+    Mutant("audit: an entry is right, too large a page", "audit.rs", "Err(fault) => return Some(Why::of_fault(fault)),", "Err(Fault::Page) => return None,\n        Err(fault) => return Some(Why::of_fault(fault)),"),
+    Mutant("audit: system mode is left out", "audit.rs", "if entry == 0 {", "if entry == 0 || !guest.user() {"),
+    Mutant("audit: user mode is left out", "audit.rs", "if entry == 0 {", "if entry == 0 || guest.user() {"),
+    Mutant("audit: stopped partitions are left out", "audit.rs", "self.guests[..self.count as usize].iter().enumerate()", "self.guests[..self.count as usize].iter().enumerate().filter(|(at, _)| self.running[*at])"),
+    Mutant("audit: the current partition alone", "audit.rs", "self.guests[..self.count as usize].iter().enumerate()", "self.guests[..self.count as usize].iter().enumerate().filter(|(at, _)| *at == self.current as usize)"),
+    Mutant("audit: far entries are left out", "audit.rs", "0..guest.space.shadow.len()", "0..256"),
+    Mutant("audit: entry 1,023 is left out", "audit.rs", "0..guest.space.shadow.len()", "0..1_023"),
+    Mutant("audit: the last is told", "audit.rs", "Ok(stale.first().copied())", "Ok(stale.last().copied())"),
+    Mutant("audit: by page, then partition", "audit.rs", "Ok(stale.first().copied())", "Ok(stale.iter().min_by_key(|entry| entry.px).copied())"),
+    Mutant("audit: other bits of an entry count", "memory.rs", "Ok(shadow_entry(self.frames[page as usize], entry))", "Ok(shadow_entry(self.frames[page as usize] + (entry >> 9 & 1), entry))"),
+    Mutant("audit: the frame is the page", "memory.rs", "Ok(shadow_entry(self.frames[page as usize], entry))", "Ok(shadow_entry(page + 1, entry))"),
+    Mutant("audit: a mend empties all", "audit.rs", "self.guests[entry.partition].space.shadow[entry.px] = 0;", "self.guests[entry.partition].space.shadow = [0; 1_024];"),
+    Mutant("audit: a mend empties the first", "audit.rs", "for entry in &stale {", "for entry in stale.iter().take(1) {"),
+    Mutant("audit: a mend empties one partition", "audit.rs", "for entry in &stale {", "for entry in stale.iter().filter(|entry| entry.partition == stale[0].partition) {"),
+    Mutant("audit: a mend fills anew", "audit.rs", "self.guests[entry.partition].space.shadow[entry.px] = 0;", "let guest = &mut self.guests[entry.partition];\n            guest.space.shadow[entry.px] = guest.space.filling(memory, guest.table(), entry.px as u32).unwrap_or(0);"),
+    Mutant("audit: a mend forgets the fault", "audit.rs", "self.guests[entry.partition].space.shadow[entry.px] = 0;", "self.guests[entry.partition].space.shadow[entry.px] = 0;\n            self.guests[entry.partition].fault = 0;"),
+    Mutant("audit: a mend tells 0", "audit.rs", "Ok(stale.len() as u64)", "Ok(0)"),
+    Mutant("audit: a mend tells its partitions", "audit.rs", "Ok(stale.len() as u64)", "Ok((0..8).filter(|&at| stale.iter().any(|entry| entry.partition == at)).count() as u64)"),
+    Mutant("audit: 9 before 8", "house.rs", "self.check_damage()?;\n        self.check_length(memory)\n    }", "self.check_length(memory)?;\n        self.check_damage()\n    }"),
+    Mutant("audit: no 9", "house.rs", "self.check_damage()?;\n        self.check_length(memory)\n    }", "self.check_damage()?;\n        if memory.len() < self.words as usize {\n            return Err(Refusal::Length);\n        }\n        Ok(())\n    }"),
+    Mutant("audit: the detail is the page", "script.rs", "first = stale;\n                0", "first = stale;\n                stale.map_or(0, |entry| entry.px as u64)"),
+    Mutant("audit: a refused one tells none", "script.rs", "if *command == Command::Audit && answer.is_ok() {", "if *command == Command::Audit {"),
+    Mutant("audit: the program tells one partition", "housefile.rs", "stale.into_iter().enumerate().map(line)", "stale.into_iter().enumerate().take(1).map(line)"),
+    Mutant("audit: the program tells pages", "housefile.rs", "let stale = house.stale_counts(&memory);", "let stale = house.stale_counts(&memory).map(|_| house.guests[..house.count as usize].iter().map(|guest| guest.space.pages as usize).collect());"),
     // Damage.
     Mutant("damage: EMODE", "house.rs", "|| guest.specials[EMODE] > 1", ""),
     Mutant("damage: MODE", "house.rs", "|| guest.specials[MODE] > 1", ""),
@@ -315,7 +346,6 @@ fn build(directory: &Path) -> PathBuf {
         .args(["build", "--quiet", "-j1"])
         .current_dir(directory)
         .env("CARGO_TARGET_DIR", directory.join("target"))
-        .env("CARGO_PROFILE_DEV_OPT_LEVEL", "1")
         .env("RUSTFLAGS", "-Awarnings")
         .status();
     assert!(status.expect("cargo starts").success(), "the copy must build");
@@ -326,6 +356,7 @@ fn compare(program: &Path) -> Output {
     let command = |name: &str| format!("'{}' {name}", program.display());
     Command::new(env!("CARGO_BIN_EXE_emulator"))
         .args(["compare", "--drill", &command("play"), "--night", &command("night")])
+        .args(["--audit", &command("audit")])
         .args(["--limit", "60", "--files", "400"])
         .output()
         .expect("the comparison starts")

@@ -144,7 +144,9 @@ fn any_call(draft: &mut Draft) {
         1 => rng.pick(&[7, 8, 9, u32::MAX]),
         _ => rng.below(partitions.max(1)),
     };
-    let command = match rng.below(6) {
+    let command = match rng.below(8) {
+        6 => Command::Audit,
+        7 => Command::Mend,
         0 => Command::Run { steps: rng.below(12) },
         1 => Command::Start { partition },
         2 | 3 => Command::Stop { partition },

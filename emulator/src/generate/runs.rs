@@ -1,7 +1,7 @@
 //! Scripts in which several partitions run programs, with other calls between the runs.
 
 use super::programs::{program, Program};
-use super::{calls, tickets, timers, Draft};
+use super::{audits, calls, tickets, timers, Draft};
 use crate::fields;
 use crate::memory::shadow_entry;
 use crate::script::Command;
@@ -21,6 +21,9 @@ pub fn compose(draft: &mut Draft) {
         draft.keep_running();
         let steps = run_length(draft);
         draft.emit(Command::Run { steps });
+        if draft.rng.chance(15) {
+            audits::look(draft);
+        }
     }
 }
 
@@ -47,7 +50,7 @@ fn run_length(draft: &mut Draft) -> u32 {
 /// Something between two runs.
 fn between(draft: &mut Draft, programs: &[Program]) {
     let partition = draft.partition();
-    match draft.rng.below(13) {
+    match draft.rng.below(14) {
         0 => drop(draft.emit(Command::Stop { partition })),
         1 => drop(draft.emit(Command::Start { partition })),
         2 => drop(draft.emit(Command::Empty { partition })),
@@ -57,6 +60,7 @@ fn between(draft: &mut Draft, programs: &[Program]) {
         6 => calls::refused_run(draft),
         7 | 8 => tickets::set_queue(draft, partition),
         9 => timers::poke(draft, partition),
+        10 => audits::edit(draft),
         _ => wrong_shadows(draft, partition, &programs[partition as usize].pages),
     }
 }

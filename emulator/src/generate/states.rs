@@ -1,6 +1,6 @@
 //! Scripts that set a guest's state by hand and do one or a few steps from it.
 
-use super::{tickets, timers, words, Draft};
+use super::{audits, tickets, timers, words, Draft};
 use crate::assemble::trap;
 use crate::counts::Counts;
 use crate::dlx::special::{EDPC, EMODE, EPC, ESR, MODE, PTL, PTO, SR};
@@ -27,10 +27,15 @@ pub fn compose(draft: &mut Draft) {
     }
 }
 
+/// All pages of user addresses that the tables have.
+pub fn mapped() -> Vec<u32> {
+    (0..MAPPED).chain(FAR).collect()
+}
+
 /// A table with entries of all sorts; one of them maps the table itself.
-fn write_table(draft: &mut Draft, partition: u32, pages: u32, table: u32) {
+pub fn write_table(draft: &mut Draft, partition: u32, pages: u32, table: u32) {
     draft.field(fields::special(partition, PTO), table);
-    for px in (0..MAPPED).chain(FAR) {
+    for px in mapped() {
         let page = if px == 1 { table } else { draft.rng.below(pages) };
         let protection = draft.rng.pick(&[0, PROTECTED]);
         let beyond = (pages + draft.rng.below(2)) << 12 | protection;
@@ -62,6 +67,9 @@ fn one_case(draft: &mut Draft) {
     draft.emit(Command::Run { steps });
     if draft.rng.chance(5) {
         draft.emit(Command::Empty { partition });
+    }
+    if draft.rng.chance(10) {
+        audits::look(draft);
     }
 }
 
