@@ -29,7 +29,7 @@ store o w = StoreBy o (rs1 w) (extended 16 w) (rdImmediate w)
 abbrev register : Operation → ℕ → Instruction
 register op w = Register op (rdRegister w) (rs1 w) (rs2 w)
 
--- a special number above 9 is ill
+-- a special number above 11 is ill
 abbrev special : ℕ → Instruction → Instruction
 special w i = if leb (sa w) 11 then i else Ill
 
