@@ -1,44 +1,20 @@
 -- A word byte by byte.
-use mathlib.Core.Path.{_≡_, refl, sym, ap, _∙_}
+use mathlib.Core.Path.{_≡_, refl}
 use mathlib.Core.Bool.{Bool, true, false, _&&_, _||_}
 use mathlib.Core.List.{List, [], _∷_}
 use Prim.Native.Nat.{ℕ, zero, suc, _+_, _-_, _*_, _/_, _<_, _≤_}
 use native.Mathlib.Numerals.{add-one}
 use native.Mathlib.Omega.{arith}
-use borrow.Author.Tests.{eq-eqb, ne-eqb, lt-leb, le-leb, leb-true}
-use lib.Dec.{eqb, leb}
+use borrow.Author.Tests.{lt-leb, le-leb, leb-true}
+use lib.Dec.{leb}
 use lib.ListN.{length, getD, drop, drop-of-length-le}
 use lib.Seq.{drop-cons}
 use Rattle.dlx.proofs.Kept.{either}
-use Rattle.decimal.specs.Texts.{same}
+use Rattle.decimal.proofs.Same.{and-right}
 use Rattle.command.specs.Words.{number, noNumber, withDigit, withDigits, numberOf}
 use Rattle.command.specs.declared.Number.{Number}
 
--- ---- two words
-
-pub same-long : (xs ys : List ℕ) → (length xs ≡ length ys → ⊥) → false ≡ same xs ys
-unfolding same
-same-long [] [] n = absurd (n refl)
-same-long [] (y ∷ ys) n = refl
-same-long (x ∷ xs) [] n = refl
-same-long (x ∷ xs) (y ∷ ys) n = either (eqb x y) (same-long xs ys (λ e. n (ap suc e)))
-  where
-    either : (b : Bool) {c : Bool} → false ≡ c → false ≡ b && c
-    either true e = e
-    either false e = refl
-
--- from place i on they are as they were from the start
-pub same-on : (xs ys : List ℕ) (i : ℕ) → i < length xs → i < length ys → getD xs i 0 ≡ getD ys i 0 → same (drop i xs) (drop i ys) ≡ same (drop (i + 1) xs) (drop (i + 1) ys)
-unfolding same
-same-on xs ys i l k e = rw (drop-cons xs i 0 l, drop-cons ys i 0 k, add-one i, eq-eqb (getD xs i 0) (getD ys i 0) e)
-
-pub same-not : (xs ys : List ℕ) (i : ℕ) → i < length xs → i < length ys → (getD xs i 0 ≡ getD ys i 0 → ⊥) → same (drop i xs) (drop i ys) ≡ false
-unfolding same
-same-not xs ys i l k n = rw (drop-cons xs i 0 l, drop-cons ys i 0 k, ne-eqb (getD xs i 0) (getD ys i 0) n)
-
-pub same-done : (xs ys : List ℕ) (i : ℕ) → length xs ≤ i → length ys ≤ i → same (drop i xs) (drop i ys) ≡ true
-unfolding same
-same-done xs ys i l k = rw (drop-of-length-le xs l, drop-of-length-le ys k)
+-- ---- one of two
 
 pub either-yes : {a : Bool} (b : Bool) → a ≡ true → true ≡ a || b
 either-yes b e = rw e
@@ -47,10 +23,6 @@ pub either-no : {a b r : Bool} → a ≡ false → r ≡ b → r ≡ a || b
 either-no e f = rw e f
 
 -- ---- one digit more
-
-and-right : (a b : Bool) → (a && b) ≡ true → b ≡ true
-and-right true b e = e
-and-right false b e = cc
 
 module _ (most : ℕ) (n : Number) (b : ℕ) where
   pub digit-unsaid : n .said ≡ false → noNumber ≡ withDigit most n b

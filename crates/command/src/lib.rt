@@ -2,29 +2,12 @@
 // standard error, with `failed: ` before all else.
 ghost use mathlib.Core.Path.{_≡_};
 ghost use Prim.Native.Nat.{_≤_};
-ghost use Rattle.decimal.specs.Texts.{same};
 ghost use Rattle.command.specs.Words.{noNumber, withDigit, numberOf, asksHelp};
+use decimal::is;
 use libc::STDERR_FILENO;
 use libc::STDIN_FILENO;
 
 // ---- words
-
-// The word is this one.
-pub fn is(word: &[u8], this: &[u8]) -> bool
-    ensures { λ r. ⌜ r ≡ same (now (word .entry)) (now (this .entry)) ⌝ }
-{
-    if word.len() != this.len() {
-        return false;
-    }
-    let mut i = 0;
-    while i < word.len() {
-        if word[i] != this[i] {
-            return false;
-        }
-        i += 1;
-    }
-    true
-}
 
 // The word asks for the help text.
 pub fn asks_help(word: &[u8]) -> bool

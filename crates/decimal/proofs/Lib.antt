@@ -1,3 +1,4 @@
 pub mod Checked
 pub mod Decimals
+pub mod Same
 pub mod Texts

@@ -1,3 +1,4 @@
 pub mod Decimals
 pub mod Texts
+pub mod Raw
 pub mod Examples

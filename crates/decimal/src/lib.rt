@@ -1,9 +1,27 @@
-// Text put into a lent buffer, byte by byte or as a number in decimals. A function puts its piece at `at` and answers where the piece ends; what has no room
-// in the buffer is left out.
+// Texts: two compared; and text put into a lent buffer, byte by byte, as a number in decimals, or a word raw. A function puts its piece at `at` and answers where the piece ends;
+// what has no room in the buffer is left out.
 ghost use mathlib.Core.Path.{_≡_};
 ghost use mathlib.Core.List.{[], _∷_};
 ghost use Rattle.decimal.specs.Decimals.{digit, decimal};
-ghost use Rattle.decimal.specs.Texts.{text, put};
+ghost use Rattle.decimal.specs.Raw.{lowFirst};
+ghost use Rattle.decimal.specs.Texts.{Puts, same, text, put};
+
+// The text is this one.
+pub fn is(word: &[u8], this: &[u8]) -> bool
+    ensures { λ r. ⌜ r ≡ same (now (word .entry)) (now (this .entry)) ⌝ }
+{
+    if word.len() != this.len() {
+        return false;
+    }
+    let mut i = 0;
+    while i < word.len() {
+        if word[i] != this[i] {
+            return false;
+        }
+        i += 1;
+    }
+    true
+}
 
 pub fn put_byte(out: &mut [u8], at: usize, b: u8) -> usize
     ensures { λ r. ⌜ text (now (out .exit)) r ≡ put (text (now (out .entry)) at) (b ∷ []) ⌝ }
@@ -44,4 +62,14 @@ pub fn put_decimal(out: &mut [u8], at: usize, n: u64) -> usize
     }
     let last = put_decimal(out, at, n / 10);
     put_digit(out, last, n)
+}
+
+// A word's four bytes, the lowest first.
+pub fn put_raw(out: &mut [u8], at: usize, w: u32) -> usize
+    ensures { λ r. ⌜ Puts (now (out .entry)) at (now (out .exit)) r (lowFirst w) 4 ⌝ }
+{
+    let first = put_byte(out, at, (w % 0x100) as u8);
+    let second = put_byte(out, first, (w / 0x100 % 0x100) as u8);
+    let third = put_byte(out, second, (w / 0x1_0000 % 0x100) as u8);
+    put_byte(out, third, (w / 0x100_0000) as u8)
 }

@@ -2,10 +2,11 @@
 use mathlib.Core.Path.{_≡_, refl}
 use mathlib.Core.Bool.{true}
 use Rattle.decimal.specs.Decimals.{decimalIn, decimal}
+use Rattle.decimal.specs.Raw.{lowFirst}
 use Rattle.decimal.specs.Texts.{ascii, same, joined}
 use Rattle.decimal.specs.Examples.{all}
 use Rattle.report.specs.Report.{field, line, refusedText}
-use Rattle.readout.specs.Printed.{lowFirst, wordText, wordsText, printed}
+use Rattle.readout.specs.Printed.{wordText, wordsText, printed}
 use Rattle.readout.specs.Examples.{texts}
 
 pub checked : all texts ≡ true

@@ -18,9 +18,10 @@ use Rattle.house.proofs.Lists.Bounded.{or-right}
 use Rattle.house.proofs.Damage.Undamaged.{undamaged-gives}
 use Rattle.house.specs.declared.House.{House}
 use Rattle.housefile.specs.Records.{number}
+use Rattle.decimal.specs.Raw.{lowFirst}
 use Rattle.report.specs.Put.{put}
 use Rattle.report.specs.Report.{refusedText}
-use Rattle.readout.specs.Printed.{lowFirst, wordsText, readText, noWords, printed}
+use Rattle.readout.specs.Printed.{wordsText, readText, noWords, printed}
 use Rattle.readout.specs.declared.Want.{Want}
 
 pub put-same : (t t′ out : List ℕ) (g : ℕ × List ℕ) → g ≡ put t out → t ≡ t′ → g ≡ put t′ out

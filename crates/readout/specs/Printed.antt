@@ -1,21 +1,18 @@
 -- What readout prints for what a house file comes to: words of one partition, or the first refusal of the file, of boot, of run, or of the read-out.
 use mathlib.Core.Bool.{Bool}
-use mathlib.Core.List.{List, [], _∷_}
-use Prim.Native.Nat.{ℕ, _/_, _%_, _^_}
+use mathlib.Core.List.{List}
+use Prim.Native.Nat.{ℕ}
 use lib.Dec.{eqb}
 use lib.ListN.{getD, replicate}
 use Rattle.dlx.specs.Choice.{if_then_else_}
 use Rattle.house.specs.Turns.{World}
 use Rattle.house.specs.Calls.{Answered, readCall}
+use Rattle.decimal.specs.Raw.{lowFirst}
 use Rattle.decimal.specs.Texts.{joined}
 use Rattle.report.specs.Report.{field, refusal}
 use Rattle.readout.specs.declared.Want.{Want}
 
 -- ---- words as text
-
--- a word's four bytes, the lowest first
-unfoldable pub lowFirst : ℕ → List ℕ
-lowFirst w = w % 256 ∷ w / 256 % 256 ∷ w / 2 ^ 16 % 256 ∷ w / 2 ^ 24 ∷ []
 
 -- raw, or in decimals with a newline behind
 unfoldable pub wordText : Bool → ℕ → List ℕ

@@ -4,8 +4,8 @@ ghost use Prim.Native.Nat.{_≤_, _*_};
 ghost use lib.ListN.{getD};
 ghost use Rattle.decimal.specs.Texts.{Puts, joined};
 ghost use Rattle.report.specs.Put.{Counts, put};
-ghost use Rattle.readout.specs.Printed.{lowFirst, wordText, wordsText};
-use decimal::put_byte;
+ghost use Rattle.readout.specs.Printed.{wordText, wordsText};
+use decimal::put_raw;
 use report::put_word;
 
 // The words of the largest partition, and what they take in decimals: 11 bytes each, a newline among them.
@@ -13,22 +13,12 @@ pub const WORDS: usize = 262144;
 
 pub const ROOM: usize = 2883584;
 
-// A word's four bytes.
-fn put_bytes(out: &mut [u8], at: usize, w: u32) -> usize
-    ensures { λ r. ⌜ Puts (now (out .entry)) at (now (out .exit)) r (lowFirst w) 4 ⌝ }
-{
-    let first = put_byte(out, at, (w % 0x100) as u8);
-    let second = put_byte(out, first, (w / 0x100 % 0x100) as u8);
-    let third = put_byte(out, second, (w / 0x1_0000 % 0x100) as u8);
-    put_byte(out, third, (w / 0x100_0000) as u8)
-}
-
 // A word.
 fn put_one(out: &mut [u8], at: usize, w: u32, raw: bool) -> usize
     ensures { λ r. ⌜ Puts (now (out .entry)) at (now (out .exit)) r (wordText raw w) 11 ⌝ }
 {
     if raw {
-        return put_bytes(out, at, w);
+        return put_raw(out, at, w);
     }
     put_word(out, at, w, b'\n')
 }

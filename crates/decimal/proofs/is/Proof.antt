@@ -3,10 +3,10 @@ use Prim.Native.Nat.{_-_, _≤_}
 use native.Mathlib.Omega.{arith}
 use borrow.Author.Needs.{needs}
 use lib.ListN.{length, drop}
 use Rattle.decimal.specs.Texts.{same}
-use Rattle.command.proofs.Words.{same-long, same-on, same-not, same-done}
-use Rattle.command.proofs.is.Statement.{statement}
-use Rattle.command.proofs.is.Tie as tie
+use Rattle.decimal.proofs.Same.{same-long, same-on, same-not, same-done}
+use Rattle.decimal.proofs.is.Statement.{statement}
+use Rattle.decimal.proofs.is.Tie as tie
 
 abbrev Inv-loop : tie.InvT-loop
 Inv-loop word this i₀ i = (same (drop i word) (drop i this) ≡ same word this) × (i ≤ length word)

@@ -1,8 +1,8 @@
 use Rattle.decimal.proofs.Texts.{exactly, _then_}
-use Rattle.readout.specs.Printed.{lowFirst}
+use Rattle.decimal.specs.Raw.{lowFirst}
 use borrow.Author.Needs.{needs}
-use Rattle.readout.proofs.words.put_bytes.Statement.{statement}
-use Rattle.readout.proofs.words.put_bytes.Tie as tie
+use Rattle.decimal.proofs.put_raw.Statement.{statement}
+use Rattle.decimal.proofs.put_raw.Tie as tie
 
 cast-put-byte : tie.Need-cast-put-byte
 cast-put-byte c = search needs
@@ -35,8 +35,8 @@ returns : tie.Need-returns
 unfolding lowFirst
 returns c = exactly (c .before .before .before .before .before .before .before .before .before .before .before .before .before .before .put-byte .ensures) then exactly (c .before .before .before .before .before .before .before .before .before .before .put-byte2 .ensures) then exactly (c .before .before .before .before .before .before .put-byte3 .ensures) then exactly (c .before .before .put-byte4 .ensures)
 
-pub put-bytes-spec : {M : Type 1} → statement M
-put-bytes-spec =
+pub put-raw-spec : {M : Type 1} → statement M
+put-raw-spec =
     tie.close
     (tie.spec
     cast-put-byte
