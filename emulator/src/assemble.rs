@@ -17,10 +17,10 @@ pub mod opcode {
     pub const LHGI: u32 = 15;
     pub const JR: u32 = 22;
     pub const JALR: u32 = 23;
-    pub const CLRI: u32 = 24;
-    pub const SGRI: u32 = 25;
-    pub const SLSI: u32 = 28;
-    pub const SETI: u32 = 31;
+    pub const CLR: u32 = 24;
+    pub const SGR: u32 = 25;
+    pub const SLS: u32 = 28;
+    pub const SET: u32 = 31;
     pub const LB: u32 = 32;
     pub const LH: u32 = 33;
     pub const LW: u32 = 35;

@@ -1,4 +1,6 @@
-//! Compares another program with this emulator, on scripts and on house files.
+//! Compares another program with this emulator, on scripts, on house files and on listings.
+
+mod listings;
 
 use std::fmt::Write;
 use std::sync::atomic::{AtomicUsize, Ordering};
@@ -28,12 +30,22 @@ pub struct Options {
     pub night: Option<Program>,
     /// Reads a house file on standard input and prints the stale entries.
     pub audit: Option<Program>,
+    /// Lists the words on standard input.
+    pub list: Option<Program>,
+    /// Assembles the lines on standard input.
+    pub assemble: Option<Program>,
     /// Start of the random numbers.
     pub seed: u64,
     /// Guest steps of the random scripts, at least.
     pub steps: u64,
     /// Random house files that are damaged or cut.
     pub files: usize,
+    /// Random words that are listed, and assembled from their lines.
+    pub words: usize,
+    /// Damaged lines.
+    pub lines: usize,
+    /// Damaged lines that are wrong, and given to be assembled in a text of their own; at most.
+    pub alone: usize,
     /// Programs that run at the same time.
     pub jobs: usize,
 }
@@ -41,9 +53,9 @@ pub struct Options {
 /// What a comparison found.
 #[derive(Clone, Debug, Default)]
 pub struct Outcome {
-    /// Calls and files compared.
+    /// Calls, files and texts compared.
     pub compared: u64,
-    /// Calls and files that differ, and programs that ended badly.
+    /// Those that differ, and programs that ended badly.
     pub differ: u64,
     /// The report for people.
     pub report: String,
@@ -55,6 +67,7 @@ pub fn compare(options: &Options) -> Result<Outcome, String> {
     if let Some(drill) = &options.drill {
         compare_drill(drill, options, &mut outcome)?;
     }
+    listings::compare_listings(options, &mut outcome)?;
     if options.night.is_none() && options.audit.is_none() {
         return Ok(outcome);
     }
@@ -234,14 +247,14 @@ fn compare_batch(drill: &Program, scripts: &[&[Command]]) -> Result<BatchOutcome
         input.extend(bytes);
     }
     let reply = drill.run(&input)?;
-    let (differ, first) = differences(&texts, &reply);
+    let (differ, first) = differences(&texts, &reply.text());
     let differ = differ.max(u64::from(reply.trouble.is_some()));
     Ok(BatchOutcome { counts, differ, first, trouble: reply.trouble })
 }
 
 /// How many calls differ, and the first of them.
-fn differences(texts: &[String], reply: &Reply) -> (u64, Option<Difference>) {
-    let mut theirs = calls(&reply.text).into_iter();
+fn differences(texts: &[String], theirs: &str) -> (u64, Option<Difference>) {
+    let mut theirs = calls(theirs).into_iter();
     let mut differ = 0;
     let mut first = None;
     for (script, text) in texts.iter().enumerate() {
@@ -435,8 +448,8 @@ fn told(program: &Program, bytes: &[u8]) -> Result<String, String> {
 /// The program's text; how it ended is told only where it said nothing.
 fn file_text(reply: Reply) -> String {
     match reply.trouble {
-        Some(trouble) if reply.text.is_empty() => trouble,
-        _ => reply.text,
+        Some(trouble) if reply.bytes.is_empty() => trouble,
+        _ => reply.text(),
     }
 }
 
@@ -491,12 +504,11 @@ mod tests {
     #[test]
     fn every_difference_is_counted() {
         let texts = ["call a\nx\ncall b\ny\n".to_string(), "call c\nz\n".to_string()];
-        let reply = |text: &str| Reply { text: text.into(), trouble: None };
-        assert_eq!(differences(&texts, &reply(&texts.concat())).0, 0);
-        assert_eq!(differences(&texts, &reply("call a\nx\ncall b\nw\ncall c\nz\n")).0, 1);
-        assert_eq!(differences(&texts, &reply("call a\nx\n")).0, 2);
-        assert_eq!(differences(&texts, &reply(&(texts.concat() + "more\n"))).0, 1);
-        let (_, first) = differences(&texts, &reply("call a\nx\ncall b\ny\ncall c\n"));
+        assert_eq!(differences(&texts, &texts.concat()).0, 0);
+        assert_eq!(differences(&texts, "call a\nx\ncall b\nw\ncall c\nz\n").0, 1);
+        assert_eq!(differences(&texts, "call a\nx\n").0, 2);
+        assert_eq!(differences(&texts, &(texts.concat() + "more\n")).0, 1);
+        let (_, first) = differences(&texts, "call a\nx\ncall b\ny\ncall c\n");
         let first = first.unwrap();
         assert_eq!((first.script, first.call), (1, 0));
         assert_eq!(

@@ -3,6 +3,7 @@
 mod audits;
 mod calls;
 mod files;
+pub mod listings;
 mod programs;
 mod runs;
 mod states;

@@ -1,8 +1,8 @@
 //! A second emulator of the house of partitions.
 //!
-//! It is written from document 01 and requests 1, 2, 4, 5, 7, 8, 9 and 10 of document 02 alone, shares
-//! no line with the proved house, and exists to be compared with it: the same script of calls, or the
-//! same house file, must give the same text.
+//! It is written from document 01 and requests 1, 2, 4, 5, 7, 8, 9, 10 and 13 of document 02 alone,
+//! shares no line with the proved house, and exists to be compared with it: the same script of calls, the
+//! same house file or the same listing must give the same answer.
 
 pub mod assemble;
 pub mod audit;
@@ -13,6 +13,8 @@ pub mod fields;
 pub mod generate;
 pub mod house;
 pub mod housefile;
+pub mod instructions;
+pub mod listing;
 pub mod memory;
 pub mod named;
 pub mod process;

@@ -10,20 +10,24 @@ use std::{env, fs};
 use emulator::compare::{compare, shrink_script, Options};
 use emulator::counts::Counts;
 use emulator::process::Program;
-use emulator::{generate, housefile, named, script, source};
+use emulator::{generate, housefile, listing, named, script, source};
 
 const HELP: &str = "\
 emulator: a second emulator of the house of partitions, to be compared with the proved one
 
-emulator compare --drill CMD --night CMD --audit CMD [--seed N] [--steps N] [--files N] [--jobs N]
-                 [--limit N]
-    Plays named and random scripts with CMD of --drill, and gives named and random house files
-    to CMD of --night and to CMD of --audit, all on standard input, and compares every answer
-    with its own. Some of the three CMD may be left out. Shows the smallest script or file that
-    differs. Status 0 and a last line `emulator: N compared, 0 differ` only when all agree.
+emulator compare --drill CMD --night CMD --audit CMD --list CMD --assemble CMD [--seed N] [--steps N]
+                 [--files N] [--words N] [--lines N] [--alone N] [--jobs N] [--limit N]
+    Plays named and random scripts with CMD of --drill, gives named and random house files to CMD
+    of --night and to CMD of --audit, words to CMD of --list, and right and damaged lines to CMD of
+    --assemble, all on standard input, and compares every answer with its own. Some of the five CMD
+    may be left out. Shows the smallest script, file or text that differs. Status 0 and a last line
+    `emulator: N compared, 0 differ` only when all agree.
     --seed   start of the random numbers (1)
     --steps  guest steps of the random scripts, at least (1000000)
     --files  random house files that are damaged or cut (2000)
+    --words  random words that are listed and assembled again (4194304)
+    --lines  damaged lines (100000)
+    --alone  those of them that are wrong and are assembled in a text of their own, at most (4000)
     --jobs   programs that run at the same time (2)
     --limit  seconds that a program may take (600)
 emulator play [SCRIPT]
@@ -33,6 +37,11 @@ emulator night [FILE]
 emulator audit [FILE]
     The same, but prints the number of each partition and how many of its shadow entries are
     stale.
+emulator list [FILE]
+    Writes a line for each word of the file, little-endian.
+emulator assemble [FILE]
+    Writes the words of a listing's lines; or nothing, and `refused: 18 LINE` on standard error with
+    the number of the first wrong line, and ends with status 1.
 emulator show [FILE]
     Tells what a house file holds, as a source that makes the same file again; or prints the
     commands of a script. FILE.house is a house file and FILE.script a script; of another name, or on
@@ -76,6 +85,17 @@ fn command(arguments: &[String]) -> Result<ExitCode, String> {
         "audit" => {
             print(&housefile::audit(&input(&Arguments::parse(rest)?)?, &mut Counts::default()))
         }
+        "list" => {
+            let words = listing::words(&input(&Arguments::parse(rest)?)?);
+            print(&listing::list(&words.ok_or("expected words of 4 bytes")?))
+        }
+        "assemble" => match listing::assembled(&input(&Arguments::parse(rest)?)?) {
+            Ok(bytes) => write(&bytes),
+            Err(refused) => {
+                eprintln!("{refused}");
+                Ok(ExitCode::FAILURE)
+            }
+        },
         "show" => show(&Arguments::parse(rest)?),
         "shrink" => run_shrink(&Arguments::parse(rest)?),
         "generate" => run_generate(&Arguments::parse(rest)?),
@@ -83,7 +103,7 @@ fn command(arguments: &[String]) -> Result<ExitCode, String> {
         "form" => print(&source::form()),
         "help" | "--help" | "-h" => print(HELP),
         other => Err(format!(
-            "expected compare, play, night, audit, show, shrink, generate, make, form or help, was given {other}"
+            "expected compare, play, night, audit, list, assemble, show, shrink, generate, make, form or help, was given {other}"
         )),
     }
 }
@@ -97,8 +117,20 @@ struct Arguments {
 
 impl Arguments {
     fn parse(arguments: &[String]) -> Result<Arguments, String> {
-        const NAMES: [&str; 9] = [
-            "--drill", "--night", "--audit", "--seed", "--steps", "--files", "--jobs", "--limit",
+        const NAMES: [&str; 14] = [
+            "--drill",
+            "--night",
+            "--audit",
+            "--list",
+            "--assemble",
+            "--seed",
+            "--steps",
+            "--files",
+            "--words",
+            "--lines",
+            "--alone",
+            "--jobs",
+            "--limit",
             "--out",
         ];
         let mut parsed = Arguments::default();
@@ -156,13 +188,20 @@ fn run_compare(arguments: &Arguments) -> Result<ExitCode, String> {
         drill: arguments.program("--drill")?,
         night: arguments.program("--night")?,
         audit: arguments.program("--audit")?,
+        list: arguments.program("--list")?,
+        assemble: arguments.program("--assemble")?,
         seed: arguments.seed()?,
         steps: arguments.steps()?,
         files: arguments.files()?,
+        words: arguments.number("--words", 1 << 22)? as usize,
+        lines: arguments.number("--lines", 100_000)? as usize,
+        alone: arguments.number("--alone", 4_000)? as usize,
         jobs: arguments.number("--jobs", 2)? as usize,
     };
-    if options.drill.is_none() && options.night.is_none() && options.audit.is_none() {
-        return Err("expected --drill CMD, --night CMD or --audit CMD, was given none".into());
+    let programs =
+        [&options.drill, &options.night, &options.audit, &options.list, &options.assemble];
+    if programs.iter().all(|program| program.is_none()) {
+        return Err("expected --drill CMD, --night CMD, --audit CMD, --list CMD or --assemble CMD, was given none".into());
     }
     let outcome = compare(&options)?;
     let end = format!("emulator: {} compared, {} differ\n", outcome.compared, outcome.differ);
@@ -271,6 +310,10 @@ fn input(arguments: &Arguments) -> Result<Vec<u8>, String> {
 }
 
 fn print(text: &str) -> Result<ExitCode, String> {
-    io::stdout().write_all(text.as_bytes()).map_err(|error| error.to_string())?;
+    write(text.as_bytes())
+}
+
+fn write(bytes: &[u8]) -> Result<ExitCode, String> {
+    io::stdout().write_all(bytes).map_err(|error| error.to_string())?;
     Ok(ExitCode::SUCCESS)
 }

@@ -6,9 +6,12 @@ mod bytes;
 mod far_pages;
 mod faults;
 mod house_frame;
+mod listings;
 mod pairs;
 mod tickets;
 mod timers;
+
+pub use listings::texts;
 
 use crate::assemble::{
     addi, function, i_type, j_type, jr, lhu, lw, movi2s, movs2i, nop, opcode, r_type, rfe, sb,
@@ -258,7 +261,7 @@ fn ill_words() -> Story {
 
 fn extended_immediates() -> Story {
     let with = |op| i_type(op, 3, 1, 0x8000);
-    [opcode::ANDI, opcode::ORI, opcode::XORI, opcode::LHGI, opcode::SGRI]
+    [opcode::ANDI, opcode::ORI, opcode::XORI, opcode::LHGI, opcode::SGR]
         .into_iter()
         .fold(Story::house(&[1], 5), |story, op| story.step(with(op), 0xFFFF_0001, 0))
 }

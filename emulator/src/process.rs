@@ -18,9 +18,18 @@ pub struct Program {
 #[derive(Clone, Debug)]
 pub struct Reply {
     /// Standard output.
-    pub text: String,
+    pub bytes: Vec<u8>,
+    /// Standard error.
+    pub errors: String,
     /// What to tell if it did not end with status 0: its end and standard error.
     pub trouble: Option<String>,
+}
+
+impl Reply {
+    /// Standard output as text.
+    pub fn text(&self) -> String {
+        String::from_utf8_lossy(&self.bytes).into_owned()
+    }
 }
 
 impl Program {
@@ -62,7 +71,7 @@ impl Program {
         let mut stdin = child.stdin.take().expect("piped");
         let mut stdout = child.stdout.take().expect("piped");
         let mut stderr = child.stderr.take().expect("piped");
-        let (mut text, mut errors) = (Vec::new(), Vec::new());
+        let (mut bytes, mut errors) = (Vec::new(), Vec::new());
         let (ended, end) = mpsc::channel::<()>();
         let late = thread::scope(|scope| {
             // A program that ends early closes its input: its text tells what is missing.
@@ -80,11 +89,12 @@ impl Program {
                 }
                 late
             });
-            let read = stdout.read_to_end(&mut text);
+            let read = stdout.read_to_end(&mut bytes);
             drop(ended);
             watch.join().unwrap_or(true) || read.is_err()
         });
         let status = child.wait();
+        let errors = String::from_utf8_lossy(&errors).into_owned();
         let well = !late && status.as_ref().is_ok_and(|status| status.success());
         let trouble = (!well).then(|| {
             let end = match status {
@@ -92,9 +102,9 @@ impl Program {
                 Ok(status) => status.to_string(),
                 Err(error) => error.to_string(),
             };
-            format!("{end}; it said: {}", first_lines(&String::from_utf8_lossy(&errors)))
+            format!("{end}; it said: {}", first_lines(&errors))
         });
-        Reply { text: String::from_utf8_lossy(&text).into_owned(), trouble }
+        Reply { bytes, errors, trouble }
     }
 }
 
@@ -151,10 +161,10 @@ mod tests {
     fn gives_back_the_text() {
         let program = Program::new("cat", Duration::from_secs(5)).unwrap();
         let reply = program.run(b"some text").unwrap();
-        assert_eq!(reply.text, "some text");
+        assert_eq!(reply.text(), "some text");
         assert!(reply.trouble.is_none());
         let long = "some text, ".repeat(500);
-        assert_eq!(program.run_slowly(long.as_bytes()).unwrap().text, long);
+        assert_eq!(program.run_slowly(long.as_bytes()).unwrap().text(), long);
     }
 
     #[test]

@@ -3,9 +3,9 @@
 use std::collections::HashMap;
 
 use crate::housefile::{record_bytes, word_bytes};
+use crate::instructions;
 use crate::memory::FRAME_WORDS;
 
-mod instructions;
 mod show;
 
 pub use show::show;
@@ -34,7 +34,7 @@ hexadecimal after 0x.
   bytes XX XX ..     bytes as they are, in hexadecimal; where they are the last, no end is needed
   words N N ..       words as they are, little-endian; likewise
 
-Instructions. RD, RS1 and RS2 are registers, r0 to r31, of which r0 is always 0. IMM is a number from
+Instructions; every line of a listing (`emulator list`) is one. RD, RS1 and RS2 are registers, r0 to r31, of which r0 is always 0. IMM is a number from
 -32768 to 32767 (j, jal and trap: -33554432 to 33554431, lhgi: 0 to 65535); in a branch or jump it
 counts in bytes from the instruction behind it. SPECIAL is a special register, by number or name:
 {specials}.
@@ -271,7 +271,8 @@ fn is_label(text: &str) -> bool {
         && text.chars().all(|letter| letter.is_ascii_alphanumeric() || letter == '_')
 }
 
-fn number(text: &str) -> Result<u32, String> {
+/// A number as it stands in a source.
+pub fn number(text: &str) -> Result<u32, String> {
     let plain = text.replace('_', "");
     let parsed = match plain.strip_prefix("0x") {
         Some(digits) => u32::from_str_radix(digits, 16),

@@ -95,6 +95,51 @@ fn it_compares_audits_where_it_is_asked_to() {
 }
 
 #[test]
+fn it_compares_listings_where_it_is_asked_to() {
+    let sizes = ["--words", "70000", "--lines", "2700", "--alone", "60"];
+    let run = |list: &str, assemble: &str| {
+        let alone = ["compare", "--list", list, "--assemble", assemble];
+        emulator(&[&alone[..], &sizes].concat(), b"")
+    };
+    let (list, assemble) = (format!("'{EMULATOR}' list"), format!("'{EMULATOR}' assemble"));
+    let output = run(&list, &assemble);
+    let told = text(&output);
+    assert_eq!(output.status.code(), Some(0), "{told}");
+    assert!(
+        told.contains("damaged lines: 2700, right ") && told.ends_with(" 0 differ\n"),
+        "{told}"
+    );
+    // The words of one instruction alone are listed in another way.
+    let output = run(&spoilt("list", "s/^jalr r31$/jalr r30/"), &assemble);
+    let told = text(&output);
+    assert_eq!(output.status.code(), Some(1), "{told}");
+    let lines = "list differs:\n  expected: jalr r31\n  given:    jalr r30\n";
+    assert!(
+        told.contains(lines) && told.contains("smallest input, 4 bytes:\n  jalr r31"),
+        "{told}"
+    );
+    // Lines with a carriage return are taken.
+    let kind = format!("sh -c \"tr -d '\\r' | '{EMULATOR}' assemble\"");
+    let output = run(&list, &kind);
+    let told = text(&output);
+    assert_eq!(output.status.code(), Some(1), "{told}");
+    assert!(told.contains("assemble differs:\n") && told.contains("\\r"), "{told}");
+}
+
+#[test]
+fn lists_and_assembles() {
+    let words = [0x05, 0, 0x01, 0x20, 1, 0, 0, 0xFC];
+    let output = emulator(&["list", "-"], &words);
+    assert_eq!(text(&output), "addi r1 r0 5\nword 4227858433\n");
+    assert_eq!(emulator(&["assemble"], &output.stdout).stdout, words);
+    let output = emulator(&["assemble"], b"rfe\nrfe 0\n");
+    assert_eq!((output.status.code(), output.stdout.len()), (Some(1), 0));
+    assert_eq!(String::from_utf8_lossy(&output.stderr), "refused: 18 2\n");
+    let output = emulator(&["list"], &words[..7]);
+    assert_eq!((output.status.code(), output.stdout.len()), (Some(2), 0));
+}
+
+#[test]
 fn wrong_use_is_told() {
     let cases: [&[&str]; 7] = [
         &[],
@@ -116,9 +161,10 @@ fn wrong_use_is_told() {
 #[test]
 fn help_names_every_command() {
     let help = text(&emulator(&["help"], b""));
-    for command in
-        ["compare", "play", "night", "audit", "show", "shrink", "generate", "make", "form"]
-    {
+    for command in [
+        "compare", "play", "night", "audit", "list", "assemble", "show", "shrink", "generate",
+        "make", "form",
+    ] {
         assert!(help.contains(&format!("emulator {command}")), "{command}");
     }
 }

@@ -135,7 +135,7 @@ fn form_lists_every_instruction_and_help_works_everywhere() {
     for shape in [
         "lw RD RS1 IMM",
         "sls RD RS1 RS2",
-        "slsi RD RS1 IMM",
+        "sls RD RS1 IMM",
         "beqz RS1 IMM",
         "jr RS1",
         "trap IMM",

@@ -370,7 +370,7 @@ fn user_fault(plan: &Plan, code: &mut Code) {
 
 /// Finds the entry of the page in EDATA by counting, and makes it valid; leaves a far page alone.
 fn map_page(plan: &Plan, code: &mut Code) {
-    code.push(&[movs2i(27, EDATA), andi(27, 27, 0xF000), i_type(opcode::SLSI, 28, 27, 0)]);
+    code.push(&[movs2i(27, EDATA), andi(27, 27, 0xF000), i_type(opcode::SLS, 28, 27, 0)]);
     let negative = code.branch(opcode::BNEZ, 28, nop());
     code.constant(26, 4_096 * 7);
     code.push(&[r_type(function::SLS, 28, 26, 27)]);

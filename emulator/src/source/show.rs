@@ -2,8 +2,9 @@
 
 use std::fmt::Write;
 
-use super::instructions;
 use crate::housefile::{read, Wrong, HEAD};
+use crate::instructions::special_of;
+use crate::listing;
 use crate::memory::FRAME_WORDS;
 
 /// Bytes of a line that has them as they are.
@@ -65,8 +66,8 @@ fn put_record(text: &mut String, kind: u16, body: &[u8]) -> bool {
     true
 }
 
-/// The words of a frame that are not 0, by the instruction's name where one makes the word, and each
-/// with its place and its value.
+/// The words of a frame that are not 0 as a listing has them, and each with its place, its value and the
+/// name of its special register.
 fn put_words(text: &mut String, words: &[u32]) {
     let mut next = 0;
     for (place, &word) in words.iter().enumerate().filter(|(_, &word)| word != 0) {
@@ -74,8 +75,9 @@ fn put_words(text: &mut String, words: &[u32]) {
             line(text, format_args!("  at {}", 4 * place));
         }
         next = place + 1;
-        let shown = instructions::text(word).unwrap_or(format!("word {word}"));
-        line(text, format_args!("  {shown:<24}# {:>4}: {word:#010x}", 4 * place));
+        let shown = listing::line(word);
+        let special = special_of(word).map(|name| format!(", {name}")).unwrap_or_default();
+        line(text, format_args!("  {shown:<24}# {:>4}: {word:#010x}{special}", 4 * place));
     }
 }
 

@@ -1,5 +1,7 @@
-//! The instructions by name: one table for what a source may have, for what is told of a wrong line,
-//! and for what a word is shown as.
+//! The instructions by 01's names: one table for what a source may have, for what is told of a wrong
+//! line, and for listings.
+
+use std::fmt::Write;
 
 use crate::assemble::{function, opcode};
 use crate::dlx::special;
@@ -34,7 +36,8 @@ const REGISTERS: &[Operand] = &[RD_R, RS1, RS2];
 const JUMP: &[Operand] = &[Target(26)];
 const BRANCH: &[Operand] = &[RS1, Target(16)];
 
-/// An instruction: its name, its word with all operands 0, these, and what it does.
+/// An instruction: its name, its word with all operands 0, these, and what it does. Opcodes 24..31 and
+/// functions 40..47 share their names; the last operand tells which is meant.
 struct Instruction {
     name: &'static str,
     word: u32,
@@ -75,14 +78,14 @@ const TABLE: [Instruction; 45] = [
     of_opcode("ori", opcode::ORI, IMMEDIATE, "RD = RS1 or IMM"),
     of_opcode("xori", opcode::XORI, IMMEDIATE, "RD = RS1 xor IMM"),
     of_opcode("lhgi", opcode::LHGI, &[RD, High], "RD = IMM times 65,536"),
-    of_opcode("clri", opcode::CLRI, IMMEDIATE, "RD = 0"),
-    of_opcode("sgri", opcode::CLRI + 1, IMMEDIATE, "RD = 1 if RS1 > IMM, else 0"),
-    of_opcode("seqi", opcode::CLRI + 2, IMMEDIATE, "RD = 1 if RS1 = IMM, else 0"),
-    of_opcode("sgei", opcode::CLRI + 3, IMMEDIATE, "RD = 1 if RS1 >= IMM, else 0"),
-    of_opcode("slsi", opcode::CLRI + 4, IMMEDIATE, "RD = 1 if RS1 < IMM, else 0"),
-    of_opcode("snei", opcode::CLRI + 5, IMMEDIATE, "RD = 1 if RS1 is not IMM, else 0"),
-    of_opcode("slei", opcode::CLRI + 6, IMMEDIATE, "RD = 1 if RS1 <= IMM, else 0"),
-    of_opcode("seti", opcode::CLRI + 7, IMMEDIATE, "RD = 1"),
+    of_opcode("clr", opcode::CLR, IMMEDIATE, "RD = 0"),
+    of_opcode("sgr", opcode::CLR + 1, IMMEDIATE, "RD = 1 if RS1 > IMM, else 0"),
+    of_opcode("seq", opcode::CLR + 2, IMMEDIATE, "RD = 1 if RS1 = IMM, else 0"),
+    of_opcode("sge", opcode::CLR + 3, IMMEDIATE, "RD = 1 if RS1 >= IMM, else 0"),
+    of_opcode("sls", opcode::CLR + 4, IMMEDIATE, "RD = 1 if RS1 < IMM, else 0"),
+    of_opcode("sne", opcode::CLR + 5, IMMEDIATE, "RD = 1 if RS1 is not IMM, else 0"),
+    of_opcode("sle", opcode::CLR + 6, IMMEDIATE, "RD = 1 if RS1 <= IMM, else 0"),
+    of_opcode("set", opcode::CLR + 7, IMMEDIATE, "RD = 1"),
     of_function("add", function::ADD, REGISTERS, "RD = RS1 + RS2"),
     of_function("sub", function::SUB, REGISTERS, "RD = RS1 - RS2"),
     of_function("and", function::AND, REGISTERS, "RD = RS1 and RS2"),
@@ -145,8 +148,8 @@ impl Operand {
             _ => text,
         };
         let value = match digits.strip_prefix('-') {
-            Some(digits) => super::number(digits).map(|value| -i64::from(value)),
-            None => super::number(digits).map(i64::from),
+            Some(digits) => crate::source::number(digits).map(|value| -i64::from(value)),
+            None => crate::source::number(digits).map(i64::from),
         };
         let value = value.map_err(|_| wrong())?;
         if value < least || value > most {
@@ -155,16 +158,31 @@ impl Operand {
         Ok((value as u32 & ((1 << bits) - 1)) << low)
     }
 
-    /// What stands for its bits in a source.
-    fn text(self, word: u32) -> String {
-        let (low, bits, least, _) = self.field();
-        let value = i64::from(word >> low & ((1 << bits) - 1));
-        let value = if least < 0 && value >= -least { value + 2 * least } else { value };
-        match (self, special::NAMES.get(value as usize)) {
-            (Register(..), _) => format!("r{value}"),
-            (Special, Some(name)) => (*name).into(),
-            _ => value.to_string(),
+    /// Its bits in a word.
+    fn mask(self) -> u32 {
+        let (low, bits, ..) = self.field();
+        ((1 << bits) - 1) << low
+    }
+
+    /// Its number in a word.
+    fn value(self, word: u32) -> i64 {
+        let (low, _, least, _) = self.field();
+        let value = i64::from((word & self.mask()) >> low);
+        if least < 0 && value >= -least {
+            value + 2 * least
+        } else {
+            value
         }
+    }
+
+    /// A special register that is not there makes a word ill.
+    fn is_legal(self, word: u32) -> bool {
+        self != Special || self.value(word) < special::COUNT as i64
+    }
+
+    fn put(self, word: u32, text: &mut String) {
+        let sign = if matches!(self, Register(..)) { "r" } else { "" };
+        write!(text, " {sign}{}", self.value(word)).expect("writing to a string");
     }
 }
 
@@ -195,19 +213,29 @@ impl Instruction {
         Ok(word)
     }
 
-    fn shown(&self, word: u32) -> String {
-        let operands = self.operands.iter().map(|operand| operand.text(word));
-        [self.name.into()].into_iter().chain(operands).collect::<Vec<_>>().join(" ")
+    /// Whether a word of its own is legal, and 0 where no operand stands.
+    fn uses_all_of(&self, word: u32) -> bool {
+        let used = self.operands.iter().fold(0, |used, operand| used | operand.mask());
+        word & !used == self.word && self.operands.iter().all(|operand| operand.is_legal(word))
+    }
+
+    fn put(&self, word: u32, text: &mut String) {
+        text.push_str(self.name);
+        self.operands.iter().for_each(|operand| operand.put(word, text));
     }
 }
 
-fn named(name: &str) -> Option<&'static Instruction> {
-    TABLE.iter().find(|instruction| instruction.name == name)
+/// The instruction of this name; where two have it, the second is the one with registers alone.
+fn named(name: &str, operands: &[&str]) -> Option<&'static Instruction> {
+    let mut forms = TABLE.iter().filter(|instruction| instruction.name == name);
+    let (first, second) = (forms.next(), forms.next());
+    let register = operands.last().is_some_and(|last| last.starts_with('r'));
+    second.filter(|_| register).or(first)
 }
 
 /// The word of an instruction; what is wrong with it names its shape.
 pub fn word(name: &str, operands: &[&str]) -> Result<u32, String> {
-    let instruction = named(name).ok_or_else(|| {
+    let instruction = named(name, operands).ok_or_else(|| {
         format!("expected an instruction, was given `{name}`; `emulator form` lists them")
     })?;
     instruction.assembled(operands)
@@ -215,19 +243,51 @@ pub fn word(name: &str, operands: &[&str]) -> Result<u32, String> {
 
 /// The bits of the immediate of a branch or jump, whose last operand may be a label.
 pub fn target_bits(name: &str) -> Option<u32> {
-    match named(name)?.operands.last()? {
+    match named(name, &[])?.operands.last()? {
         Target(bits) => Some(*bits),
         _ => None,
     }
 }
 
-/// The instruction of a word, if there is one that makes this very word.
-pub fn text(word: u32) -> Option<String> {
-    let instruction = TABLE.iter().find(|instruction| instruction.is_of(word))?;
-    let legal = !instruction.operands.contains(&Special) || word >> 6 & 31 < special::COUNT as u32;
-    let text = instruction.shown(word);
-    let operands: Vec<&str> = text.split(' ').skip(1).collect();
-    (legal && instruction.assembled(&operands) == Ok(word)).then_some(text)
+/// Writes the instruction of a word, if it is legal and its ignored fields are 0; tells whether.
+pub fn put(word: u32, text: &mut String) -> bool {
+    let found = TABLE.iter().find(|instruction| instruction.is_of(word));
+    match found.filter(|instruction| instruction.uses_all_of(word)) {
+        Some(instruction) => instruction.put(word, text),
+        None => return false,
+    }
+    true
+}
+
+/// The name of the special register that a word of movs2i or movi2s names.
+pub fn special_of(word: u32) -> Option<&'static str> {
+    let found = TABLE.iter().find(|instruction| instruction.is_of(word))?;
+    let number = Special.value(word) as usize;
+    special::NAMES.get(number).copied().filter(|_| found.operands.contains(&Special))
+}
+
+/// How many instructions there are.
+pub const COUNT: usize = TABLE.len();
+
+/// The word of an instruction by its place, each operand being chosen between its least and its most.
+pub fn filled(place: usize, choose: &mut dyn FnMut(i64, i64) -> i64) -> u32 {
+    TABLE[place].operands.iter().fold(TABLE[place].word, |word, operand| {
+        let (low, _, least, most) = operand.field();
+        word | (choose(least, most) as u32) << low & operand.mask()
+    })
+}
+
+/// The least and the most that each operand of a listed word may be.
+pub fn limits(word: u32) -> Vec<(i64, i64)> {
+    let found = TABLE.iter().find(|instruction| instruction.is_of(word));
+    let limits = |operand: &Operand| match (operand, operand.field()) {
+        (Special, _) => (0, special::COUNT as i64 - 1),
+        (_, (_, _, least, most)) => (least, most),
+    };
+    match found.filter(|instruction| instruction.uses_all_of(word)) {
+        Some(instruction) => instruction.operands.iter().map(limits).collect(),
+        None => vec![(0, u32::MAX.into())],
+    }
 }
 
 /// The special registers, each by number and name.
@@ -253,6 +313,11 @@ mod tests {
         (0..64u32).flat_map(move |code| {
             fields.into_iter().flat_map(move |field| [code << 26 | field, field << 6 | code])
         })
+    }
+
+    fn text(word: u32) -> Option<String> {
+        let mut text = String::new();
+        put(word, &mut text).then_some(text)
     }
 
     #[test]
@@ -300,7 +365,7 @@ mod tests {
         assert_eq!(word("lhu r1 r2 2"), Ok(0x9441_0002));
         assert_eq!(word("sb r1 r2 3"), Ok(0xA041_0003));
         assert_eq!(word("sh r1 r2 2"), Ok(0xA441_0002));
-        assert_eq!(word("slsi r1 r2 -1"), Ok(28 << 26 | 2 << 21 | 1 << 16 | 0xFFFF));
+        assert_eq!(word("sls r1 r2 -1"), Ok(28 << 26 | 2 << 21 | 1 << 16 | 0xFFFF));
         assert_eq!(word("sls r1 r2 r3"), Ok(2 << 21 | 3 << 16 | 1 << 11 | 44));
     }
 
@@ -338,6 +403,9 @@ mod tests {
                 "expected `movs2i RD SPECIAL`, was given `movs2i r1 32`: SPECIAL is a special register's name, or 0 to 31",
             ),
             ("add r1 r2 3", "expected `add RD RS1 RS2`, was given `add r1 r2 3`: RS2 is r0 to r31"),
+            ("sls r1 r2", "expected `sls RD RS1 RS2`, was given `sls r1 r2`"),
+            ("sls r1 r2 x", "expected `sls RD RS1 IMM`, was given `sls r1 r2 x`: IMM is -32768 to 32767"),
+            ("slsi r1 r2 1", "expected an instruction, was given `slsi`; `emulator form` lists them"),
             ("rfe 1", "expected `rfe`, was given `rfe 1`"),
             ("halt", "expected an instruction, was given `halt`; `emulator form` lists them"),
         ] {
