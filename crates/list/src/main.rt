@@ -1,4 +1,6 @@
-// list FILE: reads raw words, four bytes each, the lowest first, and prints each as a line of its listing.
+// list FILE: reads raw words, four bytes each, the lowest first, and prints each as a line of its listing. list FILE FRAME: reads a house file, and prints the
+// words of one frame of the memory that it holds so; it boots and runs nothing.
+mod frame;
 mod words;
 
 ghost use mathlib.Core.Path.{_≡_};
@@ -7,8 +9,10 @@ ghost use lib.ListN.{length};
 ghost use Rattle.list.specs.Words.{Bytes, Behind, restBehind, Told};
 use command::asks_help;
 use command::fail;
+use command::number_in;
 use command::open;
 use command::wrong;
+use frame::list_frame;
 use libc::STDOUT_FILENO;
 use words::Rest;
 use words::put_words;
@@ -80,6 +84,31 @@ fn help() {
         STDOUT_FILENO,
         b"list FILE: reads raw words (- for standard input), four bytes each, the lowest first, and prints each as a line: docs/LISTINGS.md has the lines\n",
     );
+    io::write_all(
+        STDOUT_FILENO,
+        b"list FILE FRAME: reads a house file, and prints the words of one frame, 0 to 15, of the memory that it holds so; nothing is run\n",
+    );
+}
+
+// The frame that the second word names.
+fn frame_of(fd: i32, name: &[u8]) {
+    let mut word = io::buffer();
+    let length = os::arg(2, &mut word);
+    let n = number_in(&word[..length], 15);
+    if !n.said {
+        wrong(b"FRAME, a decimal below 16", &word[..length]);
+        return;
+    }
+    list_frame(fd, name, n.value as usize);
+}
+
+// What is open as fd, with so many words.
+fn list_open(fd: i32, name: &[u8], given: usize) {
+    if given > 2 {
+        frame_of(fd, name);
+        return;
+    }
+    list_words(fd, name);
 }
 
 fn main() {
@@ -91,11 +120,11 @@ fn main() {
     }
     let given = os::arg_count();
     if given < 2 {
-        wrong(b"FILE", b"fewer words");
+        wrong(b"FILE [FRAME]", b"fewer words");
         return;
     }
-    if given > 2 {
-        wrong(b"FILE", b"more words");
+    if given > 3 {
+        wrong(b"FILE [FRAME]", b"more words");
         return;
     }
     let fd = open(&path[..length]);
@@ -103,6 +132,6 @@ fn main() {
         fail(&path[..length]);
         return;
     }
-    list_words(fd, &path[..length]);
+    list_open(fd, &path[..length], given);
     libc::close(fd);
 }

@@ -20,7 +20,7 @@ use Rattle.housefile.specs.declared.Reader.{Reader}
 use Rattle.housefile.proofs.WholeFile.{reads, wrong-fixed}
 use Rattle.housefile.proofs.Parts.{take-there}
 use Rattle.night_run.specs.Pieces.{AllOf, FileOf}
-use Rattle.night_run.specs.Ran.{unbooted, afterBoot, ranOf, handed, answerIn, Told}
+use Rattle.night_run.specs.Ran.{unbooted, afterBoot, ranOf, heldOf, handedBy, answerIn, ToldBy, Told}
 use Rattle.night_run.specs.declared.input.Taken.{Taken}
 use Rattle.night_run.specs.declared.Ran.{Ran}
 
@@ -43,6 +43,11 @@ unfolding ranOf verdictOf
 file-refused n d (wrong o) e z = ap (λ (v : Verdict). unbooted (v .number) (v .detail)) e
 file-refused n d (right f) e z = absurd (z (ap (λ (v : Verdict). v .number) e))
 
+pub file-unheld : (n d : ℕ) (x : Reading) → verdict n d ≡ verdictOf x → (n ≡ 0 → ⊥) → unbooted n d ≡ heldOf x
+unfolding heldOf verdictOf
+file-unheld n d (wrong o) e z = ap (λ (v : Verdict). unbooted (v .number) (v .detail)) e
+file-unheld n d (right f) e z = absurd (z (ap (λ (v : Verdict). v .number) e))
+
 chosen : (b : Bool) (f : File) (o n d : ℕ) → verdict n d ≡ verdictOf (if b then right f else wrong o) → n ≡ 0 → ranOf (right f) ≡ ranOf (if b then right f else wrong o)
 unfolding verdictOf
 chosen true f o n d e z = refl
@@ -52,6 +57,15 @@ pub file-done : (n d : ℕ) (s : Read) → verdict n d ≡ verdictOf (answerOf s
     afterBoot (bootCall (take (s .reader .lists) (s .pages)) (getD (s .turns) 0 0) (take (s .reader .total) (s .frames)) (s .memory)) (getD (s .turns) 1 0) ≡ ranOf (answerOf s)
 unfolding ranOf answerOf
 file-done n d s e z = chosen (not (s .reader .wrong) && eqb (s .reader .last) 4) _ (s .reader .start) n d e z
+
+held-chosen : (b : Bool) (f : File) (o n d : ℕ) → verdict n d ≡ verdictOf (if b then right f else wrong o) → n ≡ 0 → heldOf (right f) ≡ heldOf (if b then right f else wrong o)
+unfolding verdictOf
+held-chosen true f o n d e z = refl
+held-chosen false f o n d e z = absurd (let k : n ≡ 15 = ap (λ (v : Verdict). v .number) e in omega arith)
+
+pub file-held : (n d : ℕ) (s : Read) → verdict n d ≡ verdictOf (answerOf s) → n ≡ 0 → answered (verdict 0 0) (world noHouse (s .memory)) ≡ heldOf (answerOf s)
+unfolding heldOf answerOf
+file-held n d s e z = held-chosen (not (s .reader .wrong) && eqb (s .reader .last) 4) _ (s .reader .start) n d e z
 
 -- ---- the whole file
 
@@ -72,17 +86,17 @@ told-whole t s bs file all of same e =
     over false true e f = refl
     over false false e f = cc
 
-pub handed-failed : (t : Taken) (file : List ℕ) → t .failed ≡ true → unbooted 0 0 ≡ handed t file
-unfolding handed
-handed-failed t file e = rw e
+pub handed-failed : (of : Reading → Answered) (t : Taken) (file : List ℕ) → t .failed ≡ true → unbooted 0 0 ≡ handedBy of t file
+unfolding handedBy
+handed-failed of t file e = rw e
 
-pub handed-read : (t : Taken) (file : List ℕ) (a : Answered) (x : Reading) → t .failed ≡ false → x ≡ readingOf file → a ≡ ranOf x → a ≡ handed t file
-unfolding handed
-handed-read t file a x f e h = rw f (h ∙ ap ranOf e)
+pub handed-read : (of : Reading → Answered) (t : Taken) (file : List ℕ) (a : Answered) (x : Reading) → t .failed ≡ false → x ≡ readingOf file → a ≡ of x → a ≡ handedBy of t file
+unfolding handedBy
+handed-read of t file a x f e h = rw f (h ∙ ap of e)
 
-read-on : (t : Taken) (file : List ℕ) → t .failed ≡ false → handed t file ≡ ranOf (readingOf file)
-unfolding handed
-read-on t file e = rw e
+read-on : (of : Reading → Answered) (t : Taken) (file : List ℕ) → t .failed ≡ false → handedBy of t file ≡ of (readingOf file)
+unfolding handedBy
+read-on of t file e = rw e
 
 -- ---- what is handed on
 
@@ -92,22 +106,25 @@ ranWith t n d h m = record { taken = t; number = n; detail = d; house = h; memor
 pub no-house : (t : Taken) (n d : ℕ) (h : House) (m : List ℕ) → h ≡ noHouse → ranWith t n d h m ≡ ranWith t n d noHouse m
 no-house t n d h m e = ap (λ (y : House). ranWith t n d y m) e
 
-abbrev pub Handed : Ran → Type 0
-Handed x = (bs : List ℕ) × AllOf noRead (x .taken) bs × ((file : List ℕ) → FileOf (x .taken) bs file → answerIn x ≡ handed (x .taken) file)
+abbrev pub HandedBy : (Reading → Answered) → Ran → Type 0
+HandedBy of x = (bs : List ℕ) × AllOf noRead (x .taken) bs × ((file : List ℕ) → FileOf (x .taken) bs file → answerIn x ≡ handedBy of (x .taken) file)
 
-pub ran-failed : (t : Taken) (x : Ran) (bs : List ℕ) → AllOf noRead t bs → t .failed ≡ true → x ≡ ranWith t 0 0 noHouse (replicate 16384 0) → Handed x
-ran-failed t x bs all f is = subst Handed (sym is) (bs, all, λ file _. handed-failed t file f)
+abbrev pub Handed : Ran → Type 0
+Handed x = HandedBy ranOf x
+
+pub ran-failed : (of : Reading → Answered) (t : Taken) (x : Ran) (bs : List ℕ) → AllOf noRead t bs → t .failed ≡ true → x ≡ ranWith t 0 0 noHouse (replicate 16384 0) → HandedBy of x
+ran-failed of t x bs all f is = subst (HandedBy of) (sym is) (bs, all, λ file _. handed-failed of t file f)
 
 module _ (t : Taken) (turns pages frames memory bs : List ℕ) (all : AllOf noRead t bs) (e : read (t .reader) turns pages frames memory ≡ fed noRead bs) (f : t .failed ≡ false)
     (r : Reader) (same : r ≡ t .reader) (n d : ℕ) (v : verdict n d ≡ verdictOf (answerOf (read r turns pages frames memory))) where
   now : verdict n d ≡ verdictOf (answerOf (read (t .reader) turns pages frames memory))
   now = v ∙ ap (λ (y : Reader). verdictOf (answerOf (read y turns pages frames memory))) same
 
-  whole : (a : Answered) → a ≡ ranOf (answerOf (read (t .reader) turns pages frames memory)) → (file : List ℕ) → FileOf t bs file → a ≡ handed t file
-  whole a h file of = handed-read t file a _ f (told-whole t _ bs file all of refl e) h
+  whole : (of : Reading → Answered) (a : Answered) → a ≡ of (answerOf (read (t .reader) turns pages frames memory)) → (file : List ℕ) → FileOf t bs file → a ≡ handedBy of t file
+  whole of a h file is = handed-read of t file a _ f (told-whole t _ bs file all is refl e) h
 
   pub ran-wrong : (x : Ran) → (n ≡ 0 → ⊥) → x ≡ ranWith t n d noHouse (replicate 16384 0) → Handed x
-  ran-wrong x z is = subst Handed (sym is) (bs, all, whole (unbooted n d) (file-refused n d _ now z))
+  ran-wrong x z is = subst Handed (sym is) (bs, all, whole ranOf (unbooted n d) (file-refused n d _ now z))
 
   pub ran-right : (r₂ : Reader) (k g : ℕ) (h : House) (m : List ℕ) → r₂ ≡ t .reader → n ≡ 0
       → answered (verdict k g) (world h m) ≡ afterBoot (bootCall (take (r₂ .lists) pages) (getD turns 0 0) (take (r₂ .total) frames) memory) (getD turns 1 0)
@@ -115,17 +132,32 @@ module _ (t : Taken) (turns pages frames memory bs : List ℕ) (all : AllOf noRe
   ran-right r₂ k g h m s z a = (
     bs,
     all,
-    whole (answered (verdict k g) (world h m))
+    whole ranOf (answered (verdict k g) (world h m))
         (a
         ∙ ap (λ (y : Reader). afterBoot (bootCall (take (y .lists) pages) (getD turns 0 0) (take (y .total) frames) memory) (getD turns 1 0)) s
         ∙ file-done n d (read (t .reader) turns pages frames memory) now z),
   )
 
+  pub held-wrong : (x : Ran) → (n ≡ 0 → ⊥) → x ≡ ranWith t n d noHouse (replicate 16384 0) → HandedBy heldOf x
+  held-wrong x z is = subst (HandedBy heldOf) (sym is) (bs, all, whole heldOf (unbooted n d) (file-unheld n d _ now z))
+
+  pub held-right : (h : House) → h ≡ noHouse → n ≡ 0 → HandedBy heldOf (ranWith t 0 0 h memory)
+  held-right h is z =
+      subst (HandedBy heldOf) (sym (no-house t 0 0 h memory is))
+      (bs, all, whole heldOf (answered (verdict 0 0) (world noHouse memory)) (file-held n d (read (t .reader) turns pages frames memory) now z))
+
 -- ---- what a program prints for it
+
+module _ (of : Reading → Answered) (printed : Answered → List ℕ) (x : Ran) (h : HandedBy of x) where
+  pub nothing-by : x .taken .failed ≡ true → ToldBy (λ (r : Reading). printed (of r)) (x .taken) []
+  nothing-by f = (h .0, h .1, λ file _. rw f)
+
+  pub answer-by : x .taken .failed ≡ false → ToldBy (λ (r : Reading). printed (of r)) (x .taken) (printed (answerIn x))
+  answer-by f = (h .0, h .1, λ file is. ap printed (h .2 file is ∙ read-on of (x .taken) file f) ∙ rw f)
 
 module _ (printed : Answered → List ℕ) (x : Ran) (h : Handed x) where
   pub told-nothing : x .taken .failed ≡ true → Told printed (x .taken) []
-  told-nothing f = (h .0, h .1, λ file _. rw f)
+  told-nothing f = nothing-by ranOf printed x h f
 
   pub told-answer : x .taken .failed ≡ false → Told printed (x .taken) (printed (answerIn x))
-  told-answer f = (h .0, h .1, λ file of. ap printed (h .2 file of ∙ read-on (x .taken) file f) ∙ rw f)
+  told-answer f = answer-by ranOf printed x h f

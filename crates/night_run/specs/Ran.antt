@@ -26,9 +26,20 @@ unfoldable pub ranOf : Reading → Answered
 ranOf (wrong at) = unbooted 15 at
 ranOf (right f) = afterBoot (bootCall (f .pages) (f .q) (f .frames) (f .memory)) (f .run)
 
--- for a file, once it is read: nothing where a read failed
-unfoldable pub handed : Taken → List ℕ → Answered
-handed t file = if t .failed then unbooted 0 0 else ranOf (readingOf file)
+-- what a file holds before a house is booted of it: the memory, and no house
+unfoldable pub heldOf : Reading → Answered
+heldOf (wrong at) = unbooted 15 at
+heldOf (right f) = answered (verdict 0 0) (world noHouse (f .memory))
+
+-- for a file, once it is read, by what is made of it: nothing where a read failed
+unfoldable pub handedBy : (Reading → Answered) → Taken → List ℕ → Answered
+handedBy of t file = if t .failed then unbooted 0 0 else of (readingOf file)
+
+abbrev pub handed : Taken → List ℕ → Answered
+handed t file = handedBy ranOf t file
+
+abbrev pub held : Taken → List ℕ → Answered
+held t file = handedBy heldOf t file
 
 -- what is handed on, as an answer
 abbrev pub answerIn : Ran → Answered
@@ -36,10 +47,18 @@ answerIn x = answered (verdict (x .number) (x .detail)) (world (x .house) (x .me
 
 -- ---- what a program prints
 
--- for a file, once it is read, by what it prints for an answer; nothing where a read failed
-abbrev pub toldBy : (Answered → List ℕ) → Taken → List ℕ → List ℕ
-toldBy printed t file = if t .failed then [] else printed (ranOf (readingOf file))
+-- for a file, once it is read, by what it prints for what the file comes to; nothing where a read failed
+abbrev pub toldBy : (Reading → List ℕ) → Taken → List ℕ → List ℕ
+toldBy printed t file = if t .failed then [] else printed (readingOf file)
 
 -- the text is the one for every file that was read like this
+abbrev pub ToldBy : (Reading → List ℕ) → Taken → List ℕ → Type 0
+ToldBy printed t text = (bs : List ℕ) × AllOf noRead t bs × ((file : List ℕ) → FileOf t bs file → text ≡ toldBy printed t file)
+
+-- by what it prints for the house and memory after the run
 abbrev pub Told : (Answered → List ℕ) → Taken → List ℕ → Type 0
-Told printed t text = (bs : List ℕ) × AllOf noRead t bs × ((file : List ℕ) → FileOf t bs file → text ≡ toldBy printed t file)
+Told printed t text = ToldBy (λ (r : Reading). printed (ranOf r)) t text
+
+-- by what it prints for the memory that the file holds
+abbrev pub ToldHeld : (Answered → List ℕ) → Taken → List ℕ → Type 0
+ToldHeld printed t text = ToldBy (λ (r : Reading). printed (heldOf r)) t text

@@ -15,7 +15,7 @@ ghost use Rattle.house.specs.Turns.{world};
 ghost use Rattle.house.specs.Calls.{answered, bootCall};
 ghost use Rattle.housefile.specs.Reader.{read, noReader, noRead, fed};
 ghost use Rattle.night_run.specs.Pieces.{input, afterRead, Brought, AllOf, FileOf};
-ghost use Rattle.night_run.specs.Ran.{afterBoot, handed, answerIn};
+ghost use Rattle.night_run.specs.Ran.{afterBoot, handed, held, answerIn};
 use boot::boot;
 use house::Answer;
 use house::House;
@@ -144,6 +144,32 @@ pub fn run_file(fd: i32) -> Ran
         taken,
         number: a.number,
         detail: a.detail,
+        house,
+        memory,
+    }
+}
+
+// Reads what is open as fd over 16 zero frames, and boots nothing.
+pub fn read_file(fd: i32) -> Ran
+    ensures { λ x. ⌜ ((bs : List ℕ) × AllOf noRead (x .taken) bs × ((file : List ℕ) → FileOf (x .taken) bs file → answerIn x ≡ held (x .taken) file)) ⌝ }
+{
+    let mut turns = [0u32; 2];
+    let mut pages = [0u32; 8];
+    let mut frames = [0u32; 2048];
+    let mut memory = [0u32; 16384];
+    let taken = take_file(fd, &mut turns, &mut pages, &mut frames, &mut memory);
+    if taken.failed() {
+        return Ran::unbooted(taken, 0, 0);
+    }
+    let f = finished(taken.reader());
+    if f.number != 0 {
+        return Ran::unbooted(taken, f.number, f.detail);
+    }
+    let house = House::none();
+    Ran {
+        taken,
+        number: 0,
+        detail: 0,
         house,
         memory,
     }

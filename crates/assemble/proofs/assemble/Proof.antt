@@ -3,46 +3,32 @@ use Rattle.assemble.specs.Reading.{noWords}
 use borrow.Author.Needs.{needs}
 use Rattle.assemble.proofs.assemble.Statement.{statement}
 use Rattle.assemble.proofs.assemble.Tie as tie
-use Rattle.assemble.proofs.assemble.Reads as reads
-use Rattle.assemble.proofs.assemble.Lts as lts
-use Rattle.assemble.proofs.answer.Reads as answer-reads
-use Rattle.assemble.proofs.read_text.Reads as read-text-reads
-use Rattle.command.proofs.fail.Reads as fail-reads
 
--- src/main.rt:163:27
 slice-aggregate-read-text : tie.Need-slice-aggregate-read-text
 slice-aggregate-read-text c = search needs
 
--- src/main.rt:163:38
 slice-aggregate-read-text-2 : tie.Need-slice-aggregate-read-text-2
 slice-aggregate-read-text-2 c = search needs
 
--- src/main.rt:163:9
 read-text-requires : tie.Need-read-text-requires
 unfolding noWords
 read-text-requires c κs = (refl, refl)
 
--- src/main.rt:165:9
 fail-requires : tie.Need-fail-requires
 fail-requires c κs = search needs
 
--- src/main.rt:166:9
 returns : tie.Need-returns
 returns c = search needs
 
--- src/main.rt:169:16
 slice-aggregate-answer : tie.Need-slice-aggregate-answer
 slice-aggregate-answer c = search needs
 
--- src/main.rt:169:23
 slice-aggregate-answer-2 : tie.Need-slice-aggregate-answer-2
 slice-aggregate-answer-2 c = search needs
 
--- src/main.rt:169:5
 answer-requires : tie.Need-answer-requires
 answer-requires c κs = (c .before .before .before .before .before .before .read-text .ensures .0 (c .before .before .before .if1 .left), (c .before .before .before .before .before .before .read-text .ensures .1, search needs))
 
--- src/main.rt:160:1
 returns-2 : tie.Need-returns-2
 returns-2 c = search needs
 

@@ -8,9 +8,6 @@ use Rattle.decimal.specs.Texts.{text, put}
 use Rattle.assemble.proofs.Pieces.{raw-on, raw-done}
 use Rattle.assemble.proofs.put_words.Statement.{statement}
 use Rattle.assemble.proofs.put_words.Tie as tie
-use Rattle.assemble.proofs.put_words.Reads as reads
-use Rattle.assemble.proofs.put_words.Lts as lts
-use Rattle.decimal.proofs.put_raw.Reads as put-raw-reads
 
 abbrev Inv-loop : tie.InvT-loop
 Inv-loop words out₀ end₀ i₀ out end i = (put (text out end) (raw (drop i words)) ≡ put (text out₀ 0) (raw words)) × (length out ≡ length out₀) × (i ≤ length words)
@@ -18,39 +15,30 @@ Inv-loop words out₀ end₀ i₀ out end i = (put (text out end) (raw (drop i w
 abbrev μ-loop : tie.MeasureT-loop
 μ-loop words out₀ end₀ i₀ out end i = length words - i
 
--- src/main.rt:94:5
 loop-holds : tie.Need-loop-holds Inv-loop μ-loop
 loop-holds c = (refl, refl, omega arith)
 
--- src/main.rt:95:33
 mul-put-raw : tie.Need-mul-put-raw Inv-loop μ-loop
 mul-put-raw c = search needs
 
--- src/main.rt:95:33
 shared-slice-read-put-raw : tie.Need-shared-slice-read-put-raw Inv-loop μ-loop
 shared-slice-read-put-raw c = search needs
 
--- src/main.rt:95:9
 put-raw-requires : tie.Need-put-raw-requires Inv-loop μ-loop
 put-raw-requires c κs = search needs
 
--- src/main.rt:96:9
 add-i : tie.Need-add-i Inv-loop μ-loop
 add-i c = search needs
 
--- src/main.rt:94:5
 loop-less : tie.Need-loop-less Inv-loop μ-loop
 loop-less c = omega arith
 
--- src/main.rt:94:5
 loop-again : tie.Need-loop-again Inv-loop μ-loop
 loop-again c = (raw-on (c .before .before .before .before .before .before .before .before .before .args .words .now) (c .before .before .before .before .before .before .loop .i) (c .before .before .before .before .before .before .loop .out) (c .before .before .before .before .before .before .loop .end) (omega arith) (c .before .before .before .before .before .before .loop .inv .0) (c .before .before .put-raw .ensures .stands), search needs, omega arith)
 
--- src/main.rt:89:1
 same-length : tie.Need-same-length Inv-loop μ-loop
 same-length c = search needs
 
--- src/main.rt:89:1
 returns : tie.Need-returns Inv-loop μ-loop
 returns c = raw-done (c .before .before .before .before .args .words .now) (c .before .loop .i) (c .before .loop .out) (c .before .loop .end) (omega arith) (c .before .loop .inv .0)
 

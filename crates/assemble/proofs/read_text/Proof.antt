@@ -7,13 +7,6 @@ use Rattle.assemble.specs.Reading.{held, Fits, Behind}
 use Rattle.assemble.proofs.Pieces.{behind-none, behind-more, whole-of, no-fail}
 use Rattle.assemble.proofs.read_text.Statement.{statement}
 use Rattle.assemble.proofs.read_text.Tie as tie
-use Rattle.assemble.proofs.read_text.Reads as reads
-use Rattle.assemble.proofs.read_text.Lts as lts
-use Rattle.assemble.proofs.reading.fed.Reads as fed-reads
-use Rattle.assemble.proofs.reading.finished.Reads as finished-reads
-use Rattle.io.proofs.buffer.Reads as buffer-reads
-use Rattle.io.proofs.count.Reads as count-reads
-use Rattle.libc.proofs.read.Reads as read-reads
 
 abbrev Inv-loop : tie.InvT-loop
 Inv-loop fd line₀ words₀ at₀ bytes₀ line words at bytes = Behind (held at line words) bytes × Fits at line × (length line ≡ length line₀) × (length words ≡ length words₀) × (bytes < 2 ^ 64)
@@ -21,107 +14,81 @@ Inv-loop fd line₀ words₀ at₀ bytes₀ line words at bytes = Behind (held a
 abbrev μ-loop : tie.MeasureT-loop
 μ-loop fd line₀ words₀ at₀ bytes₀ line words at bytes = 2 ^ 64 - bytes
 
--- src/main.rt:45:5
 loop-holds : tie.Need-loop-holds Inv-loop μ-loop
 loop-holds c = (behind-none (c .before .before .args .line .now) (c .before .before .args .words .now) (c .before .before .pre .1), record { size = c .before .before .pre .0; within = omega arith }, refl, refl, omega arith)
 
--- src/main.rt:46:26
 buffer-requires : tie.Need-buffer-requires Inv-loop μ-loop
 buffer-requires c κs = search needs
 
--- src/main.rt:47:34
 slice-aggregate-read : tie.Need-slice-aggregate-read Inv-loop μ-loop
 slice-aggregate-read c = search needs
 
--- src/main.rt:47:13
 read-requires : tie.Need-read-requires Inv-loop μ-loop
 read-requires c κs = search needs
 
--- src/main.rt:49:13
 same-length : tie.Need-same-length Inv-loop μ-loop
 same-length c = search needs
 
--- src/main.rt:49:13
 same-length-2 : tie.Need-same-length-2 Inv-loop μ-loop
 same-length-2 c = search needs
 
--- src/main.rt:49:13
 returns : tie.Need-returns Inv-loop μ-loop
 returns c = (λ e. no-fail e, c .before .before .before .before .before .before .loop .inv .1)
 
--- src/main.rt:51:32
 slice-aggregate-count : tie.Need-slice-aggregate-count Inv-loop μ-loop
 slice-aggregate-count c = search needs
 
--- src/main.rt:51:13
 count-requires : tie.Need-count-requires Inv-loop μ-loop
 count-requires c κs = search needs
 
--- src/main.rt:53:17
 finished-requires : tie.Need-finished-requires Inv-loop μ-loop
 finished-requires c κs = c .before .before .before .before .before .before .before .before .before .before .before .loop .inv .1
 
--- src/main.rt:54:13
 same-length-3 : tie.Need-same-length-3 Inv-loop μ-loop
 same-length-3 c = search needs
 
--- src/main.rt:54:13
 same-length-4 : tie.Need-same-length-4 Inv-loop μ-loop
 same-length-4 c = search needs
 
--- src/main.rt:54:13
 returns-2 : tie.Need-returns-2 Inv-loop μ-loop
 returns-2 c = (λ _. whole-of _ _ _ (c .before .before .before .before .before .before .before .before .before .before .before .before .before .before .loop .inv .0) (omega (arith, c .before .before .before .before .before .before .before .before .before .before .before .before .before .loop-test)) (c .before .before .finished .ensures .0), c .before .before .finished .ensures .1)
 
--- src/main.rt:60:19
 sub-if3 : tie.Need-sub-if3 Inv-loop μ-loop
 sub-if3 c = search needs
 
--- src/main.rt:61:13
 same-length-5 : tie.Need-same-length-5 Inv-loop μ-loop
 same-length-5 c = search needs
 
--- src/main.rt:61:13
 same-length-6 : tie.Need-same-length-6 Inv-loop μ-loop
 same-length-6 c = search needs
 
--- src/main.rt:61:13
 returns-3 : tie.Need-returns-3 Inv-loop μ-loop
 returns-3 c = (λ e. no-fail e, c .before .before .before .before .before .before .before .before .before .before .loop .inv .1)
 
--- src/main.rt:63:35
 array-share-prefix-buffer : tie.Need-array-share-prefix-buffer Inv-loop μ-loop
 array-share-prefix-buffer c = search needs
 
--- src/main.rt:63:35
 slice-aggregate-fed : tie.Need-slice-aggregate-fed Inv-loop μ-loop
 slice-aggregate-fed c = search needs
 
--- src/main.rt:63:9
 fed-requires : tie.Need-fed-requires Inv-loop μ-loop
 fed-requires c κs = c .before .before .before .before .before .before .before .before .before .before .before .before .before .loop .inv .1
 
--- src/main.rt:64:9
 add-bytes : tie.Need-add-bytes Inv-loop μ-loop
 add-bytes c = search needs
 
--- src/main.rt:45:5
 loop-less : tie.Need-loop-less Inv-loop μ-loop
 loop-less c = omega (arith, c .before .before .before .before .before .before .before .before .before .if2 .left)
 
--- src/main.rt:45:5
 loop-again : tie.Need-loop-again Inv-loop μ-loop
 loop-again c = (behind-more _ _ _ _ _ (c .before .before .before .before .before .before .before .before .before .before .before .before .before .before .before .before .before .before .loop .inv .0) (c .before .before .before .before .fed .ensures .0) (c .before .before .before .before .before .before .before .before .before .before .count .ensures .0 .1), c .before .before .before .before .fed .ensures .1, search needs, search needs, omega arith)
 
--- src/main.rt:34:1
 same-length-7 : tie.Need-same-length-7 Inv-loop μ-loop
 same-length-7 c = search needs
 
--- src/main.rt:34:1
 same-length-8 : tie.Need-same-length-8 Inv-loop μ-loop
 same-length-8 c = search needs
 
--- src/main.rt:34:1
 returns-4 : tie.Need-returns-4 Inv-loop μ-loop
 returns-4 c = (λ e. no-fail e, c .before .loop .inv .1)
 

@@ -4,37 +4,25 @@ use Rattle.assemble.proofs.Pieces.{raw-in}
 use borrow.Author.Needs.{needs}
 use Rattle.assemble.proofs.write_some.Statement.{statement}
 use Rattle.assemble.proofs.write_some.Tie as tie
-use Rattle.assemble.proofs.write_some.Reads as reads
-use Rattle.assemble.proofs.write_some.Lts as lts
-use Rattle.assemble.proofs.put_words.Reads as put-words-reads
-use Rattle.assemble.proofs.show.Reads as show-reads
-use Rattle.io.proofs.buffer.Reads as buffer-reads
 
--- src/main.rt:111:19
 buffer-requires : tie.Need-buffer-requires
 buffer-requires c κs = search needs
 
--- src/main.rt:112:30
 slice-aggregate-put-words : tie.Need-slice-aggregate-put-words
 slice-aggregate-put-words c = search needs
 
--- src/main.rt:112:9
 put-words-requires : tie.Need-put-words-requires
 put-words-requires c κs = search needs
 
--- src/main.rt:113:17
 array-share-prefix-out : tie.Need-array-share-prefix-out
 array-share-prefix-out c = raw-in (c .before .before .before .before .before .args .words .now) _ _ _ (sym (c .before .before .before .buffer .ensures)) (c .before .before .before .before .before .pre) (c .before .put-words .ensures) .2
 
--- src/main.rt:113:17
 slice-aggregate-show : tie.Need-slice-aggregate-show
 slice-aggregate-show c = let p = raw-in (c .before .before .before .before .before .before .args .words .now) _ _ _ (sym (c .before .before .before .before .buffer .ensures)) (c .before .before .before .before .before .before .pre) (c .before .before .put-words .ensures) in p .0 ∙ ap length (sym (p .1))
 
--- src/main.rt:113:5
 show-requires : tie.Need-show-requires
 show-requires c κs = raw-in (c .before .before .before .before .before .before .args .words .now) _ _ _ (sym (c .before .before .before .before .buffer .ensures)) (c .before .before .before .before .before .before .pre) (c .before .before .put-words .ensures) .1
 
--- src/main.rt:108:1
 returns : tie.Need-returns
 returns c = search needs
 

@@ -4,11 +4,6 @@ use Prim.Native.Nat.{_-_, _≤_}
 use Rattle.assemble.proofs.Pieces.{few-taken}
 use Rattle.assemble.proofs.write_words.Statement.{statement}
 use Rattle.assemble.proofs.write_words.Tie as tie
-use Rattle.assemble.proofs.write_words.Reads as reads
-use Rattle.assemble.proofs.write_words.Lts as lts
-use Rattle.assemble.proofs.next.Reads as next-reads
-use Rattle.assemble.proofs.write_some.Reads as write-some-reads
-use Rattle.command.proofs.fail.Reads as fail-reads
 
 abbrev Inv-loop : tie.InvT-loop
 Inv-loop words count at₀ t5 at = at ≤ count
@@ -16,55 +11,42 @@ Inv-loop words count at₀ t5 at = at ≤ count
 abbrev μ-loop : tie.MeasureT-loop
 μ-loop words count at₀ t5 at = count - at
 
--- src/main.rt:131:5
 loop-holds : tie.Need-loop-holds Inv-loop μ-loop
 loop-holds c = omega arith
 
--- src/main.rt:132:13
 next-requires : tie.Need-next-requires Inv-loop μ-loop
 next-requires c κs = omega arith
 
--- src/main.rt:133:24
 mul-write-some : tie.Need-mul-write-some Inv-loop μ-loop
 mul-write-some c = search needs
 
--- src/main.rt:133:24
 sub-write-some : tie.Need-sub-write-some Inv-loop μ-loop
 sub-write-some c = omega (arith, c .next .ensures)
 
--- src/main.rt:133:24
 part-write-some-start : tie.Need-part-write-some-start Inv-loop μ-loop
 part-write-some-start c = omega (arith, c .next .ensures)
 
--- src/main.rt:133:24
 part-write-some-end : tie.Need-part-write-some-end Inv-loop μ-loop
 part-write-some-end c = omega (arith, c .next .ensures, c .before .before .before .before .pre .1)
 
--- src/main.rt:133:13
 write-some-requires : tie.Need-write-some-requires Inv-loop μ-loop
 write-some-requires c κs = few-taken (c .before .before .before .loop .at) (c .before .next .result) (c .before .before .before .before .before .args .words .now) (omega (arith, c .before .next .ensures))
 
--- src/main.rt:134:18
 slice-aggregate-fail : tie.Need-slice-aggregate-fail Inv-loop μ-loop
 slice-aggregate-fail c = search needs
 
--- src/main.rt:134:13
 fail-requires : tie.Need-fail-requires Inv-loop μ-loop
 fail-requires c κs = search needs
 
--- src/main.rt:135:13
 returns : tie.Need-returns Inv-loop μ-loop
 returns c = search needs
 
--- src/main.rt:131:5
 loop-less : tie.Need-loop-less Inv-loop μ-loop
 loop-less c = omega (arith, c .before .before .before .next .ensures)
 
--- src/main.rt:131:5
 loop-again : tie.Need-loop-again Inv-loop μ-loop
 loop-again c = omega (arith, c .before .before .before .next .ensures)
 
--- src/main.rt:127:1
 returns-2 : tie.Need-returns-2 Inv-loop μ-loop
 returns-2 c = search needs
 

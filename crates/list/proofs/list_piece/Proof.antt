@@ -5,32 +5,22 @@ use Rattle.list.proofs.Pieces.{lines-in, told}
 use borrow.Author.Needs.{needs}
 use Rattle.list.proofs.list_piece.Statement.{statement}
 use Rattle.list.proofs.list_piece.Tie as tie
-use Rattle.list.proofs.list_piece.Reads as reads
-use Rattle.list.proofs.list_piece.Lts as lts
-use Rattle.list.proofs.show.Reads as show-reads
-use Rattle.list.proofs.words.put_words.Reads as put-words-reads
 
--- src/main.rt:38:33
 slice-aggregate-put-words : tie.Need-slice-aggregate-put-words
 slice-aggregate-put-words c = search needs
 
--- src/main.rt:38:9
 put-words-requires : tie.Need-put-words-requires
 put-words-requires c κs = search needs
 
--- src/main.rt:41:34
 array-share-prefix-out : tie.Need-array-share-prefix-out
 array-share-prefix-out c = lines-in _ _ _ _ _ refl (c .before .before .before .before .before .pre .0) (c .before .before .put-words .ensures .0) .2
 
--- src/main.rt:41:34
 slice-aggregate-show : tie.Need-slice-aggregate-show
 slice-aggregate-show c = let p = lines-in _ _ _ _ _ refl (c .before .before .before .before .before .before .pre .0) (c .before .before .before .put-words .ensures .0) in p .0 ∙ ap length (sym (p .1))
 
--- src/main.rt:41:9
 show-requires : tie.Need-show-requires
 show-requires c κs = told (c .before .before .before .before .before .before .args .r) (c .before .before .before .before .before .before .args .piece .now) _ (c .before .before .before .before .before .before .pre .1) (λ i. omega (arith, c .before .before .before .before .before .shared-slice-known .given i)) (lines-in _ _ _ _ _ refl (c .before .before .before .before .before .before .pre .0) (c .before .before .before .put-words .ensures .0) .1)
 
--- src/main.rt:32:1
 returns : tie.Need-returns
 returns c = (c .before .before .before .before .put-words .ensures .1, λ i. omega (arith, c .before .before .before .before .before .before .shared-slice-known .given i))
 

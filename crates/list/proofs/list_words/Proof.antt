@@ -4,15 +4,6 @@ use Rattle.list.specs.Words.{Behind}
 use Rattle.list.proofs.Pieces.{behind-none, behind-more}
 use Rattle.list.proofs.list_words.Statement.{statement}
 use Rattle.list.proofs.list_words.Tie as tie
-use Rattle.list.proofs.list_words.Reads as reads
-use Rattle.list.proofs.list_words.Lts as lts
-use Rattle.command.proofs.fail.Reads as fail-reads
-use Rattle.io.proofs.buffer.Reads as buffer-reads
-use Rattle.io.proofs.count.Reads as count-reads
-use Rattle.libc.proofs.read.Reads as read-reads
-use Rattle.list.proofs.finish.Reads as finish-reads
-use Rattle.list.proofs.list_piece.Reads as list-piece-reads
-use Rattle.list.proofs.words.Rest.none.Reads as none-reads
 
 abbrev Inv-loop : tie.InvT-loop
 Inv-loop fd name rest₀ left₀ t9 rest left = Behind rest
@@ -20,87 +11,66 @@ Inv-loop fd name rest₀ left₀ t9 rest left = Behind rest
 abbrev μ-loop : tie.MeasureT-loop
 μ-loop fd name rest₀ left₀ t9 rest left = left
 
--- src/main.rt:54:9
 none-requires : tie.Need-none-requires Inv-loop μ-loop
 none-requires c κs = search needs
 
--- src/main.rt:56:5
 loop-holds : tie.Need-loop-holds Inv-loop μ-loop
 loop-holds c = behind-none _ (c .none .ensures)
 
--- src/main.rt:57:26
 buffer-requires : tie.Need-buffer-requires Inv-loop μ-loop
 buffer-requires c κs = search needs
 
--- src/main.rt:58:34
 slice-aggregate-read : tie.Need-slice-aggregate-read Inv-loop μ-loop
 slice-aggregate-read c = search needs
 
--- src/main.rt:58:13
 read-requires : tie.Need-read-requires Inv-loop μ-loop
 read-requires c κs = search needs
 
--- src/main.rt:60:13
 fail-requires : tie.Need-fail-requires Inv-loop μ-loop
 fail-requires c κs = search needs
 
--- src/main.rt:61:13
 returns : tie.Need-returns Inv-loop μ-loop
 returns c = search needs
 
--- src/main.rt:63:32
 slice-aggregate-count : tie.Need-slice-aggregate-count Inv-loop μ-loop
 slice-aggregate-count c = search needs
 
--- src/main.rt:63:13
 count-requires : tie.Need-count-requires Inv-loop μ-loop
 count-requires c κs = search needs
 
--- src/main.rt:65:13
 finish-requires : tie.Need-finish-requires Inv-loop μ-loop
 finish-requires c κs = search needs
 
--- src/main.rt:66:13
 returns-2 : tie.Need-returns-2 Inv-loop μ-loop
 returns-2 c = search needs
 
--- src/main.rt:68:34
 array-share-prefix-buffer : tie.Need-array-share-prefix-buffer Inv-loop μ-loop
 array-share-prefix-buffer c = search needs
 
--- src/main.rt:68:34
 slice-aggregate-list-piece : tie.Need-slice-aggregate-list-piece Inv-loop μ-loop
 slice-aggregate-list-piece c = search needs
 
--- src/main.rt:68:13
 list-piece-requires : tie.Need-list-piece-requires Inv-loop μ-loop
 list-piece-requires c κs = (omega (arith, c .before .before .count .ensures .0, c .before .before .before .before .before .before .before .before .buffer .ensures, c .before .before .before .before .before .before .read .kept), c .before .before .before .before .before .before .before .before .before .before .loop .inv)
 
--- src/main.rt:70:18
 slice-aggregate-fail : tie.Need-slice-aggregate-fail Inv-loop μ-loop
 slice-aggregate-fail c = search needs
 
--- src/main.rt:70:13
 fail-requires-2 : tie.Need-fail-requires-2 Inv-loop μ-loop
 fail-requires-2 c κs = search needs
 
--- src/main.rt:71:13
 returns-3 : tie.Need-returns-3 Inv-loop μ-loop
 returns-3 c = search needs
 
--- src/main.rt:74:9
 sub-left : tie.Need-sub-left Inv-loop μ-loop
 sub-left c = search needs
 
--- src/main.rt:56:5
 loop-less : tie.Need-loop-less Inv-loop μ-loop
 loop-less c = omega arith
 
--- src/main.rt:56:5
 loop-again : tie.Need-loop-again Inv-loop μ-loop
 loop-again c = behind-more _ _ _ (c .before .before .before .before .before .before .before .before .before .before .before .before .before .before .loop .inv) (c .before .before .before .list-piece .ensures .1) (c .before .before .before .list-piece .ensures .0)
 
--- src/main.rt:53:1
 returns-4 : tie.Need-returns-4 Inv-loop μ-loop
 returns-4 c = search needs
 

@@ -4,46 +4,31 @@ use Rattle.assemble.proofs.Pieces.{held-length, ended-wrong, ended-righ
 use borrow.Author.Needs.{needs}
 use Rattle.assemble.proofs.reading.ended.Statement.{statement}
 use Rattle.assemble.proofs.reading.ended.Tie as tie
-use Rattle.assemble.proofs.reading.ended.Reads as reads
-use Rattle.assemble.proofs.reading.ended.Lts as lts
-use Rattle.assemble.proofs.reading.put_word.Reads as put-word-reads
-use Rattle.listing.proofs.reading.candidate.Reads as candidate-reads
-use Rattle.listing.proofs.reading.right.Reads as right-reads
-use Rattle.std.proofs.num.wrapping_add_u64.Reads as wrapping-add-u64-reads
 
--- src/reading.rt:53:9
 wrapping-add-u64-requires : tie.Need-wrapping-add-u64-requires
 wrapping-add-u64-requires c κs = search needs
 
--- src/reading.rt:54:15
 slice-aggregate-right : tie.Need-slice-aggregate-right
 slice-aggregate-right c = sym (held-length (c .before .before .before .before .args .a) (c .before .before .before .before .args .line .now) 0 (c .before .before .before .before .pre))
 
--- src/reading.rt:54:9
 right-requires : tie.Need-right-requires
 right-requires c κs = search needs
 
--- src/reading.rt:55:9
 returns : tie.Need-returns
 returns c = (ended-wrong (c .before .before .before .before .before .before .args .a) (c .before .before .before .before .before .before .args .line .now) (c .before .before .before .before .before .before .args .words .now) (c .before .before .before .before .before .before .pre) (c .before .before .before .wrapping-add-u64 .ensures) (c .before .right .ensures) (not-true _ (c .if1 .taken)), fits-same (c .before .before .before .before .before .before .args .a) (c .before .before .before .before .before .before .args .line .now) _ _ (c .before .before .before .before .before .before .pre))
 
--- src/reading.rt:61:23
 slice-aggregate-candidate : tie.Need-slice-aggregate-candidate
 slice-aggregate-candidate c = sym (held-length (c .before .before .before .before .before .before .before .args .a) (c .before .before .before .before .before .before .before .args .line .now) 0 (c .before .before .before .before .before .before .before .pre))
 
--- src/reading.rt:61:9
 candidate-requires : tie.Need-candidate-requires
 candidate-requires c κs = search needs
 
--- src/reading.rt:62:5
 put-word-requires : tie.Need-put-word-requires
 put-word-requires c κs = search needs
 
--- src/reading.rt:47:1
 same-length : tie.Need-same-length
 same-length c = search needs
 
--- src/reading.rt:47:1
 returns-2 : tie.Need-returns-2
 returns-2 c = (ended-right (c .before .before .before .before .before .before .before .before .before .before .before .before .args .a) (c .before .before .before .before .before .before .before .before .before .before .before .before .args .line .now) (c .before .before .before .before .before .before .before .before .before .before .before .before .args .words .now) (c .before .before .before .before .before .before .before .before .before .before .before .before .pre) (c .before .before .before .before .before .before .before .before .before .wrapping-add-u64 .ensures) (c .before .before .before .before .before .before .before .right .ensures) (not-false _ (c .before .before .before .before .before .before .if1 .left)) (c .before .before .before .before .candidate .ensures) (c .before .before .put-word .ensures), fits-none (c .before .before .before .before .before .before .before .before .before .before .before .before .args .a) (c .before .before .before .before .before .before .before .before .before .before .before .before .args .line .now) _ _ (c .before .before .before .before .before .before .before .before .before .before .before .before .pre))
 

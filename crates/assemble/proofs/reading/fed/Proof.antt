@@ -7,9 +7,6 @@ use Rattle.assemble.specs.Reading.{held, Fits, fed}
 use Rattle.assemble.proofs.Pieces.{fed-on, fed-done}
 use Rattle.assemble.proofs.reading.fed.Statement.{statement}
 use Rattle.assemble.proofs.reading.fed.Tie as tie
-use Rattle.assemble.proofs.reading.fed.Reads as reads
-use Rattle.assemble.proofs.reading.fed.Lts as lts
-use Rattle.assemble.proofs.reading.took.Reads as took-reads
 
 abbrev Inv-loop : tie.InvT-loop
 Inv-loop line₀ words₀ piece x₀ i₀ line words x i = (fed (held x line words) (drop i piece) ≡ fed (held x₀ line₀ words₀) piece) × Fits x line × (length line ≡ length line₀) × (length words ≡ length words₀) × (i ≤ length piece)
@@ -17,39 +14,30 @@ Inv-loop line₀ words₀ piece x₀ i₀ line words x i = (fed (held x line wor
 abbrev μ-loop : tie.MeasureT-loop
 μ-loop line₀ words₀ piece x₀ i₀ line words x i = length piece - i
 
--- src/reading.rt:92:5
 loop-holds : tie.Need-loop-holds Inv-loop μ-loop
 loop-holds c = (refl, c .before .before .before .pre, refl, refl, omega arith)
 
--- src/reading.rt:93:34
 shared-slice-read-took : tie.Need-shared-slice-read-took Inv-loop μ-loop
 shared-slice-read-took c = search needs
 
--- src/reading.rt:93:9
 took-requires : tie.Need-took-requires Inv-loop μ-loop
 took-requires c κs = c .before .before .before .before .loop .inv .1
 
--- src/reading.rt:94:9
 add-i : tie.Need-add-i Inv-loop μ-loop
 add-i c = search needs
 
--- src/reading.rt:92:5
 loop-less : tie.Need-loop-less Inv-loop μ-loop
 loop-less c = omega arith
 
--- src/reading.rt:92:5
 loop-again : tie.Need-loop-again Inv-loop μ-loop
 loop-again c = (fed-on (c .before .before .before .before .before .before .before .before .before .before .before .before .before .args .piece .now) (c .before .before .before .before .before .before .before .before .before .loop .i) _ (omega arith) (c .before .before .before .before .before .before .before .before .before .loop .inv .0) (c .before .before .before .before .took .ensures .0), c .before .before .before .before .took .ensures .1, search needs, search needs, omega arith)
 
--- src/reading.rt:85:1
 same-length : tie.Need-same-length Inv-loop μ-loop
 same-length c = search needs
 
--- src/reading.rt:85:1
 same-length-2 : tie.Need-same-length-2 Inv-loop μ-loop
 same-length-2 c = search needs
 
--- src/reading.rt:85:1
 returns : tie.Need-returns Inv-loop μ-loop
 returns c = (fed-done (c .before .before .before .before .before .args .piece .now) (c .before .loop .i) _ (omega arith) (c .before .loop .inv .0), c .before .loop .inv .1)
 

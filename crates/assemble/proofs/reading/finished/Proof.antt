@@ -2,27 +2,19 @@ use Rattle.assemble.proofs.Pieces.{finished-wrong, finished-none, finis
 use borrow.Author.Needs.{needs}
 use Rattle.assemble.proofs.reading.finished.Statement.{statement}
 use Rattle.assemble.proofs.reading.finished.Tie as tie
-use Rattle.assemble.proofs.reading.finished.Reads as reads
-use Rattle.assemble.proofs.reading.finished.Lts as lts
-use Rattle.assemble.proofs.reading.ended.Reads as ended-reads
 
--- src/reading.rt:106:9
 returns : tie.Need-returns
 returns c = (finished-wrong (c .before .before .before .before .args .a) (c .before .before .before .before .args .line .now) (c .before .before .before .before .args .words .now) (c .before .before .before .before .pre) (c .if1 .taken), c .before .before .before .before .pre)
 
--- src/reading.rt:109:9
 returns-2 : tie.Need-returns-2
 returns-2 c = (finished-none (c .before .before .before .before .before .before .args .a) (c .before .before .before .before .before .before .args .line .now) (c .before .before .before .before .before .before .args .words .now) (c .before .before .before .before .before .before .pre) (c .before .before .if1 .left) (c .if2 .taken), c .before .before .before .before .before .before .pre)
 
--- src/reading.rt:111:5
 ended-requires : tie.Need-ended-requires
 ended-requires c κs = search needs
 
--- src/reading.rt:100:1
 same-length : tie.Need-same-length
 same-length c = search needs
 
--- src/reading.rt:100:1
 returns-3 : tie.Need-returns-3
 returns-3 c = (finished-line (c .before .before .before .before .before .before .before .before .before .before .args .a) (c .before .before .before .before .before .before .before .before .before .before .args .line .now) (c .before .before .before .before .before .before .before .before .before .before .args .words .now) (c .before .before .before .before .before .before .before .before .before .before .pre) (c .before .before .before .before .before .before .if1 .left) (c .before .before .before .before .if2 .left) (c .before .before .ended .ensures .0), c .before .before .ended .ensures .1)
 

@@ -2,26 +2,19 @@ use Rattle.assemble.proofs.Pieces.{longer-not, longer-is, longer-fits}
 use borrow.Author.Needs.{needs}
 use Rattle.assemble.proofs.reading.longer.Statement.{statement}
 use Rattle.assemble.proofs.reading.longer.Tie as tie
-use Rattle.assemble.proofs.reading.longer.Reads as reads
-use Rattle.assemble.proofs.reading.longer.Lts as lts
 
--- src/reading.rt:36:9
 returns : tie.Need-returns
 returns c = (longer-not (c .before .args .a) (c .before .args .line .now) (c .before .args .b) (c .before .pre) (c .if1 .taken), c .before .pre)
 
--- src/reading.rt:38:5
 slice-write-line : tie.Need-slice-write-line
 slice-write-line c = search needs
 
--- src/reading.rt:40:17
 add-t7 : tie.Need-add-t7
 add-t7 c = search needs
 
--- src/reading.rt:29:1
 same-length : tie.Need-same-length
 same-length c = search needs
 
--- src/reading.rt:29:1
 returns-2 : tie.Need-returns-2
 returns-2 c = (longer-is (c .before .args .a) (c .before .args .line .now) (c .before .args .b) (c .before .pre) (c .if1 .left), longer-fits (c .before .args .a) (c .before .args .line .now) (c .before .args .b) (c .before .pre) (c .if1 .left))
 

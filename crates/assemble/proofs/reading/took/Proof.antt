@@ -2,40 +2,28 @@ use Rattle.assemble.proofs.Pieces.{took-wrong, took-end, took-more}
 use borrow.Author.Needs.{needs}
 use Rattle.assemble.proofs.reading.took.Statement.{statement}
 use Rattle.assemble.proofs.reading.took.Tie as tie
-use Rattle.assemble.proofs.reading.took.Reads as reads
-use Rattle.assemble.proofs.reading.took.Lts as lts
-use Rattle.assemble.proofs.reading.ended.Reads as ended-reads
-use Rattle.assemble.proofs.reading.longer.Reads as longer-reads
 
--- src/reading.rt:76:9
 returns : tie.Need-returns
 returns c = (took-wrong _ (c .before .before .before .before .args .b) (c .if1 .taken), c .before .before .before .before .pre)
 
--- src/reading.rt:79:9
 ended-requires : tie.Need-ended-requires
 ended-requires c κs = search needs
 
--- src/reading.rt:79:9
 same-length : tie.Need-same-length
 same-length c = search needs
 
--- src/reading.rt:79:9
 same-length-2 : tie.Need-same-length-2
 same-length-2 c = search needs
 
--- src/reading.rt:79:9
 returns-2 : tie.Need-returns-2
 returns-2 c = (took-end _ (c .before .before .before .before .before .before .before .before .before .before .args .b) (c .before .before .before .before .before .before .if1 .left) (c .before .before .before .before .before .if2 .taken) (c .before .before .ended .ensures .0), c .before .before .ended .ensures .1)
 
--- src/reading.rt:81:5
 longer-requires : tie.Need-longer-requires
 longer-requires c κs = search needs
 
--- src/reading.rt:70:1
 same-length-3 : tie.Need-same-length-3
 same-length-3 c = search needs
 
--- src/reading.rt:70:1
 returns-3 : tie.Need-returns-3
 returns-3 c = (took-more _ (c .before .before .before .before .before .before .before .before .before .args .b) (c .before .before .before .before .before .if1 .left) (c .before .before .before .before .if2 .left) (c .before .before .longer .ensures .0 (c .before .before .before .before .before .before .before .before .before .args .words .now)), c .before .before .longer .ensures .1)
 

@@ -2,33 +2,22 @@ use Rattle.list.proofs.Pieces.{completes-not, completes}
 use borrow.Author.Needs.{needs}
 use Rattle.list.proofs.words.put_completed.Statement.{statement}
 use Rattle.list.proofs.words.put_completed.Tie as tie
-use Rattle.list.proofs.words.put_completed.Reads as reads
-use Rattle.list.proofs.words.put_completed.Lts as lts
-use Rattle.decimal.proofs.put_byte.Reads as put-byte-reads
-use Rattle.list.proofs.words.further.Reads as further-reads
-use Rattle.listing.proofs.writing.put_line.Reads as put-line-reads
 
--- src/words.rt:37:9
 returns : tie.Need-returns
 returns c = completes-not (c .before .before .before .args .r) (c .before .before .before .args .b) _ (c .if1 .taken)
 
--- src/words.rt:39:9
 further-requires : tie.Need-further-requires
 further-requires c κs = search needs
 
--- src/words.rt:40:9
 put-line-requires : tie.Need-put-line-requires
 put-line-requires c κs = search needs
 
--- src/words.rt:41:5
 put-byte-requires : tie.Need-put-byte-requires
 put-byte-requires c κs = search needs
 
--- src/words.rt:33:1
 same-length : tie.Need-same-length
 same-length c = search needs
 
--- src/words.rt:33:1
 returns-2 : tie.Need-returns-2
 returns-2 c = completes (c .before .before .before .before .before .before .before .before .before .before .before .before .args .r) (c .before .before .before .before .before .before .before .before .before .before .before .before .args .b) _ _ (c .before .before .before .before .before .before .before .before .before .if1 .left) (c .before .before .before .before .before .before .before .before .further .ensures) (c .before .before .before .before .before .before .put-line .ensures) (c .before .before .put-byte .ensures)
 

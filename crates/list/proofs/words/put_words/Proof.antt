@@ -9,10 +9,6 @@ use Rattle.list.specs.Words.{restBehind, wordsBehind}
 use Rattle.list.proofs.Pieces.{rest-on, rest-done, lines-on, lines-done}
 use Rattle.list.proofs.words.put_words.Statement.{statement}
 use Rattle.list.proofs.words.put_words.Tie as tie
-use Rattle.list.proofs.words.put_words.Reads as reads
-use Rattle.list.proofs.words.put_words.Lts as lts
-use Rattle.list.proofs.words.further.Reads as further-reads
-use Rattle.list.proofs.words.put_completed.Reads as put-completed-reads
 
 abbrev Inv-loop : tie.InvT-loop
 Inv-loop piece out₀ rest₀ end₀ i₀ out rest end i = (put (text out end) (listing (wordsBehind rest (drop i piece))) ≡ put (text out₀ 0) (listing (wordsBehind rest₀ piece))) × (restBehind rest (drop i piece) ≡ restBehind rest₀ piece) × (length out ≡ length out₀) × (i ≤ length piece)
@@ -20,39 +16,30 @@ Inv-loop piece out₀ rest₀ end₀ i₀ out rest end i = (put (text out end) (
 abbrev μ-loop : tie.MeasureT-loop
 μ-loop piece out₀ rest₀ end₀ i₀ out rest end i = length piece - i
 
--- src/words.rt:57:5
 loop-holds : tie.Need-loop-holds Inv-loop μ-loop
 loop-holds c = (refl, refl, refl, omega arith)
 
--- src/words.rt:58:17
 shared-slice-read-b : tie.Need-shared-slice-read-b Inv-loop μ-loop
 shared-slice-read-b c = search needs
 
--- src/words.rt:59:9
 put-completed-requires : tie.Need-put-completed-requires Inv-loop μ-loop
 put-completed-requires c κs = search needs
 
--- src/words.rt:60:9
 further-requires : tie.Need-further-requires Inv-loop μ-loop
 further-requires c κs = search needs
 
--- src/words.rt:61:9
 add-i : tie.Need-add-i Inv-loop μ-loop
 add-i c = search needs
 
--- src/words.rt:57:5
 loop-less : tie.Need-loop-less Inv-loop μ-loop
 loop-less c = omega arith
 
--- src/words.rt:57:5
 loop-again : tie.Need-loop-again Inv-loop μ-loop
 loop-again c = (lines-on (c .before .before .before .before .before .before .before .before .before .before .args .piece .now) (c .before .before .before .before .before .before .before .loop .i) (c .before .before .before .before .before .before .before .loop .rest) (omega arith) (c .before .before .before .before .before .before .before .loop .out) (c .before .before .before .before .before .before .before .loop .end) (c .further .ensures) (c .before .before .before .before .before .before .before .loop .inv .0) (c .before .before .before .put-completed .ensures), rest-on (c .before .before .before .before .before .before .before .before .before .before .args .piece .now) (c .before .before .before .before .before .before .before .loop .i) (c .before .before .before .before .before .before .before .loop .rest) (omega arith) (c .further .ensures) (c .before .before .before .before .before .before .before .loop .inv .1), search needs, omega arith)
 
--- src/words.rt:50:1
 same-length : tie.Need-same-length Inv-loop μ-loop
 same-length c = search needs
 
--- src/words.rt:50:1
 returns : tie.Need-returns Inv-loop μ-loop
 returns c = (lines-done (c .before .before .before .before .args .piece .now) (c .before .loop .i) (c .before .loop .rest) (omega arith) (c .before .loop .out) (c .before .loop .end) (c .before .loop .inv .0), rest-done (c .before .before .before .before .args .piece .now) (c .before .loop .i) (c .before .loop .rest) (omega arith) (c .before .loop .inv .1))
 

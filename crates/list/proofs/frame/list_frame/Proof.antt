@@ -1,0 +1,44 @@
+use mathlib.Core.Path.{sym, subst}
+use Rattle.report.proofs.Texts.{put-there}
+use Rattle.night_run.specs.Ran.{ToldHeld}
+use Rattle.list.specs.Frame.{frameText}
+use borrow.Author.Needs.{needs}
+use Rattle.list.proofs.frame.list_frame.Statement.{statement}
+use Rattle.list.proofs.frame.list_frame.Tie as tie
+
+text-for-requires : tie.Need-text-for-requires
+text-for-requires c κs = search needs
+
+failed-requires : tie.Need-failed-requires
+failed-requires c κs = search needs
+
+fail-requires : tie.Need-fail-requires
+fail-requires c κs = search needs
+
+returns : tie.Need-returns
+returns c = search needs
+
+array-share-prefix-out : tie.Need-array-share-prefix-out
+array-share-prefix-out c = search needs
+
+slice-aggregate-show : tie.Need-slice-aggregate-show
+slice-aggregate-show c = search needs
+
+show-requires : tie.Need-show-requires
+show-requires c κs = let e = c .before .before .before .text-for .ensures .0 in subst (ToldHeld (frameText (c .before .before .before .before .before .before .args .frame)) (c .before .before .before .text-for .result .taken)) (sym (put-there _ _ _ _ (e .2))) (e .1)
+
+returns-2 : tie.Need-returns-2
+returns-2 c = search needs
+
+pub list-frame-spec : {M : Type 1} → statement M
+list-frame-spec =
+    tie.close
+    (tie.spec
+    text-for-requires
+    failed-requires
+    fail-requires
+    returns
+    array-share-prefix-out
+    slice-aggregate-show
+    show-requires
+    returns-2)
