@@ -4,7 +4,7 @@ use mathlib.Core.Path.{_≡_, refl, sym, ap, subst, _∙_}
 use mathlib.Core.Bool.{Bool, true, false, not}
 use mathlib.Core.List.{List}
 use Prim.Native.Nat.{ℕ, zero, suc, _+_, _-_, _<_, _≤_}
-use native.Mathlib.Nat.{sub-zero}
+use native.Mathlib.Nat.{sub-zero, sub-self}
 use native.Mathlib.Omega.{arith}
 use borrow.Author.Tests.{eqb-true, eqb-false, ltb-true, ltb-false}
 use lib.Dec.{eqb, ltb}
@@ -27,9 +27,13 @@ use Rattle.dlx.proofs.Places.{fetched-places, accessed-places, accessed-count}
 use Rattle.dlx.proofs.Spells.{Within, spell-places, spell-some, leg-stretch}
 use Rattle.tickets.specs.Queues.{Queues, Seated, desk}
 use Rattle.tickets.proofs.Queues.{desk-queued}
-use Rattle.translate.specs.Memory.{Host, hostReads, hostMemory}
+use Rattle.translate.specs.Memory.{Host, host, hostReads, hostMemory}
+use Rattle.translate.specs.Premises.{Placed}
+use Rattle.dlx.specs.declared.partition.Table.{Table}
+use Rattle.plain.specs.Plain.{pairOf}
+use Rattle.quick.specs.Quick.{Goes}
 use Rattle.translate.proofs.Steps.{Whole, fetched-whole, accessed-whole, retabled-whole}
-use Rattle.engine.specs.Answers.{paceOf, roomOf}
+use Rattle.engine.specs.Answers.{roomOf}
 
 -- a step of a spell
 module _ {S T : Type 0} (O : Ops S) (D : Desk T) where
@@ -124,28 +128,10 @@ room-is k rest n l e = subst (Roomy k rest) (sym e) (room-fits k rest l)
 
 -- ---- a spell, step by step
 
--- the timer of a spell falls by its pace
-abbrev Paced : Timer → ℕ → ℕ → ℕ → Type 0
-Paced k n rest p = (p ≤ k .tcount - (n - rest)) × (k .tcount - (n - rest) - p ≡ k .tcount - (n - rest) - 1) × (k .tcount - (n - rest) - p ≡ k .tcount - (n - (rest - 1)))
-
-pace-fits : (k : Timer) (n rest : ℕ) → Within k n → 0 < rest → rest ≤ n → Paced k n rest (paceOf k)
-unfolding paceOf
-pace-fits k n rest f s m =
-    either (Paced k n rest) (eqb (k .tcount) 0)
-    (λ e. let z = eqb-true (k .tcount) 0 e in (omega arith, omega (arith, z), omega (arith, z)))
-    (λ e. let l = f (omega (arith, eqb-false (k .tcount) 0 e)) in (omega (arith, l, s, m), omega arith, omega (arith, l, s, m)))
-
 pub unsunk : (k : Timer) (n : ℕ) → k ≡ sunk k (n - n)
 unsunk k n =
     let e : k .tcount ≡ k .tcount - (n - n) = omega arith in
     ap (λ (x : ℕ). record { tcount = x; tload = k .tload }) e
-
-pub paced : (k t : Timer) (n rest p : ℕ) → Within k n → 0 < rest → rest ≤ n → p ≡ paceOf k → t ≡ sunk k (n - rest) → (p ≤ t .tcount) × (sunk t p ≡ sunk t 1) × (sunk t p ≡ sunk k (n - (rest - 1)))
-paced k t n rest p f s m e q =
-    subst (λ (j : ℕ). (j ≤ t .tcount) × (sunk t j ≡ sunk t 1) × (sunk t j ≡ sunk k (n - (rest - 1)))) (sym e)
-    (subst (λ (u : Timer). (paceOf k ≤ u .tcount) × (sunk u (paceOf k) ≡ sunk u 1) × (sunk u (paceOf k) ≡ sunk k (n - (rest - 1)))) (sym q)
-    (let h = pace-fits k n rest f s m in
-    (h .0, ap (λ (x : ℕ). record { tcount = x; tload = k .tload }) (h .1), ap (λ (x : ℕ). record { tcount = x; tload = k .tload }) (h .2))))
 
 pub not-true : (b : Bool) → not b ≡ true → b ≡ false
 not-true true e = sym e
@@ -212,3 +198,59 @@ module _ {S T : Type 0} (O : Ops S) (D : Desk T) (n rest : ℕ) (c : Core) (s : 
 
     pub stretch-on : b ≡ false → stretchFrom O D (rest - made) (n - (rest - made)) (c′, s′) q′ ≡ stretchFrom O D rest (n - rest) (c, s) q
     stretch-on t = sym (ahead ∙ simp t)
+
+-- ---- plain steps on end, within a spell
+
+pub none-left : {l : ℕ} → l ≡ 0 → l ≤ 0
+none-left e = omega (arith, e)
+
+pub some-left : {l : ℕ} → (l ≡ 0 → ⊥) → 0 < l
+some-left e = omega (arith, e)
+
+pub placed-size : (fr : List ℕ) (n size size′ : ℕ) → Placed fr n size → size′ ≡ size → Placed fr n size′
+placed-size fr n size size′ p e = subst (λ z. Placed fr n z) (sym e) p
+
+pub whole-size : (fr : List ℕ) (n size : ℕ) (t : Table) (ws ws₁ sh : List ℕ) → Whole fr n size (host t ws sh) → length ws₁ ≡ length ws → Whole fr n size (host t ws₁ sh)
+whole-size fr n size t ws ws₁ sh w e = record { long = e ∙ w .long; shadowed = w .shadowed }
+
+module _ {S T : Type 0} (O : Ops S) (D : Desk T) where
+  pub spell-starts : (n : ℕ) (p : Processor) (r : List ℕ) (latest : ℕ) (k : Timer) (s : S) (q : T) → spellFrom O D n (n - n) (core p r latest (sunk k (n - n)), s) q ≡ spellFrom O D n 0 (core p r latest k, s) q
+  spell-starts n p r latest k s q =
+      ap (λ (u : Timer). spellFrom O D n (n - n) (core p r latest u, s) q) (sym (unsunk k n))
+      ∙ ap (λ (j : ℕ). spellFrom O D n j (core p r latest k, s) q) (sub-self n)
+
+  pub spell-falls : (n left : ℕ) (p : Processor) (r : List ℕ) (latest : ℕ) (k u : Timer) (s : S) (q : T) (x : Spell S T) → u ≡ sunk k (n - left) → 0 < left → left ≤ n → spellFrom O D (left - 1) (n - (left - 1)) (core p r latest (sunk u 1), s) q ≡ x → spellFrom O D (left - 1) (n - (left - 1)) (core p r latest (sunk k (n - (left - 1))), s) q ≡ x
+  spell-falls n left p r latest k u s q x e a b f =
+      let g : k .tcount - (n - left) - 1 ≡ k .tcount - (n - (left - 1)) = omega (arith, a, b) in
+      ap (λ (j : ℕ). spellFrom O D (left - 1) (n - (left - 1)) (core p r latest (record { tcount = j; tload = k .tload }), s) q) (sym g)
+      ∙ ap (λ (v : Timer). spellFrom O D (left - 1) (n - (left - 1)) (core p r latest (sunk v 1), s) q) (sym e)
+      ∙ f
+
+  pub spell-ends : (n rest : ℕ) (p : Processor) (r : List ℕ) (latest : ℕ) (k u : Timer) (s : S) (q : T) → u ≡ sunk k n → rest ≤ 0 → spell n (Plain 0 0 0) (core p r latest u) s q ≡ spellFrom O D rest (n - rest) (core p r latest (sunk k (n - rest)), s) q
+  spell-ends n rest p r latest k u s q e h =
+      let z : n ≡ n - rest = omega (arith, h) in
+      ap (λ (v : Timer). spell n (Plain 0 0 0) (core p r latest v) s q) (e ∙ ap (λ (j : ℕ). sunk k j) z)
+      ∙ spell-done O D n rest (core p r latest (sunk k (n - rest))) s q h
+
+-- so many plain steps made, left of rest are still to make
+pub passes : (fr : List ℕ) (pages count i : ℕ) (t : Table) (n rest left : ℕ) (k u : Timer) (p p₁ : Processor) (d e : ℕ) (r r₁ ws ws₁ sh : List ℕ) (latest : ℕ) (q : Queues) → rest ≤ n → Goes fr pages t sh rest left p r ws (pairOf p d e) r₁ ws₁ → p₁ ≡ pairOf p d e → u ≡ sunk k (n - left) → spellFrom (hostMemory fr pages) (desk count i) left (n - left) (core p₁ r₁ latest u, host t ws₁ sh) q ≡ spellFrom (hostMemory fr pages) (desk count i) rest (n - rest) (core p r latest (sunk k (n - rest)), host t ws sh) q
+passes fr pages count i t n rest left k u p p₁ d e r r₁ ws ws₁ sh latest q most g a b =
+    let l : left ≤ rest = g .0 in
+    let x : n - left ≡ n - rest + (rest - left) = omega (arith, l, most) in
+    let y : k .tcount - (n - left) ≡ k .tcount - (n - rest) - (rest - left) = omega (arith, l, most) in
+    ap (λ (v : Processor). spellFrom (hostMemory fr pages) (desk count i) left (n - left) (core v r₁ latest u, host t ws₁ sh) q) a
+    ∙ ap (λ (v : Timer). spellFrom (hostMemory fr pages) (desk count i) left (n - left) (core (pairOf p d e) r₁ latest v, host t ws₁ sh) q) b
+    ∙ ap (λ (j : ℕ). spellFrom (hostMemory fr pages) (desk count i) left (n - left) (core (pairOf p d e) r₁ latest (record { tcount = j; tload = k .tload }), host t ws₁ sh) q) y
+    ∙ ap (λ (j : ℕ). spellFrom (hostMemory fr pages) (desk count i) left j (core (pairOf p d e) r₁ latest (sunk (sunk k (n - rest)) (rest - left)), host t ws₁ sh) q) x
+    ∙ g .1 latest count i (n - rest) (sunk k (n - rest)) q
+
+pub full-sunk : (n left : ℕ) (k u : Timer) → left ≡ 0 → u ≡ sunk k n → u ≡ sunk k (n - left)
+full-sunk n left k u h e = let z : n ≡ n - left = omega (arith, h) in e ∙ ap (λ (j : ℕ). sunk k j) z
+
+-- a leg that makes the last of the steps, whether it calls or not
+pub stretch-last : {S T : Type 0} (O : Ops S) (D : Desk T) (n rest : ℕ) (c : Core) (s : S) (q : T) (k made : ℕ) (c′ : Core) (s′ : S) (q′ : T) (b : Bool) → Roomy (c .timer) rest k → rest ≤ n → record { made = made; outcome = outcome c′ b; memory = s′; desk = q′ } ≡ legAt O D k (c, s) q → rest - made ≡ 0 → record { made = n; called = b; core = c′; memory = s′; desk = q′ } ≡ stretchFrom O D rest (n - rest) (c, s) q
+stretch-last {S = S} {T = T} O D n rest c s q k made c′ s′ q′ true room most walked z =
+    let e : n - (rest - made) ≡ n = omega (arith, z) in
+    subst (λ (j : ℕ). record { made = j; called = true; core = c′; memory = s′; desk = q′ } ≡ stretchFrom O D rest (n - rest) (c, s) q) e (stretch-called O D n rest c s q k made c′ s′ q′ true room most walked refl)
+stretch-last O D n rest c s q k made c′ s′ q′ false room most walked z =
+    stretch-done O D n (rest - made) c′ s′ q′ (none-left z) ∙ stretch-on O D n rest c s q k made c′ s′ q′ false room most walked refl

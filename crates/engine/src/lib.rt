@@ -11,7 +11,8 @@ ghost use Rattle.tickets.specs.Queues.{queues, taking, desk, Queued, Seated};
 ghost use Rattle.translate.specs.Walk.{entries};
 ghost use Rattle.translate.specs.Memory.{host, hostMemory};
 ghost use Rattle.translate.specs.Premises.{Placed, Shadowed};
-ghost use Rattle.engine.specs.Answers.{receivedOf, Fits, paceOf, spellOf, legOf, roomOf, stretchOf};
+ghost use Rattle.plain.specs.Plain.{pairOf};
+ghost use Rattle.engine.specs.Answers.{receivedOf, Fits, spellOf, legOf, roomOf, stretchOf};
 use dlx::execute::Access;
 use dlx::execute::Change;
 use dlx::execute::Effect;
@@ -217,14 +218,14 @@ pub fn step(
     }
 }
 
-// What TCOUNT falls by in each step of a spell.
-fn pace(k: Timer) -> u32
-    ensures { λ r. ⌜ r ≡ paceOf k ⌝ }
+// A processor at another pair.
+fn at(p: Processor, dpc: u32, pc: u32) -> Processor
+    ensures { λ r. ⌜ r ≡ pairOf p dpc pc ⌝ }
 {
-    if k.tcount == 0 {
-        return 0;
-    }
-    1
+    let mut r = p;
+    r.dpc = dpc;
+    r.pc = pc;
+    r
 }
 
 // Up to n plain steps of one partition on end, or up to the first that is not.
@@ -248,12 +249,22 @@ fn spell(
     ensures { λ r. ⌜ spellOf r t (now (regs .exit)) (now (latest .exit)) (now (words .exit)) (now (shadow .exit)) (queues (now (tickets .exit)) (now (waiting .exit))) ≡ spellFrom (hostMemory (now (frames .entry)) pages) (desk count i) n 0 (core p (now (regs .entry)) (now (latest .entry)) k, host t (now (words .entry)) (now (shadow .entry))) (queues (now (tickets .entry)) (now (waiting .entry))) ⌝ }
 {
     let mut processor = p;
-    let each = pace(k);
-    let mut timer = k;
     let mut rest = n;
     while rest > 0 {
+        let q = quick::plain(processor, t, pages, regs, frames, shadow, words, rest);
+        let here = at(processor, q.dpc, q.pc);
+        let left = q.rest;
+        if left == 0 {
+            return Spelt {
+                processor: here,
+                timer: processor::timer::sink(k, n),
+                made: n,
+                change: Change::Plain(0, 0, 0),
+            };
+        }
+        let timer = processor::timer::sink(k, n - left);
         let s = step(
-            processor,
+            here,
             t,
             timer,
             pages,
@@ -269,7 +280,7 @@ fn spell(
         );
         let change = s.change;
         processor = s.processor;
-        rest -= 1;
+        rest = left - 1;
         if !s.plain {
             let made = n - rest;
             return Spelt {
@@ -279,11 +290,10 @@ fn spell(
                 change,
             };
         }
-        timer = processor::timer::fall(timer, each);
     }
     Spelt {
         processor,
-        timer,
+        timer: processor::timer::sink(k, n),
         made: n,
         change: Change::Plain(0, 0, 0),
     }
@@ -399,6 +409,15 @@ pub fn stretch(
         table = s.table;
         timer = s.timer;
         rest -= s.made;
+        if rest == 0 {
+            return Stretched {
+                processor,
+                table,
+                timer,
+                made: n,
+                called: s.calls,
+            };
+        }
         if s.calls {
             let made = n - rest;
             return Stretched {

@@ -84,7 +84,7 @@ fn look(words: &[u32], frames: &[u32], shadow: &mut [u32], pages: u32, t: Table,
 }
 
 // The entry of a system-mode address, or 7.
-fn straight(frames: &[u32], pages: u32, a: u32) -> u32
+pub fn straight(frames: &[u32], pages: u32, a: u32) -> u32
     requires { ⌜ Listed (now frames) pages ⌝ }
     ensures { λ r. ⌜ r ≡ hosted (now (frames .entry)) (direct pages a) ⌝ }
 {
@@ -136,7 +136,7 @@ pub fn load(
 }
 
 // The word x after a store of v by an opcode at address a. The opcode's bit 1 tells a word, bit 0 a half word.
-fn place(o: u32, a: u32, v: u32, x: u32) -> u32
+pub fn place(o: u32, a: u32, v: u32, x: u32) -> u32
     requires { ⌜ storing o ≡ true ⌝ ∗ ⌜ aligned (width o) a ≡ true ⌝ }
     ensures { λ r. ⌜ r ≡ placed o a v x ⌝ }
 {

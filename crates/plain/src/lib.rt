@@ -1,0 +1,483 @@
+// One plain instruction: one that changes nothing but DPC, PC, a register, or a word of a frame that does not hold the table, and needs no walk.
+ghost use mathlib.Core.Path.{_≡_};
+ghost use mathlib.Core.Bool.{true, false, _||_};
+ghost use mathlib.Core.List.{List};
+ghost use Prim.Native.Nat.{ℕ, _-_, _≤_, _<_};
+ghost use lib.ListN.{length};
+ghost use Rattle.dlx.specs.Choice.{if_then_else_};
+ghost use Rattle.dlx.specs.Fields.{aligned, loading, storing, width};
+ghost use Rattle.dlx.specs.Words.{plus, minus, rs1 as rs1Of, rs2 as rs2Of, testOf};
+ghost use Rattle.dlx.specs.Processor.{user, noTimer, specialOf};
+ghost use Rattle.dlx.specs.Execute.{effectOf, written, operated, loads, stores, reg};
+ghost use Rattle.dlx.specs.Instructions.{instructionOf, registerType};
+ghost use Rattle.dlx.specs.declared.partition.Table.{Table};
+ghost use Rattle.dlx.specs.declared.instruction.Operation.the-variants.{Add, Sub};
+ghost use Rattle.dlx.specs.declared.execute.Change.the-variants.{Plain};
+ghost use Rattle.dlx.specs.declared.execute.Effect.the-variants.{Done};
+ghost use Rattle.translate.specs.Walk.{entries};
+ghost use Rattle.translate.specs.Premises.{Listed, Placed, Shadowed};
+ghost use Rattle.plain.specs.Plain.{seenOf, holdsOf, Does};
+use dlx::partition::Processor;
+use dlx::partition::Table;
+use dlx::partition::Timer;
+use dlx::words::wide;
+use translate::ENTRIES;
+
+// Virtual pages are below it.
+const LIMIT: u32 = ENTRIES as u32;
+
+// The entry that serves an access without a walk, or one that is not valid.
+pub fn seen(frames: &[u32], shadow: &[u32], pages: u32, user: bool, a: u32) -> u32
+    requires { ⌜ Listed (now frames) pages ⌝ ∗ ⌜ length (now shadow) ≡ entries ⌝ }
+    ensures { λ r. ⌜ r ≡ seenOf (now (frames .entry)) pages (now (shadow .entry)) user a ⌝ }
+{
+    if user {
+        let page = a / 4096;
+        if page >= LIMIT {
+            return 0;
+        }
+        return shadow[wide(page)];
+    }
+    shadow::straight(frames, pages, a)
+}
+
+// Whether a frame holds the table.
+fn holds(frames: &[u32], pages: u32, t: Table, frame: u32) -> bool
+    requires { ⌜ Listed (now frames) pages ⌝ }
+    ensures { λ r. ⌜ r ≡ holdsOf (now (frames .entry)) pages t frame ⌝ }
+{
+    let pto = t.pto;
+    if pto >= pages {
+        return false;
+    }
+    frames[wide(pto)] == frame
+}
+
+// Register rd becomes v.
+fn put(regs: &mut [u32], rd: usize, v: u32, y: u32, target: &mut u32) -> bool
+    requires { ⌜ rd < length (now regs) ⌝ }
+    ensures { λ r. ⌜ (r ≡ true) × (now (regs .exit) ≡ written (now (regs .entry)) rd v) × (now (target .exit) ≡ plus y 4) ⌝ }
+{
+    processor::execute::write(regs, rd, v);
+    *target = std::num::wrapping_add_u32(y, 4);
+    true
+}
+
+// To a target.
+fn to(v: u32, target: &mut u32) -> bool
+    ensures { λ r. ⌜ (r ≡ true) × (now (target .exit) ≡ v) ⌝ }
+{
+    *target = v;
+    true
+}
+
+// To one target or the other.
+fn either(c: bool, a: u32, b: u32, target: &mut u32) -> bool
+    ensures { λ r. ⌜ (r ≡ true) × (now (target .exit) ≡ (if c then a else b)) ⌝ }
+{
+    if c {
+        *target = a;
+        return true;
+    }
+    *target = b;
+    true
+}
+
+// Register 31 becomes PC + 4.
+fn link(regs: &mut [u32], page: u32, y: u32)
+    requires { ⌜ length (now regs) ≡ 32 ⌝ }
+    ensures { λ r. ⌜ now (regs .exit) ≡ written (now (regs .entry)) 31 (plus (plus y page) 4) ⌝ }
+{
+    let pc = std::num::wrapping_add_u32(y, page);
+    processor::execute::write(regs, 31, std::num::wrapping_add_u32(pc, 4));
+}
+
+// Whether an opcode may reach an address: its lowest two bits are how many bytes it reaches, less one.
+fn fits(o: u32, a: u32) -> bool
+    requires { ⌜ (loading o || storing o) ≡ true ⌝ }
+    ensures { λ r. ⌜ r ≡ aligned (width o) a ⌝ }
+{
+    a & o % 4 == 0
+}
+
+// A load by an opcode, if its entry is seen.
+fn load(
+    p: Processor,
+    pages: u32,
+    regs: &mut [u32],
+    frames: &[u32],
+    shadow: &[u32],
+    words: &[u32],
+    o: u32,
+    rd: usize,
+    x: u32,
+    imm: u32,
+    y: u32,
+    target: &mut u32,
+) -> bool
+    requires { ⌜ length (now regs) ≡ 32 ⌝ ∗ ⌜ Placed (now frames) pages (length (now words)) ⌝ ∗ ⌜ Shadowed (now frames) pages (now shadow) ⌝ ∗ ⌜ loading o ≡ true ⌝ ∗ ⌜ rd < 32 ⌝ }
+    ensures { λ r. ⌜ (r ≡ true → (page : ℕ) (t : Table) → Does (now (frames .entry)) pages p t page y (now (target .exit)) (now (regs .entry)) (now (regs .exit)) (now (words .entry)) (now (words .entry)) (now (shadow .entry)) (λ _ _. loads o rd x imm)) × (r ≡ false → now (regs .exit) ≡ now (regs .entry)) ⌝ }
+{
+    let a = std::num::wrapping_add_u32(x, imm);
+    if !fits(o, a) {
+        return false;
+    }
+    let e = seen(frames, shadow, pages, p.mode == 1, a);
+    if e / 2048 % 2 != 1 {
+        return false;
+    }
+    let w = words[wide(e / 4096) * 1024 + wide(a / 4 % 1024)];
+    put(regs, rd, processor::fields::bring(o, a, w), y, target)
+}
+
+// A store by an opcode, if its entry is seen, its page is not protected, and its frame does not hold the table.
+fn store(
+    p: Processor,
+    t: Table,
+    pages: u32,
+    frames: &[u32],
+    shadow: &[u32],
+    words: &mut [u32],
+    o: u32,
+    v: u32,
+    x: u32,
+    imm: u32,
+    y: u32,
+    target: &mut u32,
+) -> bool
+    requires { ⌜ Placed (now frames) pages (length (now words)) ⌝ ∗ ⌜ Shadowed (now frames) pages (now shadow) ⌝ ∗ ⌜ storing o ≡ true ⌝ }
+    ensures { λ r. ⌜ (r ≡ true → (page : ℕ) (rs : List ℕ) → Does (now (frames .entry)) pages p t page y (now (target .exit)) rs rs (now (words .entry)) (now (words .exit)) (now (shadow .entry)) (λ _ _. stores o v x imm)) × (r ≡ false → now (words .exit) ≡ now (words .entry)) ⌝ }
+{
+    let a = std::num::wrapping_add_u32(x, imm);
+    if !fits(o, a) {
+        return false;
+    }
+    let e = seen(frames, shadow, pages, p.mode == 1, a);
+    if e / 1024 % 4 != 2 {
+        return false;
+    }
+    let frame = e / 4096;
+    if holds(frames, pages, t, frame) {
+        return false;
+    }
+    let i = wide(frame) * 1024 + wide(a / 4 % 1024);
+    words[i] = shadow::place(o, a, v, words[i]);
+    *target = std::num::wrapping_add_u32(y, 4);
+    true
+}
+
+// Register rd becomes a sum, unless it overflows and SR bit 6 lets it interrupt.
+fn add(sr: u32, regs: &mut [u32], rd: usize, a: u32, b: u32, y: u32, target: &mut u32) -> bool
+    requires { ⌜ rd < length (now regs) ⌝ }
+    ensures { λ r. ⌜ (r ≡ true → (now (regs .exit) ≡ written (now (regs .entry)) rd (plus a b)) × (now (target .exit) ≡ plus y 4) × ((next : ℕ) → operated Add rd a b sr next ≡ Done (Plain rd (plus a b) next))) × (r ≡ false → now (regs .exit) ≡ now (regs .entry)) ⌝ }
+{
+    let v = std::num::wrapping_add_u32(a, b);
+    if sr / 64 % 2 == 1 {
+        if processor::words::sum_overflows(a, b) {
+            return false;
+        }
+        return put(regs, rd, v, y, target);
+    }
+    put(regs, rd, v, y, target)
+}
+
+// A difference.
+fn sub(sr: u32, regs: &mut [u32], rd: usize, a: u32, b: u32, y: u32, target: &mut u32) -> bool
+    requires { ⌜ rd < length (now regs) ⌝ }
+    ensures { λ r. ⌜ (r ≡ true → (now (regs .exit) ≡ written (now (regs .entry)) rd (minus a b)) × (now (target .exit) ≡ plus y 4) × ((next : ℕ) → operated Sub rd a b sr next ≡ Done (Plain rd (minus a b) next))) × (r ≡ false → now (regs .exit) ≡ now (regs .entry)) ⌝ }
+{
+    let v = std::num::wrapping_sub_u32(a, b);
+    if sr / 64 % 2 == 1 {
+        if processor::words::difference_overflows(a, b) {
+            return false;
+        }
+        return put(regs, rd, v, y, target);
+    }
+    put(regs, rd, v, y, target)
+}
+
+// Test number k of two words: bit 0 of k says that it holds where a is greater, bit 1 where they are equal, bit 2 where a is less.
+fn test(k: u32, a: u32, b: u32) -> u32
+    requires { ⌜ k < 8 ⌝ }
+    ensures { λ r. ⌜ r ≡ testOf k a b ⌝ }
+{
+    if a == b {
+        return k / 2 % 2;
+    }
+    let x = std::num::wrapping_add_u32(a, 0x8000_0000);
+    let y = std::num::wrapping_add_u32(b, 0x8000_0000);
+    if x < y {
+        return k / 4 % 2;
+    }
+    k % 2
+}
+
+// A special register read in system mode, but TCOUNT and TLOAD.
+fn read_special(
+    p: Processor,
+    t: Table,
+    regs: &mut [u32],
+    rd: usize,
+    n: u32,
+    y: u32,
+    target: &mut u32,
+) -> bool
+    requires { ⌜ rd < length (now regs) ⌝ }
+    ensures { λ r. ⌜ (r ≡ true → (user p ≡ false) × (n < 10) × (now (regs .exit) ≡ written (now (regs .entry)) rd (specialOf p t noTimer n)) × (now (target .exit) ≡ plus y 4)) × (r ≡ false → now (regs .exit) ≡ now (regs .entry)) ⌝ }
+{
+    if p.mode == 1 {
+        return false;
+    }
+    if n >= 10 {
+        return false;
+    }
+    let none = Timer {
+        tcount: 0,
+        tload: 0,
+    };
+    put(
+        regs,
+        rd,
+        processor::special::special(p, t, none, n),
+        y,
+        target,
+    )
+}
+
+// The words of opcode 0.
+fn register_type(
+    p: Processor,
+    t: Table,
+    w: u32,
+    regs: &mut [u32],
+    rs1: usize,
+    rs2: usize,
+    y: u32,
+    target: &mut u32,
+) -> bool
+    requires { ⌜ length (now regs) ≡ 32 ⌝ ∗ ⌜ rs1 ≡ rs1Of w ⌝ ∗ ⌜ rs2 ≡ rs2Of w ⌝ }
+    ensures { λ r. ⌜ (r ≡ true → (fr : List ℕ) (n page : ℕ) (ws sh : List ℕ) → Does fr n p t page y (now (target .exit)) (now (regs .entry)) (now (regs .exit)) ws ws sh (λ k c. effectOf c t k (now (regs .entry)) (registerType w))) × (r ≡ false → now (regs .exit) ≡ now (regs .entry)) ⌝ }
+{
+    let a = regs[rs1];
+    let b = regs[rs2];
+    let rd = wide(w / 2048 % 32);
+    let function = w % 64;
+    match function {
+        32 => add(p.sr, regs, rd, a, b, y, target),
+        34 => sub(p.sr, regs, rd, a, b, y, target),
+        36 => put(regs, rd, a & b, y, target),
+        37 => put(regs, rd, a | b, y, target),
+        38 => put(regs, rd, a ^ b, y, target),
+        16 => read_special(p, t, regs, rd, w / 64 % 32, y, target),
+        _ => {
+            if function < 40 {
+                return false;
+            }
+            if function >= 48 {
+                return false;
+            }
+            put(regs, rd, test(function - 40, a, b), y, target)
+        }
+    }
+}
+
+// The tests of opcodes 24 to 31.
+fn test_type(
+    opcode: u32,
+    regs: &mut [u32],
+    rs1: usize,
+    rd: usize,
+    imm: u32,
+    y: u32,
+    target: &mut u32,
+) -> bool
+    requires { ⌜ length (now regs) ≡ 32 ⌝ ∗ ⌜ rs1 < 32 ⌝ ∗ ⌜ rd < 32 ⌝ }
+    ensures { λ r. ⌜ (r ≡ true → (24 ≤ opcode) × (opcode < 32) × (now (regs .exit) ≡ written (now (regs .entry)) rd (testOf (opcode - 24) (reg (now (regs .entry)) rs1) imm)) × (now (target .exit) ≡ plus y 4)) × (r ≡ false → now (regs .exit) ≡ now (regs .entry)) ⌝ }
+{
+    if opcode < 24 {
+        return false;
+    }
+    if opcode >= 32 {
+        return false;
+    }
+    let a = regs[rs1];
+    put(regs, rd, test(opcode - 24, a, imm), y, target)
+}
+
+// The instruction w, if it is plain. PC and the target are told from the page's first address.
+pub fn act(
+    p: Processor,
+    t: Table,
+    pages: u32,
+    w: u32,
+    page: u32,
+    y: u32,
+    regs: &mut [u32],
+    frames: &[u32],
+    shadow: &[u32],
+    words: &mut [u32],
+    target: &mut u32,
+) -> bool
+    requires { ⌜ length (now regs) ≡ 32 ⌝ ∗ ⌜ Placed (now frames) pages (length (now words)) ⌝ ∗ ⌜ Shadowed (now frames) pages (now shadow) ⌝ }
+    ensures { λ r. ⌜ (r ≡ true → Does (now (frames .entry)) pages p t page y (now (target .exit)) (now (regs .entry)) (now (regs .exit)) (now (words .entry)) (now (words .exit)) (now (shadow .entry)) (λ k c. effectOf c t k (now (regs .entry)) (instructionOf w))) × (r ≡ false → (now (regs .exit) ≡ now (regs .entry)) × (now (words .exit) ≡ now (words .entry))) ⌝ }
+{
+    let rs1 = wide(w / 2097152 % 32);
+    let rd = wide(w / 65536 % 32);
+    let imm = processor::words::extend(0x8000, w);
+    let opcode = w / 67108864;
+    match opcode {
+        35 => {
+            let x = regs[rs1];
+            load(
+                p,
+                pages,
+                regs,
+                frames,
+                shadow,
+                words,
+                35,
+                rd,
+                x,
+                imm,
+                y,
+                target,
+            )
+        }
+        43 => {
+            let x = regs[rs1];
+            let v = regs[rd];
+            store(p, t, pages, frames, shadow, words, 43, v, x, imm, y, target)
+        }
+        8 => {
+            let x = regs[rs1];
+            add(p.sr, regs, rd, x, imm, y, target)
+        }
+        10 => {
+            let x = regs[rs1];
+            sub(p.sr, regs, rd, x, imm, y, target)
+        }
+        12 => {
+            let x = regs[rs1];
+            put(regs, rd, x & imm, y, target)
+        }
+        13 => {
+            let x = regs[rs1];
+            put(regs, rd, x | imm, y, target)
+        }
+        14 => {
+            let x = regs[rs1];
+            put(regs, rd, x ^ imm, y, target)
+        }
+        15 => put(regs, rd, imm % 65536 * 65536, y, target),
+        4 => {
+            let x = regs[rs1];
+            let near = std::num::wrapping_add_u32(y, imm);
+            let next = std::num::wrapping_add_u32(y, 4);
+            either(x == 0, near, next, target)
+        }
+        5 => {
+            let x = regs[rs1];
+            let near = std::num::wrapping_add_u32(y, imm);
+            let next = std::num::wrapping_add_u32(y, 4);
+            either(x == 0, next, near, target)
+        }
+        22 => {
+            let x = regs[rs1];
+            to(std::num::wrapping_sub_u32(x, page), target)
+        }
+        23 => {
+            let x = regs[rs1];
+            link(regs, page, y);
+            to(std::num::wrapping_sub_u32(x, page), target)
+        }
+        2 => {
+            let far = processor::words::extend(0x200_0000, w);
+            to(std::num::wrapping_add_u32(y, far), target)
+        }
+        3 => {
+            let far = processor::words::extend(0x200_0000, w);
+            link(regs, page, y);
+            to(std::num::wrapping_add_u32(y, far), target)
+        }
+        0 => register_type(p, t, w, regs, rs1, rd, y, target),
+        32 => {
+            let x = regs[rs1];
+            load(
+                p,
+                pages,
+                regs,
+                frames,
+                shadow,
+                words,
+                32,
+                rd,
+                x,
+                imm,
+                y,
+                target,
+            )
+        }
+        33 => {
+            let x = regs[rs1];
+            load(
+                p,
+                pages,
+                regs,
+                frames,
+                shadow,
+                words,
+                33,
+                rd,
+                x,
+                imm,
+                y,
+                target,
+            )
+        }
+        36 => {
+            let x = regs[rs1];
+            load(
+                p,
+                pages,
+                regs,
+                frames,
+                shadow,
+                words,
+                36,
+                rd,
+                x,
+                imm,
+                y,
+                target,
+            )
+        }
+        37 => {
+            let x = regs[rs1];
+            load(
+                p,
+                pages,
+                regs,
+                frames,
+                shadow,
+                words,
+                37,
+                rd,
+                x,
+                imm,
+                y,
+                target,
+            )
+        }
+        40 => {
+            let x = regs[rs1];
+            let v = regs[rd];
+            store(p, t, pages, frames, shadow, words, 40, v, x, imm, y, target)
+        }
+        41 => {
+            let x = regs[rs1];
+            let v = regs[rd];
+            store(p, t, pages, frames, shadow, words, 41, v, x, imm, y, target)
+        }
+        _ => test_type(opcode, regs, rs1, rd, imm, y, target),
+    }
+}
