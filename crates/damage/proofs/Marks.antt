@@ -1,14 +1,14 @@
 -- Laws of the marks: what a frame's mark says of the lists, and that the looks by marks are the definition's searches.
 use mathlib.Core.Path.{_≡_, refl, sym, subst, ap, _∙_}
-use mathlib.Core.Bool.{Bool, true, false, not, Bool·not-not, _||_, or-true}
+use mathlib.Core.Bool.{Bool, true, false, not, Bool·not-not, _&&_, _||_, or-true}
 use mathlib.Core.List.{List, [], _∷_}
 use Prim.Native.Nat.{ℕ, zero, suc, _+_, _-_, _*_, _/_, _%_, _<_, _≤_}
 use native.Mathlib.Numerals.{add-one}
 use native.Mathlib.Nat.{add-sub-cancel-left}
 use native.Mathlib.Omega.{arith}
-use borrow.Author.Tests.{not-false, eqb-true, eq-eqb, ne-eqb, leb-true, leb-false}
+use borrow.Author.Tests.{not-false, eqb-true, eq-eqb, ne-eqb, ltb-true, ltb-false, le-leb, lt-leb, leb-true, leb-false}
 use lib.Bits.{bitOr, or-zero-r, or-add-and, and-le-l}
-use lib.Dec.{eqb, leb}
+use lib.Dec.{eqb, ltb, leb}
 use lib.ListN.{length, getD, take, drop, length-replicate, getD-replicate, List·getD-eq-default}
 use Rattle.dlx.specs.Choice.{if_then_else_}
 use Rattle.dlx.specs.declared.partition.Partition.{Partition}
@@ -20,10 +20,10 @@ use Rattle.house.specs.Lists.{any, between}
 use Rattle.house.specs.House.{noPartition}
 use Rattle.house.specs.Damage.{stands, entryWrong, wholeFrames, notZero, partitionUsed, damaged, outsideLimits, frameTwice, turnWrong, registersWrong, shadowWrong, unusedWrong, queuesWrong}
 use Rattle.house.specs.declared.House.{House}
-use Rattle.house.proofs.Lists.Bounded.{one-way, same-test, or-left, or-right, any-yes, any-at, any-none, any-same, and-right}
+use Rattle.house.proofs.Lists.Bounded.{one-way, same-test, or-left, or-right, any-yes, any-at, any-none, any-from, any-same, and-right}
 use Rattle.marks.specs.Marked.{marked, twiceMarked}
 use Rattle.marks.proofs.Marked.{marked-length, marked-at}
-use Rattle.damage.specs.Marks.{Within, shadowMarked, shadowOutside, pagesAt, partAt, entriesAt, pagesOutside, barredAt, framesBarred, ownersOf, twiceAt, twiceIn, entryMarked, outside, turnOutside, registersAt, roomWrong, queueAt, inside}
+use Rattle.damage.specs.Marks.{Within, shadowMarked, shadowOutside, pagesAt, partAt, entriesAt, pagesOutside, barredAt, framesBarred, ownersOf, twiceAt, twiceIn, entryMarked, groupMarked, behind, outside, turnOutside, registersAt, roomWrong, queueAt, inside}
 
 -- partition i's part of a list, as the code lends it
 pub part-is : (l : List ℕ) (i : ℕ) → take (i * 256 + 256 - i * 256) (drop (i * 256) l) ≡ partAt l i
@@ -260,3 +260,57 @@ module _ (p : Partition) (r : Bool) where
 
   pub counter-used : r ≡ notZero numbers 0 16 → r ≡ false → not (eqb (p .counter) 0) ≡ partitionUsed p
   counter-used e t = sym (used-is ∙ rw (sym e ∙ t) refl)
+
+-- ---- a shadow in groups of 32
+
+module _ (o : List ℕ) (tag : ℕ) (sh : List ℕ) where
+  abbrev wrong : ℕ → Bool
+  wrong px = entryMarked o tag (getD sh px 0)
+
+  empty-right : (e : ℕ) → not (eqb e 0) ≡ false → entryMarked o tag e ≡ false
+  empty-right e z = subst (λ (x : ℕ). entryMarked o tag x ≡ false) (sym (eqb-true e 0 (not-false _ z))) refl
+
+  -- no entry of an empty group is wrong
+  pub group-empty : (base : ℕ) → notZero sh base 32 ≡ false → groupMarked o tag sh base ≡ false
+  group-empty base e =
+      any-from (λ k. wrong (base + k)) 32
+      (λ k l. empty-right (getD sh (base + k) 0) (any-none (λ j. not (eqb (getD sh (base + j) 0) 0)) 32 e k l))
+
+  pub group-found : (n base : ℕ) → base + 32 ≤ n → groupMarked o tag sh base ≡ true → any wrong n ≡ true
+  group-found n base l e =
+      let r = any-at (λ k. wrong (base + k)) 32 e in
+      any-yes wrong n (base + r .0) (omega (arith, l, r .1)) (r .2)
+
+  -- one group more
+  pub group-more : (base : ℕ) → any wrong base ≡ false → groupMarked o tag sh base ≡ false → any wrong (base + 32) ≡ false
+  group-more base e g =
+      any-from wrong (base + 32)
+      (λ j l. by-test (ltb j base)
+      (λ t. any-none wrong base e j (ltb-true j base t))
+      (λ t.
+      let m : base ≤ j = ltb-false j base t in
+      let d : base + (j - base) ≡ j = omega (arith, m) in
+      subst (λ (x : ℕ). wrong x ≡ false) d (any-none (λ k. wrong (base + k)) 32 g (j - base) (omega (arith, l, m)))))
+
+-- ---- behind the first n of a list
+
+and-left : (a b : Bool) → (a && b) ≡ true → a ≡ true
+and-left true b e = refl
+and-left false b e = e
+
+module _ (l : List ℕ) (n : ℕ) where
+  pub behind-none : length l ≤ n → any (behind l n) (length l) ≡ false
+  behind-none h = any-from (behind l n) (length l) (λ j b. rw (lt-leb n j (omega (arith, h, b))))
+
+  pub behind-gathered : n < length l → notZero l n (length l - n) ≡ any (behind l n) (length l)
+  behind-gathered h =
+      same-test (notZero l n (length l - n)) (any (behind l n) (length l))
+      (λ e.
+      let r = any-at (λ k. not (eqb (getD l (n + k) 0) 0)) (length l - n) e in
+      any-yes (behind l n) (length l) (n + r .0) (omega (arith, h, r .1)) (rw (le-leb n (n + r .0) (omega arith)) (r .2)))
+      (λ e.
+      let r = any-at (behind l n) (length l) e in
+      let m : n ≤ r .0 = leb-true n (r .0) (and-left (leb n (r .0)) (not (eqb (getD l (r .0) 0) 0)) (r .2)) in
+      let d : n + (r .0 - n) ≡ r .0 = omega (arith, m) in
+      any-yes (λ k. not (eqb (getD l (n + k) 0) 0)) (length l - n) (r .0 - n) (omega (arith, m, r .1))
+      (subst (λ (x : ℕ). not (eqb (getD l x 0) 0) ≡ true) (sym d) (and-right (leb n (r .0)) (not (eqb (getD l (r .0) 0) 0)) (r .2))))

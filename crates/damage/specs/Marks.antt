@@ -71,6 +71,10 @@ abbrev pub entryMarked : List ℕ → ℕ → ℕ → Bool
 entryMarked o tag e =
     if valid e then not (eqb (getD o (number e) 0) tag) || not (eqb (e % 1024) 0) else not (eqb e 0)
 
+-- one of 32 entries from base on
+abbrev pub groupMarked : List ℕ → ℕ → List ℕ → ℕ → Bool
+groupMarked o tag sh base = any (λ k. entryMarked o tag (getD sh (base + k) 0)) 32
+
 abbrev pub shadowMarked : List ℕ → List ℕ → ℕ → Bool
 shadowMarked o sh i = any (λ px. entryMarked o (i + 1) (getD (entriesAt sh i) px 0)) entries
 

@@ -7,7 +7,7 @@ ghost use Rattle.translate.specs.Walk.{entries};
 ghost use Rattle.house.specs.Lists.{any};
 ghost use Rattle.house.specs.House.{allEntries, noPartition};
 ghost use Rattle.house.specs.Damage.{damaged, partitionUsed, notZero};
-ghost use Rattle.damage.specs.Marks.{Within, inside, pagesAt, partAt, pagesOutside, barredAt, framesBarred, outside, ownersOf, twiceIn, entryMarked, shadowMarked, turnOutside, processorWrong, registersAt, behind, roomWrong, countWrong, queueOutside, queueAt};
+ghost use Rattle.damage.specs.Marks.{Within, inside, groupMarked, pagesAt, partAt, pagesOutside, barredAt, framesBarred, outside, ownersOf, twiceIn, entryMarked, shadowMarked, turnOutside, processorWrong, registersAt, behind, roomWrong, countWrong, queueOutside, queueAt};
 use dlx::partition::Partition;
 use dlx::partition::Processor;
 use dlx::words::wide;
@@ -225,17 +225,57 @@ fn entry_wrong(e: u32, tag: u32, owners: &[u32; 1024]) -> bool
     e % 1024 != 0
 }
 
+// Anything but 0 in the size places from base on. All bits are gathered, with no way out between: the compiler takes several places at a time.
+fn not_zero(l: &[u32], base: usize, size: usize) -> bool
+    requires { ⌜ base + size ≤ length (now l) ⌝ }
+    ensures { λ r. ⌜ r ≡ notZero (now (l .entry)) base size ⌝ }
+{
+    let mut bits: u32 = 0;
+    let mut k = 0;
+    while k < size {
+        bits |= l[base + k];
+        k += 1;
+    }
+    bits != 0
+}
+
+// One of 32 entries of the owner with this tag, from base on, is wrong.
+fn entries_wrong(shadow: &[u32], base: usize, tag: u32, owners: &[u32; 1024]) -> bool
+    requires { ⌜ (base + 32 ≤ length (now shadow)) × (length (now shadow) ≡ entries) × (0 < tag) × (length (now owners) ≡ 1024) ⌝ }
+    ensures { λ r. ⌜ r ≡ groupMarked (now (owners .entry)) tag (now (shadow .entry)) base ⌝ }
+{
+    let mut k = 0;
+    while k < 32 {
+        if entry_wrong(shadow[base + k], tag, owners) {
+            return true;
+        }
+        k += 1;
+    }
+    false
+}
+
+// The same, by one look at all of them where they are empty: most are.
+fn group_wrong(shadow: &[u32], base: usize, tag: u32, owners: &[u32; 1024]) -> bool
+    requires { ⌜ (base + 32 ≤ length (now shadow)) × (length (now shadow) ≡ entries) × (0 < tag) × (length (now owners) ≡ 1024) ⌝ }
+    ensures { λ r. ⌜ r ≡ groupMarked (now (owners .entry)) tag (now (shadow .entry)) base ⌝ }
+{
+    if not_zero(shadow, base, 32) {
+        return entries_wrong(shadow, base, tag, owners);
+    }
+    false
+}
+
 // An entry of the shadow of the owner with this tag is wrong.
 fn shadow_wrong(shadow: &[u32], tag: u32, owners: &[u32; 1024]) -> bool
     requires { ⌜ (length (now shadow) ≡ entries) × (0 < tag) × (length (now owners) ≡ 1024) ⌝ }
     ensures { λ r. ⌜ r ≡ any (λ px. entryMarked (now (owners .entry)) tag (getD (now (shadow .entry)) px 0)) entries ⌝ }
 {
-    let mut px = 0;
-    while px < ENTRIES {
-        if entry_wrong(shadow[px], tag, owners) {
+    let mut base = 0;
+    while base < ENTRIES {
+        if group_wrong(shadow, base, tag, owners) {
             return true;
         }
-        px += 1;
+        base += 32;
     }
     false
 }
@@ -257,20 +297,6 @@ fn shadows_wrong(shadows: &[u32], n: usize, owners: &[u32; 1024]) -> bool
         i += 1;
     }
     false
-}
-
-// Anything but 0 in the size places from base on. All bits are gathered, with no way out between: the compiler takes several places at a time.
-fn not_zero(l: &[u32], base: usize, size: usize) -> bool
-    requires { ⌜ base + size ≤ length (now l) ⌝ }
-    ensures { λ r. ⌜ r ≡ notZero (now (l .entry)) base size ⌝ }
-{
-    let mut bits: u32 = 0;
-    let mut k = 0;
-    while k < size {
-        bits |= l[base + k];
-        k += 1;
-    }
-    bits != 0
 }
 
 // Anything but 0 in a partition that isn't there.
@@ -308,14 +334,11 @@ fn partition_used(p: Partition) -> bool
 fn behind_used(l: &[u32], n: usize) -> bool
     ensures { λ r. ⌜ r ≡ any (behind (now (l .entry)) n) (length (now (l .entry))) ⌝ }
 {
-    let mut k = n;
-    while k < l.len() {
-        if l[k] != 0 {
-            return true;
-        }
-        k += 1;
+    let size = l.len();
+    if size <= n {
+        return false;
     }
-    false
+    not_zero(l, n, size - n)
 }
 
 // Anything but 0 in the unused places of partition i's room.
