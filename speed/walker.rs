@@ -1,8 +1,9 @@
 //! An ordinary emulator of the guest machine, for comparison: it keeps no shadow and walks the guest's page table at every
-//! fetch, load and store. Memory is a `Vec` of host words; the guest's page k lies in the k-th frame of its list.
+//! fetch, load and store. Memory is a `Vec` of host words; the guest's page k lies in the k-th frame of its list. It has no
+//! tickets, which no guest here uses, and counts its timer only for the guest that starts one.
 //!
-//! Standard input has one line, `STEPS TURN`, as for the house; there are no turns here, and TURN is not used. Standard output
-//! is the number of steps done and a digest of the registers, the special registers and the whole memory.
+//! Standard input has one line, `STEPS TURN GUEST`, as for the house; there are no turns here, and TURN is not used. Standard
+//! output is the number of steps done and a digest of the registers, the special registers and the whole memory.
 //!
 //! `main` is C's: the Rust runtime's own start reads /proc/self/maps, which not every emulator of x86-64 bears.
 #![no_main]
@@ -17,6 +18,7 @@ enum Cause {
     DataFault(u32),
     Trap(u32),
     Overflow,
+    Timer,
 }
 
 struct Guest {
@@ -33,6 +35,10 @@ struct Guest {
     pto: u32,
     ptl: u32,
     emode: u32,
+    tcount: u32,
+    tload: u32,
+    /// TCOUNT before it fell in this step: what movs2i reads.
+    unfallen: u32,
     /// Guest page k is host frame `frames[k]`.
     frames: Vec<u32>,
     words: Vec<u32>,
@@ -75,6 +81,9 @@ impl Guest {
             pto: 0,
             ptl: 0,
             emode: 0,
+            tcount: 0,
+            tload: 0,
+            unfallen: 0,
             frames,
             words,
         }
@@ -93,7 +102,7 @@ impl Guest {
         if self.mode == 0 {
             return self.place(px, offset);
         }
-        if px >= self.ptl || px > 1023 {
+        if px >= self.ptl.min(1024) {
             return None;
         }
         let entry = self.words[self.place(self.pto, px)?];
@@ -162,6 +171,8 @@ impl Guest {
             7 => Some(&mut self.pto),
             8 => Some(&mut self.ptl),
             9 => Some(&mut self.emode),
+            10 => Some(&mut self.tcount),
+            11 => Some(&mut self.tload),
             _ => None,
         }
     }
@@ -174,7 +185,9 @@ impl Guest {
         Ok(a)
     }
 
-    /// Does the instruction at DPC and gives the PC that follows it.
+    /// Does the instruction at DPC and gives the PC that follows it. It has two call sites, with and without a timer, and is
+    /// worth a copy in each.
+    #[inline(always)]
     fn instruction(&mut self) -> Result<u32, Cause> {
         if self.dpc % 4 != 0 {
             return Err(Cause::Misaligned);
@@ -184,14 +197,13 @@ impl Guest {
         let rs1 = (w >> 21 & 31) as usize;
         let rd = (w >> 16 & 31) as usize;
         let imm = sign_extend(w, 16);
-        let far = sign_extend(w, 26);
         let next = self.pc.wrapping_add(4);
         match opcode {
             0 => self.register_type(w)?,
-            2 => return Ok(self.pc.wrapping_add(far)),
+            2 => return Ok(self.pc.wrapping_add(sign_extend(w, 26))),
             3 => {
                 self.set(31, next);
-                return Ok(self.pc.wrapping_add(far));
+                return Ok(self.pc.wrapping_add(sign_extend(w, 26)));
             }
             4 if self.regs[rs1] == 0 => return Ok(self.pc.wrapping_add(imm)),
             5 if self.regs[rs1] != 0 => return Ok(self.pc.wrapping_add(imm)),
@@ -224,7 +236,7 @@ impl Guest {
                 let a = self.address(rs1, imm, 4)?;
                 self.store(a, self.regs[rd]).ok_or(Cause::DataFault(a))?;
             }
-            62 => return Err(Cause::Trap(far)),
+            62 => return Err(Cause::Trap(sign_extend(w, 26))),
             63 if self.mode == 0 => {
                 self.pc = self.edpc;
                 self.sr = self.esr;
@@ -236,6 +248,7 @@ impl Guest {
         Ok(next)
     }
 
+    #[inline(always)]
     fn register_type(&mut self, w: u32) -> Result<(), Cause> {
         let x = self.regs[(w >> 21 & 31) as usize];
         let y = self.regs[(w >> 16 & 31) as usize];
@@ -250,7 +263,7 @@ impl Guest {
             38 => self.set(rd, x ^ y),
             40..=47 => self.set(rd, test(function - 40, x, y)),
             16 if self.mode == 0 => {
-                let v = *self.special(sa).ok_or(Cause::Illegal)?;
+                let v = if sa == 10 { self.unfallen } else { *self.special(sa).ok_or(Cause::Illegal)? };
                 self.set(rd, v);
             }
             17 if self.mode == 0 => {
@@ -279,6 +292,7 @@ impl Guest {
             Cause::DataFault(_) => 16,
             Cause::Trap(_) => 32,
             Cause::Overflow => 64,
+            Cause::Timer => 1 << 13,
         };
         self.esr = self.sr;
         self.sr = 0;
@@ -289,32 +303,55 @@ impl Guest {
         calls
     }
 
+    /// TCOUNT falls, and is loaded again at 0. Answers whether the timer interrupts in this step.
+    fn tick(&mut self) -> bool {
+        self.unfallen = self.tcount;
+        if self.tcount == 0 {
+            return false;
+        }
+        self.tcount -= 1;
+        if self.tcount > 0 {
+            return false;
+        }
+        self.tcount = self.tload;
+        self.sr & 1 << 13 != 0
+    }
+
     /// One step. Answers whether the guest calls the hypervisor.
-    fn step(&mut self) -> bool {
+    fn step<const TIMER: bool>(&mut self) -> bool {
+        let fires = TIMER && self.tick();
         match self.instruction() {
             Ok(target) => {
                 self.dpc = self.pc;
                 self.pc = target;
-                false
+                fires && self.interrupt(Cause::Timer)
             }
-            Err(cause) => self.interrupt(cause),
+            Err(cause) => {
+                let calls = self.interrupt(cause);
+                if fires {
+                    self.eca |= 1 << 13;
+                }
+                calls
+            }
         }
     }
 
     /// Up to k steps, ending early after one that calls the hypervisor. Answers how many were made.
-    fn run(&mut self, k: u32) -> u32 {
-        for made in 1..=k {
-            if self.step() {
-                return made;
+    fn run<const TIMER: bool>(&mut self, k: u32) -> u32 {
+        let mut made = 0;
+        while made < k {
+            made += 1;
+            if self.step::<TIMER>() {
+                break;
             }
         }
-        k
+        made
     }
 
     fn digest(&self) -> u64 {
         let specials = [
             self.dpc, self.pc, self.sr, self.esr, self.eca, self.epc, self.edpc, self.edata, self.mode, self.pto,
-            self.ptl, self.emode,
+            self.ptl, self.emode, self.tcount, self.tload,
         ];
         let all = self.regs.iter().chain(&specials).chain(&self.words);
         all.fold(0, |h, &w| (h * 31 + w as u64) % 4_294_967_291)
@@ -323,64 +360,176 @@ impl Guest {
 
 const PAGES: u32 = 67;
 
-/// Guest page 0 has the start, page 1 the page table, page 2 the loop, pages 3 to 66 the data. The user's page 0 is the
-/// loop, its pages 1 to 64 the data. The frames are a permutation of the frames 1 to 67.
-fn guest(bytes: bool) -> Guest {
+/// It sets the table and goes to user mode.
+const START: &[u32] = &[
+    0x2001_0001, // addi r1, r0, 1
+    0x0020_01D1, // movi2s PTO, r1
+    0x0020_0251, // movi2s EMODE, r1
+    0x2001_0041, // addi r1, r0, 65
+    0x0020_0211, // movi2s PTL, r1
+    0x2001_0004, // addi r1, r0, 4
+    0x0020_00D1, // movi2s EPC, r1
+    0xFC00_0000, // rfe
+];
+
+/// The same behind a test for the handler: an interrupt enters at word 0, with a cause in ECA.
+const START_HANDLED: &[u32] = &[
+    0x0000_A090, // movs2i r20, ECA
+    0x1680_0058, // bnez r20, 88: to the handler
+    0x2001_0001, // addi r1, r0, 1: the delay slot, and the start
+    0x0020_01D1, // movi2s PTO, r1
+    0x0020_0251, // movi2s EMODE, r1
+    0x2001_0041, // addi r1, r0, 65
+    0x0020_0211, // movi2s PTL, r1
+    0x2001_0004, // addi r1, r0, 4
+    0x0020_00D1, // movi2s EPC, r1
+    0xFC00_0000, // rfe
+];
+
+/// And with the timer, which fires every 30 steps.
+const START_TIMED: &[u32] = &[
+    0x0000_A090, // movs2i r20, ECA
+    0x1680_0058, // bnez r20, 88: to the handler
+    0x2001_0001, // addi r1, r0, 1: the delay slot, and the start
+    0x0020_01D1, // movi2s PTO, r1
+    0x0020_0251, // movi2s EMODE, r1
+    0x2001_0041, // addi r1, r0, 65
+    0x0020_0211, // movi2s PTL, r1
+    0x2001_0004, // addi r1, r0, 4
+    0x0020_00D1, // movi2s EPC, r1
+    0x2001_2000, // addi r1, r0, 8192
+    0x0020_0051, // movi2s ESR, r1
+    0x2001_001E, // addi r1, r0, 30
+    0x0020_02D1, // movi2s TLOAD, r1
+    0x0020_0291, // movi2s TCOUNT, r1
+    0xFC00_0000, // rfe
+];
+
+/// It counts in a register and in a word of the page, and goes back.
+const HANDLER: &[u32] = &[
+    0x0000_A910, // movs2i r21, EDPC
+    0x22D6_0001, // addi r22, r22, 1
+    0x02F5_B826, // xor r23, r23, r21
+    0x8C18_0800, // lw r24, 2048(r0)
+    0x2318_0001, // addi r24, r24, 1
+    0xAC18_0800, // sw r24, 2048(r0)
+    0xFC00_0000, // rfe
+];
+
+/// Words of 64 pages.
+const WORDS: &[u32] = &[
+    0x20A5_0001, // addi r5, r5, 1
+    0x30A1_03FF, // andi r1, r5, 1023
+    0x0021_0820, // add r1, r1, r1
+    0x0021_0820, // add r1, r1, r1
+    0x2021_1000, // addi r1, r1, 4096: the first data page
+    0x2002_0040, // addi r2, r0, 64
+    0x8C23_0000, // lw r3, 0(r1): the inner loop's first
+    0x2063_0001, // addi r3, r3, 1
+    0xAC23_0000, // sw r3, 0(r1)
+    0x2021_1000, // addi r1, r1, 4096
+    0x2042_FFFF, // addi r2, r2, -1
+    0x1440_FFE8, // bnez r2, -24
+    0x2084_0001, // addi r4, r4, 1: its delay slot
+    0x0BFF_FFC8, // j -56
+    0x00E3_3826, // xor r7, r7, r3: its delay slot
+];
+
+/// Bytes and half words of 64 pages.
+const BYTES: &[u32] = &[
+    0x20A5_0002, // addi r5, r5, 2
+    0x30A1_0FFE, // andi r1, r5, 4094
+    0x2021_1000, // addi r1, r1, 4096: the first data page
+    0x2002_0040, // addi r2, r0, 64
+    0x9023_0000, // lbu r3, 0(r1): the inner loop's first
+    0x2063_0001, // addi r3, r3, 1
+    0xA023_0000, // sb r3, 0(r1)
+    0x8426_0000, // lh r6, 0(r1)
+    0x2021_1000, // addi r1, r1, 4096
+    0x2042_FFFF, // addi r2, r2, -1
+    0x1440_FFE4, // bnez r2, -28
+    0x2084_0001, // addi r4, r4, 1: its delay slot
+    0x0BFF_FFCC, // j -52
+    0x00E6_3826, // xor r7, r7, r6: its delay slot
+];
+
+/// Register work, with branches and calls.
+const REGISTERS: &[u32] = &[
+    0x20A5_0001, // addi r5, r5, 1
+    0x00C5_3026, // xor r6, r6, r5
+    0x00E6_3820, // add r7, r7, r6
+    0x30E8_00FF, // andi r8, r7, 255
+    0x7109_0080, // slsi r9, r8, 128
+    0x1520_000C, // bnez r9, 12: over the next two
+    0x214A_0003, // addi r10, r10, 3: its delay slot
+    0x00EA_5822, // sub r11, r7, r10
+    0x0165_6025, // or r12, r11, r5
+    0x018B_6829, // sgr r13, r12, r11
+    0x11A0_0008, // beqz r13, 8: over the next one
+    0x39CE_0055, // xori r14, r14, 85: its delay slot
+    0x01CC_7824, // and r15, r14, r12
+    0x3C10_1234, // lhgi r16, 4660
+    0x0C00_0010, // jal 16: calls the last three
+    0x3611_0011, // ori r17, r16, 17: its delay slot
+    0x2A52_0001, // subi r18, r18, 1
+    0x0BFF_FFB8, // j -72
+    0x0092_2020, // add r4, r4, r18: its delay slot
+    0x0225_9820, // add r19, r17, r5: called
+    0x5BE0_0000, // jr r31
+    0x0073_1826, // xor r3, r3, r19: its delay slot
+];
+
+/// Every tenth of its steps is a trap.
+const TRAPS: &[u32] = &[
+    0x20A5_0004, // addi r5, r5, 4
+    0x30A1_0FFC, // andi r1, r5, 4092
+    0x2021_1000, // addi r1, r1, 4096: the first data page
+    0x8C23_0000, // lw r3, 0(r1)
+    0x2063_0001, // addi r3, r3, 1
+    0xAC23_0000, // sw r3, 0(r1)
+    0x00E3_3826, // xor r7, r7, r3
+    0xF800_0005, // trap 5
+    0x0BFF_FFDC, // j -36
+    0x2084_0001, // addi r4, r4, 1: its delay slot
+];
+
+/// The timer interrupts it.
+const TIMER: &[u32] = &[
+    0x20A5_0004, // addi r5, r5, 4
+    0x30A1_0FFC, // andi r1, r5, 4092
+    0x2021_1000, // addi r1, r1, 4096: the first data page
+    0x8C23_0000, // lw r3, 0(r1)
+    0x2063_0001, // addi r3, r3, 1
+    0xAC23_0000, // sw r3, 0(r1)
+    0x00E3_3826, // xor r7, r7, r3
+    0x0107_4020, // add r8, r8, r7
+    0x0BFF_FFDC, // j -36
+    0x2084_0001, // addi r4, r4, 1: its delay slot
+];
+
+/// Guest page 0 has the start and, from word 24, the handler; page 1 the page table, page 2 the loop, pages 3 to 66 the
+/// data. The user's page 0 is the loop, its pages 1 to 64 the data. The frames are a permutation of the frames 1 to 67.
+fn guest(kind: u32) -> Guest {
     let frames: Vec<u32> = (0..PAGES).map(|k| (k * 13 + 5) % PAGES + 1).collect();
     let mut words = vec![0; (PAGES as usize + 1) * 1024];
-    let mut fill = |page: u32, list: &[u32]| {
-        let at = frames[page as usize] as usize * 1024;
+    let mut fill = |page: u32, first: usize, list: &[u32]| {
+        let at = frames[page as usize] as usize * 1024 + first;
         words[at..at + list.len()].copy_from_slice(list);
     };
     let table: Vec<u32> = (2..PAGES).map(|page| page * 4096 + 0x800).collect();
-    fill(1, &table);
-    fill(
-        0,
-        &[
-            0x2001_0001, // addi r1, r0, 1
-            0x0020_01D1, // movi2s PTO, r1
-            0x0020_0251, // movi2s EMODE, r1
-            0x2001_0041, // addi r1, r0, 65
-            0x0020_0211, // movi2s PTL, r1
-            0x2001_0004, // addi r1, r0, 4
-            0x0020_00D1, // movi2s EPC, r1
-            0xFC00_0000, // rfe
-        ],
-    );
-    let byte_loop = [
-        0x20A5_0002, // addi r5, r5, 2
-        0x30A1_0FFE, // andi r1, r5, 4094
-        0x2021_1000, // addi r1, r1, 4096: the first data page
-        0x2002_0040, // addi r2, r0, 64
-        0x9023_0000, // lbu r3, 0(r1): the inner loop's first
-        0x2063_0001, // addi r3, r3, 1
-        0xA023_0000, // sb r3, 0(r1)
-        0x8426_0000, // lh r6, 0(r1)
-        0x2021_1000, // addi r1, r1, 4096
-        0x2042_FFFF, // addi r2, r2, -1
-        0x1440_FFE4, // bnez r2, -28
-        0x2084_0001, // addi r4, r4, 1: its delay slot
-        0x0BFF_FFCC, // j -52
-        0x00E6_3826, // xor r7, r7, r6: its delay slot
-    ];
-    let word_loop = [
-        0x20A5_0001, // addi r5, r5, 1
-        0x30A1_03FF, // andi r1, r5, 1023
-        0x0021_0820, // add r1, r1, r1
-        0x0021_0820, // add r1, r1, r1
-        0x2021_1000, // addi r1, r1, 4096: the first data page
-        0x2002_0040, // addi r2, r0, 64
-        0x8C23_0000, // lw r3, 0(r1): the inner loop's first
-        0x2063_0001, // addi r3, r3, 1
-        0xAC23_0000, // sw r3, 0(r1)
-        0x2021_1000, // addi r1, r1, 4096
-        0x2042_FFFF, // addi r2, r2, -1
-        0x1440_FFE8, // bnez r2, -24
-        0x2084_0001, // addi r4, r4, 1: its delay slot
-        0x0BFF_FFC8, // j -56
-        0x00E3_3826, // xor r7, r7, r3: its delay slot
-    ];
-    fill(2, if bytes { &byte_loop } else { &word_loop });
+    fill(1, 0, &table);
+    let (start, user_loop) = match kind {
+        1 => (START, BYTES),
+        2 => (START, REGISTERS),
+        3 => (START_HANDLED, TRAPS),
+        4 => (START_TIMED, TIMER),
+        _ => (START, WORDS),
+    };
+    fill(0, 0, start);
+    fill(2, 0, user_loop);
+    if kind == 3 || kind == 4 {
+        fill(0, 24, HANDLER);
+    }
     Guest::new(frames, words)
 }
 
@@ -390,10 +539,12 @@ pub extern "C" fn main() -> i32 {
     std::io::stdin().read_to_string(&mut line).unwrap();
     let mut numbers = line.split_whitespace();
     let steps: u32 = numbers.next().unwrap().parse().unwrap();
-    let mut guest = guest(numbers.nth(1) == Some("1"));
+    let kind: u32 = numbers.nth(1).map_or(0, |n| n.parse().unwrap());
+    let mut guest = guest(kind);
     let mut done = 0;
     while done < steps {
-        done += guest.run(steps - done);
+        let rest = steps - done;
+        done += if kind == 4 { guest.run::<true>(rest) } else { guest.run::<false>(rest) };
     }
     println!("{} {}", done, guest.digest());
     0
