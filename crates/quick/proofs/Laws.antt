@@ -6,7 +6,8 @@ use Prim.Native.Nat.{ℕ, zero, suc, _+_, _-_, _*_, _/_, _%_, _^_, _<_, _≤_}
 use native.Mathlib.Omega.{arith}
 use borrow.Author.Tests.{lt-ltb, le-ltb, eq-eqb, ne-eqb, ltb-true, ltb-false, eqb-true, lt-leb, le-leb, leb-false}
 use lib.Dec.{ltb, leb, eqb}
-use lib.ListN.{length, getD, set}
+use lib.ListN.{length, getD, set, take, drop, length-drop}
+use lib.Seq.{getD-take, getD-drop, length-take-le}
 use Rattle.dlx.specs.Choice.{if_then_else_}
 use Rattle.dlx.specs.Words.{plus}
 use Rattle.dlx.specs.Fields.{aligned, width, brought, placed}
@@ -62,6 +63,21 @@ inside page x p f e =
     let m = sum-low page x (page-high page p f) (t .1) in
     let i = inside-page page x f (t .0) (t .1) in
     (subst (λ z. z / 4096 ≡ page / 4096) (sym m) (i .0), subst (λ z. z % 4 ≡ 0) (sym m) (i .1), subst (λ z. z / 4 % 1024 ≡ x / 4) (sym m) (i .2))
+
+-- ---- the page's words, lent
+
+whole-page : (base : ℕ) → base + 1024 - base ≡ 1024
+whole-page base = omega arith
+
+pub page-long : (ws : List ℕ) (base : ℕ) → base + 1024 ≤ length ws → length (take (base + 1024 - base) (drop base ws)) ≡ 1024
+page-long ws base h = ap (λ (n : ℕ). length (take n (drop base ws))) (whole-page base) ∙ length-take-le 1024 (drop base ws) (omega (arith, length-drop base ws))
+
+pub page-word : (ws : List ℕ) (base x w : ℕ) → x < 4096 → w ≡ getD (take (base + 1024 - base) (drop base ws)) (x / 4) 0 → w ≡ getD ws (base + x / 4) 0
+page-word ws base x w l e =
+    e
+    ∙ ap (λ (n : ℕ). getD (take n (drop base ws)) (x / 4) 0) (whole-page base)
+    ∙ getD-take 1024 (drop base ws) (x / 4) 0 (omega arith)
+    ∙ getD-drop base ws (x / 4) 0
 
 -- ---- what is seen
 

@@ -1,6 +1,7 @@
 // Plain steps on end in one page of code. Nothing in the loop can change the table, the shadow or the mode: so the page's frame is looked up once.
 ghost use mathlib.Core.Path.{_≡_};
-ghost use lib.ListN.{length};
+ghost use Prim.Native.Nat.{_/_, _<_};
+ghost use lib.ListN.{length, getD};
 ghost use Rattle.dlx.specs.Words.{plus};
 ghost use Rattle.dlx.specs.Processor.{user};
 ghost use Rattle.translate.specs.Premises.{Placed, Shadowed};
@@ -22,6 +23,14 @@ fn away(x: u32) -> bool
     ensures { λ r. ⌜ r ≡ awayOf x ⌝ }
 {
     (x % 4 != 0) | (4096 <= x)
+}
+
+// The word of a page that begins x behind its first address.
+fn fetch(page: &[u32], x: u32) -> u32
+    requires { ⌜ length (now page) ≡ 1024 ⌝ ∗ ⌜ x < 4096 ⌝ }
+    ensures { λ r. ⌜ r ≡ getD (now (page .entry)) (x / 4) 0 ⌝ }
+{
+    page[wide(x / 4)]
 }
 
 // The pair x and y behind the page's first address.
@@ -56,7 +65,7 @@ fn in_page(
         if away(x) {
             return quit(page, x, y, rest);
         }
-        let w = words[base + wide(x / 4)];
+        let w = fetch(&words[base..base + 1024], x);
         let mut target: u32 = 0;
         if !plain::act(
             p,

@@ -1,5 +1,5 @@
 use Rattle.plain.proofs.Laws.{not-true, not-false}
-use Rattle.quick.proofs.Laws.{not-away, cached-inside, goes-none, goes-quit, goes-on}
+use Rattle.quick.proofs.Laws.{not-away, page-long, page-word, cached-inside, goes-none, goes-quit, goes-on}
 use Rattle.plain.specs.Plain.{pairOf}
 use Rattle.quick.specs.Quick.{Goes}
 use Rattle.dlx.specs.Words.{plus}
@@ -12,9 +12,9 @@ use Rattle.quick.proofs.in_page.Statement.{statement}
 use Rattle.quick.proofs.in_page.Tie as tie
 use Rattle.quick.proofs.in_page.Reads as reads
 use Rattle.quick.proofs.in_page.Lts as lts
-use Rattle.dlx.proofs.words.wide.Reads as wide-reads
 use Rattle.plain.proofs.act.Reads as act-reads
 use Rattle.quick.proofs.away.Reads as away-reads
+use Rattle.quick.proofs.fetch.Reads as fetch-reads
 use Rattle.quick.proofs.quit.Reads as quit-reads
 use Rattle.std.proofs.num.wrapping_sub_u32.Reads as wrapping-sub-u32-reads
 
@@ -27,99 +27,81 @@ Inv-loop p t pages page base regs₀ frames shadow words₀ k x₀ y₀ rest₀ 
 abbrev μ-loop : tie.MeasureT-loop
 μ-loop p t pages page base regs₀ frames shadow words₀ k x₀ y₀ rest₀ regs words x y rest = rest
 
--- src/lib.rt:459:9
 wrapping-sub-u32-requires : tie.Need-wrapping-sub-u32-requires Inv-loop μ-loop
 wrapping-sub-u32-requires c κs = search needs
 
--- src/lib.rt:460:9
 wrapping-sub-u32-requires-2 : tie.Need-wrapping-sub-u32-requires-2 Inv-loop μ-loop
 wrapping-sub-u32-requires-2 c κs = search needs
 
--- src/lib.rt:462:5
 loop-holds : tie.Need-loop-holds Inv-loop μ-loop
 loop-holds c = let s = c .before .before .before .before .before .before in (goes-none _ _ _ _ _ _ _ _ _ _ (c .before .wrapping-sub-u32 .ensures) (c .wrapping-sub-u322 .ensures), refl, refl)
 
--- src/lib.rt:463:12
 away-requires : tie.Need-away-requires Inv-loop μ-loop
 away-requires c κs = search needs
 
--- src/lib.rt:464:13
 quit-requires : tie.Need-quit-requires Inv-loop μ-loop
 quit-requires c κs = search needs
 
--- src/lib.rt:464:13
 same-length : tie.Need-same-length Inv-loop μ-loop
 same-length c = omega (arith, c .before .before .before .before .loop .inv .1)
 
--- src/lib.rt:464:13
 same-length-2 : tie.Need-same-length-2 Inv-loop μ-loop
 same-length-2 c = omega (arith, c .before .before .before .before .loop .inv .2)
 
--- src/lib.rt:464:13
 returns : tie.Need-returns Inv-loop μ-loop
 returns c = (goes-quit _ _ _ _ _ _ _ _ _ _ _ _ _ _ _ _ (c .quit .ensures) (c .before .before .before .before .loop .inv .0), c .before .before .before .before .loop .inv .1, c .before .before .before .before .loop .inv .2)
 
--- src/lib.rt:466:30
-wide-requires : tie.Need-wide-requires Inv-loop μ-loop
-wide-requires c κs = search needs
+add-fetch : tie.Need-add-fetch Inv-loop μ-loop
+add-fetch c = let s = c .before .before .before .before .before .before .before .before .before .before in let i = cached-inside _ _ _ _ _ (s .args .t) (s .args .words .now) _ (s .pre .1 .0) (s .pre .1 .1 .0) (s .pre .1 .1 .1) in omega (arith, i, s .pre .1 .0 .small)
 
--- src/lib.rt:466:23
-add-w : tie.Need-add-w Inv-loop μ-loop
-add-w c = let s = c .before .before .before .before .before .before .before .before .before .before .before in let g = not-away _ (sym (c .before .before .away .ensures) ∙ c .before .if1 .left) in let i = cached-inside _ _ _ _ _ (s .args .t) (s .args .words .now) _ (s .pre .1 .0) (s .pre .1 .1 .0) (s .pre .1 .1 .1) in omega (arith, i, c .wide .ensures, g .1, s .pre .1 .0 .small)
+mul-fetch : tie.Need-mul-fetch Inv-loop μ-loop
+mul-fetch c = let s = c .before .before .before .before .before .before .before .before .before .before in let i = cached-inside _ _ _ _ _ (s .args .t) (s .args .words .now) _ (s .pre .1 .0) (s .pre .1 .1 .0) (s .pre .1 .1 .1) in omega (arith, i, s .pre .1 .0 .small)
 
--- src/lib.rt:466:17
-mul-w : tie.Need-mul-w Inv-loop μ-loop
-mul-w c = let s = c .before .before .before .before .before .before .before .before .before .before .before in let g = not-away _ (sym (c .before .before .away .ensures) ∙ c .before .if1 .left) in let i = cached-inside _ _ _ _ _ (s .args .t) (s .args .words .now) _ (s .pre .1 .0) (s .pre .1 .1 .0) (s .pre .1 .1 .1) in omega (arith, i, c .wide .ensures, g .1, s .pre .1 .0 .small)
+sub-fetch : tie.Need-sub-fetch Inv-loop μ-loop
+sub-fetch c = omega arith
 
--- src/lib.rt:466:17
-slice-read-w : tie.Need-slice-read-w Inv-loop μ-loop
-slice-read-w c = let s = c .before .before .before .before .before .before .before .before .before .before .before .before in let g = not-away _ (sym (c .before .before .before .away .ensures) ∙ c .before .before .if1 .left) in let i = cached-inside _ _ _ _ _ (s .args .t) (s .args .words .now) _ (s .pre .1 .0) (s .pre .1 .1 .0) (s .pre .1 .1 .1) in omega (arith, i, c .before .wide .ensures, g .1, c .before .before .before .before .before .loop .inv .2)
+part-fetch-start : tie.Need-part-fetch-start Inv-loop μ-loop
+part-fetch-start c = omega arith
 
--- src/lib.rt:468:13
+part-fetch-end : tie.Need-part-fetch-end Inv-loop μ-loop
+part-fetch-end c = let s = c .before .before .before .before .before .before .before .before .before .before .before in let i = cached-inside _ _ _ _ _ (s .args .t) (s .args .words .now) _ (s .pre .1 .0) (s .pre .1 .1 .0) (s .pre .1 .1 .1) in omega (arith, i, c .before .before .before .before .loop .inv .2)
+
+fetch-requires : tie.Need-fetch-requires Inv-loop μ-loop
+fetch-requires c κs = let s = c .before .before .before .before .before .before .before .before .before .before .before .before in let i = cached-inside _ _ _ _ _ (s .args .t) (s .args .words .now) _ (s .pre .1 .0) (s .pre .1 .1 .0) (s .pre .1 .1 .1) in (page-long (c .before .before .before .before .before .loop .words) (s .args .base) (omega (arith, i, c .before .before .before .before .before .loop .inv .2)), not-away _ (sym (c .before .before .before .away .ensures) ∙ c .before .before .if1 .left) .1)
+
 act-requires : tie.Need-act-requires Inv-loop μ-loop
-act-requires c κs = let s = c .before .before .before .before .before .before .before .before .before .before .before .before .before .before .before in let i = c .before .before .before .before .before .before .before .before .loop .inv in (i .1 ∙ s .pre .0, (subst (λ z. Placed (s .args .frames .now) (s .args .pages) z) (sym (i .2)) (s .pre .1 .0), s .pre .1 .1 .0))
+act-requires c κs = let s = c .before .before .before .before .before .before .before .before .before .before .before .before .before .before .before .before in let i = c .before .before .before .before .before .before .before .before .before .loop .inv in (i .1 ∙ s .pre .0, (subst (λ z. Placed (s .args .frames .now) (s .args .pages) z) (sym (i .2)) (s .pre .1 .0), s .pre .1 .1 .0))
 
--- src/lib.rt:481:13
 quit-requires-2 : tie.Need-quit-requires-2 Inv-loop μ-loop
 quit-requires-2 c κs = search needs
 
--- src/lib.rt:481:13
 same-length-3 : tie.Need-same-length-3 Inv-loop μ-loop
-same-length-3 c = omega (arith, c .before .before .before .before .before .before .before .before .before .before .before .before .before .before .before .loop .inv .1)
+same-length-3 c = omega (arith, c .before .before .before .before .before .before .before .before .before .before .before .before .before .before .before .before .loop .inv .1)
 
--- src/lib.rt:481:13
 same-length-4 : tie.Need-same-length-4 Inv-loop μ-loop
-same-length-4 c = omega (arith, c .before .before .before .before .before .before .before .before .before .before .before .before .before .before .before .loop .inv .2)
+same-length-4 c = omega (arith, c .before .before .before .before .before .before .before .before .before .before .before .before .before .before .before .before .loop .inv .2)
 
--- src/lib.rt:481:13
 returns-2 : tie.Need-returns-2 Inv-loop μ-loop
-returns-2 c = let f = c .before .before .before .before .before .before .act .ensures .1 (not-true _ (c .before .if2 .taken)) in rw (f .0, f .1) (goes-quit _ _ _ _ _ _ _ _ _ _ _ _ _ _ _ _ (c .quit2 .ensures) (c .before .before .before .before .before .before .before .before .before .before .before .before .before .before .before .loop .inv .0), c .before .before .before .before .before .before .before .before .before .before .before .before .before .before .before .loop .inv .1, c .before .before .before .before .before .before .before .before .before .before .before .before .before .before .before .loop .inv .2)
+returns-2 c = let f = c .before .before .before .before .before .before .act .ensures .1 (not-true _ (c .before .if2 .taken)) in rw (f .0, f .1) (goes-quit _ _ _ _ _ _ _ _ _ _ _ _ _ _ _ _ (c .quit2 .ensures) (c .before .before .before .before .before .before .before .before .before .before .before .before .before .before .before .before .loop .inv .0), c .before .before .before .before .before .before .before .before .before .before .before .before .before .before .before .before .loop .inv .1, c .before .before .before .before .before .before .before .before .before .before .before .before .before .before .before .before .loop .inv .2)
 
--- src/lib.rt:485:9
 sub-rest : tie.Need-sub-rest Inv-loop μ-loop
-sub-rest c = omega (arith, c .before .before .before .before .before .before .before .before .before .before .before .before .before .loop-test .taken)
+sub-rest c = omega (arith, c .before .before .before .before .before .before .before .before .before .before .before .before .before .before .loop-test .taken)
 
--- src/lib.rt:462:5
 loop-less : tie.Need-loop-less Inv-loop μ-loop
-loop-less c = omega (arith, c .before .before .before .before .before .before .before .before .before .before .before .before .before .loop-test .taken)
+loop-less c = omega (arith, c .before .before .before .before .before .before .before .before .before .before .before .before .before .before .loop-test .taken)
 
--- src/lib.rt:462:5
 loop-again : tie.Need-loop-again Inv-loop μ-loop
-loop-again c = let s = c .before .before .before .before .before .before .before .before .before .before .before .before .before .before .before .before .before .before .before .before .before in let i = c .before .before .before .before .before .before .before .before .before .before .before .before .before .before .loop .inv in let f = c .before .before .before .before .before .act .ensures .0 (not-false _ (c .if2 .left)) in (goes-on _ _ _ _ _ _ _ (omega arith) (s .pre .1 .1 .1) _ _ _ _ _ _ _ _ _ _ _ _ (c .before .before .before .before .before .before .before .before .before .before .before .before .before .loop-test .taken) (sym (c .before .before .before .before .before .before .before .before .before .before .before .before .away .ensures) ∙ c .before .before .before .before .before .before .before .before .before .before .before .if1 .left) (simp (c .before .before .before .before .before .before .before .before .before .before .wide .ensures)) f (i .0), omega (arith, i .1), omega (arith, i .2))
+loop-again c = let s = c .before .before .before .before .before .before .before .before .before .before .before .before .before .before .before .before .before .before .before .before .before .before in let i = c .before .before .before .before .before .before .before .before .before .before .before .before .before .before .before .loop .inv in let f = c .before .before .before .before .before .act .ensures .0 (not-false _ (c .if2 .left)) in (goes-on _ _ _ _ _ _ _ (omega arith) (s .pre .1 .1 .1) _ _ _ _ _ _ _ _ _ _ _ _ (c .before .before .before .before .before .before .before .before .before .before .before .before .before .before .loop-test .taken) (sym (c .before .before .before .before .before .before .before .before .before .before .before .before .before .away .ensures) ∙ c .before .before .before .before .before .before .before .before .before .before .before .before .if1 .left) (page-word (c .before .before .before .before .before .before .before .before .before .before .before .before .before .before .before .loop .words) (s .args .base) _ _ (not-away _ (sym (c .before .before .before .before .before .before .before .before .before .before .before .before .before .away .ensures) ∙ c .before .before .before .before .before .before .before .before .before .before .before .before .if1 .left) .1) (c .before .before .before .before .before .before .before .before .before .fetch .ensures)) f (i .0), omega (arith, i .1), omega (arith, i .2))
 
--- src/lib.rt:487:5
 quit-requires-3 : tie.Need-quit-requires-3 Inv-loop μ-loop
 quit-requires-3 c κs = search needs
 
--- src/lib.rt:444:1
 same-length-5 : tie.Need-same-length-5 Inv-loop μ-loop
 same-length-5 c = omega (arith, c .before .before .loop .inv .1)
 
--- src/lib.rt:444:1
 same-length-6 : tie.Need-same-length-6 Inv-loop μ-loop
 same-length-6 c = omega (arith, c .before .before .loop .inv .2)
 
--- src/lib.rt:444:1
 returns-3 : tie.Need-returns-3 Inv-loop μ-loop
 returns-3 c = (goes-quit _ _ _ _ _ _ _ _ _ _ _ _ _ _ _ _ (c .quit3 .ensures) (c .before .before .loop .inv .0), c .before .before .loop .inv .1, c .before .before .loop .inv .2)
 
@@ -137,10 +119,12 @@ in-page-spec =
     same-length
     same-length-2
     returns
-    wide-requires
-    add-w
-    mul-w
-    slice-read-w
+    add-fetch
+    mul-fetch
+    sub-fetch
+    part-fetch-start
+    part-fetch-end
+    fetch-requires
     act-requires
     quit-requires-2
     same-length-3
