@@ -1,6 +1,6 @@
 //! An ordinary emulator of the guest machine, for comparison: it keeps no shadow and walks the guest's page table at every
 //! fetch, load and store. Memory is a `Vec` of host words; the guest's page k lies in the k-th frame of its list. It has no
-//! tickets, which no guest here uses, and counts its timer only for the guest that starts one.
+//! tickets, which no guest here uses.
 //!
 //! Standard input has one line, `STEPS TURN GUEST`, as for the house; there are no turns here, and TURN is not used. Standard
 //! output is the number of steps done and a digest of the registers, the special registers and the whole memory.
@@ -185,9 +185,7 @@ impl Guest {
         Ok(a)
     }
 
-    /// Does the instruction at DPC and gives the PC that follows it. It has two call sites, with and without a timer, and is
-    /// worth a copy in each.
-    #[inline(always)]
+    /// Does the instruction at DPC and gives the PC that follows it.
     fn instruction(&mut self) -> Result<u32, Cause> {
         if self.dpc % 4 != 0 {
             return Err(Cause::Misaligned);
@@ -248,7 +246,6 @@ impl Guest {
         Ok(next)
     }
 
-    #[inline(always)]
     fn register_type(&mut self, w: u32) -> Result<(), Cause> {
         let x = self.regs[(w >> 21 & 31) as usize];
         let y = self.regs[(w >> 16 & 31) as usize];
@@ -318,8 +315,8 @@ impl Guest {
     }
 
     /// One step. Answers whether the guest calls the hypervisor.
-    fn step<const TIMER: bool>(&mut self) -> bool {
-        let fires = TIMER && self.tick();
+    fn step(&mut self) -> bool {
+        let fires = self.tick();
         match self.instruction() {
             Ok(target) => {
                 self.dpc = self.pc;
@@ -337,11 +334,11 @@ impl Guest {
     }
 
     /// Up to k steps, ending early after one that calls the hypervisor. Answers how many were made.
-    fn run<const TIMER: bool>(&mut self, k: u32) -> u32 {
+    fn run(&mut self, k: u32) -> u32 {
         let mut made = 0;
         while made < k {
             made += 1;
-            if self.step::<TIMER>() {
+            if self.step() {
                 break;
             }
         }
@@ -543,8 +540,7 @@ pub extern "C" fn main() -> i32 {
     let mut guest = guest(kind);
     let mut done = 0;
     while done < steps {
-        let rest = steps - done;
-        done += if kind == 4 { guest.run::<true>(rest) } else { guest.run::<false>(rest) };
+        done += guest.run(steps - done);
     }
     println!("{} {}", done, guest.digest());
     0
