@@ -2,17 +2,17 @@
 // processor's numbers go by value; the latest translation fault is lent, so that only a step that faults touches it.
 ghost use mathlib.Core.Path.{_≡_};
 ghost use mathlib.Core.List.{List};
-ghost use Prim.Native.Nat.{ℕ, _<_};
+ghost use Prim.Native.Nat.{ℕ};
 ghost use lib.ListN.{length};
 ghost use Rattle.dlx.specs.declared.partition.Timer.{Timer};
 ghost use Rattle.dlx.specs.Machine.{core, fetched, Asks, accessedAt, retabled, stretchFrom};
 ghost use Rattle.dlx.specs.Spells.{plainly, passedAt, spellFrom, legAt};
-ghost use Rattle.tickets.specs.Queues.{queues, taking, desk, Queued, Seated};
+ghost use Rattle.tickets.specs.Queues.{queues, desk, Seated};
 ghost use Rattle.translate.specs.Walk.{entries};
 ghost use Rattle.translate.specs.Memory.{host, hostMemory};
 ghost use Rattle.translate.specs.Premises.{Placed, Shadowed};
 ghost use Rattle.plain.specs.Plain.{pairOf};
-ghost use Rattle.engine.specs.Answers.{receivedOf, Fits, spellOf, legOf, roomOf, stretchOf};
+ghost use Rattle.engine.specs.Answers.{Fits, spellOf, legOf, roomOf, stretchOf};
 use dlx::execute::Access;
 use dlx::execute::Change;
 use dlx::execute::Effect;
@@ -88,19 +88,6 @@ fn fetch(
     }
 }
 
-// A ticket of partition i taken into register 1, if one waits; the answer's code.
-fn receive(regs: &mut [u32], i: u32, tickets: &mut [u32], waiting: &mut [u32]) -> u32
-    requires { ⌜ length (now regs) ≡ 32 ⌝ ∗ ⌜ Queued (queues (now tickets) (now waiting)) ⌝ ∗ ⌜ i < 8 ⌝ }
-    ensures { λ r. ⌜ ((now (regs .exit), r), queues (now (tickets .exit)) (now (waiting .exit))) ≡ receivedOf (now (regs .entry)) (taking (queues (now (tickets .entry)) (now (waiting .entry))) i) ⌝ }
-{
-    let reply = tickets::take(tickets, waiting, i);
-    if reply.code == 0 {
-        processor::execute::write(regs, 1, reply.ticket);
-        return reply.code;
-    }
-    reply.code
-}
-
 // The data access, where the instruction asks for one. A ticket that it takes stands in register 1 then, and a fault is the latest.
 fn access(
     p: Processor,
@@ -151,7 +138,7 @@ fn access(
             Change::Plain(3, reply.code, next)
         }
         Effect::Take => {
-            let code = receive(regs, i, tickets, waiting);
+            let code = receipt::receive(regs, i, tickets, waiting);
             Change::Plain(3, code, next)
         }
     }

@@ -14,7 +14,7 @@ use house::Answer;
 use house::House;
 
 // A refusal returns the house it was given.
-fn refused(h: House, number: u32) -> Answer
+pub fn refused(h: House, number: u32) -> Answer
     ensures { λ r. ⌜ r ≡ record { number = number; detail = 0; house = h } ⌝ }
 {
     Answer {
@@ -25,7 +25,7 @@ fn refused(h: House, number: u32) -> Answer
 }
 
 // What refuses a run with a memory of this length; 0 for nothing.
-fn run_refusal(h: House, size: usize, k: u32) -> u32
+pub fn run_refusal(h: House, size: usize, k: u32) -> u32
     ensures { λ r. ⌜ ((m : List ℕ) → length m ≡ size → r ≡ runVerdict (world h m) k .number) ⌝ }
 {
     if damaged(h) {

@@ -1,4 +1,4 @@
 // The calls of the house as code, each equal to its definition in `house`.
 pub mod calls;
-mod run;
+pub mod run;
 mod single;

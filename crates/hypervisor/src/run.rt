@@ -39,7 +39,7 @@ pub fn next(running: &[bool; 8], n: u32, i: u32) -> u32
 }
 
 // The turn of the current partition after so many steps of it.
-fn turn(
+pub fn turn(
     running: &[bool; 8],
     n: u32,
     q: u32,
@@ -70,7 +70,7 @@ fn turn(
 }
 
 // The smaller of the steps left and the steps still to make.
-fn limit(left: u32, rest: u32) -> u32
+pub fn limit(left: u32, rest: u32) -> u32
     ensures { λ r. ⌜ r ≡ (if leb left rest then left else rest) ⌝ }
 {
     if left <= rest {

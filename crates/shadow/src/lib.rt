@@ -151,7 +151,7 @@ pub fn place(o: u32, a: u32, v: u32, x: u32) -> u32
 }
 
 // One word of a frame, after such a store.
-fn put(frame: &mut [u32], off: usize, o: u32, a: u32, v: u32)
+pub fn put(frame: &mut [u32], off: usize, o: u32, a: u32, v: u32)
     requires { ⌜ off < length (now frame) ⌝ ∗ ⌜ storing o ≡ true ⌝ ∗ ⌜ aligned (width o) a ≡ true ⌝ }
     ensures { λ r. ⌜ now (frame .exit) ≡ updated (now (frame .entry)) off (placed o a v) ⌝ }
 {

@@ -33,7 +33,7 @@ use Rattle.staleness.proofs.Searching.{all-right, names-first, none-nam
 use Rattle.staleness.proofs.Verdicts.{AuditDone, audit-done, done-audit, audit-plain, audit-refused, audit-found, counts-found}
 
 -- every entry of every partition is right
-abbrev AllRight : World → Type 0
+abbrev pub AllRight : World → Type 0
 AllRight w = (i px : ℕ) → i < w .house .count → staleAt w i px ≡ false
 
 -- ---- a done audit
@@ -52,10 +52,10 @@ module _ (w : World) where
   right-passes d r = done-found d ∙ none-named w r
 
   -- and what a pass says
-  passed-done : Passes w → AuditDone w
+  pub passed-done : Passes w → AuditDone w
   passed-done p = number-done (ap (λ (f : Finding). f .number) p)
 
-  passed-right : Passes w → AllRight w
+  pub passed-right : Passes w → AllRight w
   passed-right p = subst (NamesFirst w) (sym (done-found (passed-done p)) ∙ p) (names-first w) .none refl
 
 -- ---- grown houses
@@ -134,7 +134,7 @@ mend-refused w n = rw (ne-eqb (auditVerdict w (sum (staleCounts w)) .number) 0 n
 -- ---- steps of a house that passes
 
 module _ (w : World) (s : Shaped (w .house)) (d : AuditDone w) (r : AllRight w) (busy : w .house .left ≡ 0 → ⊥) where
-  firm-passed : Firm w
+  pub firm-passed : Firm w
   firm-passed =
       let o = sound (w .house) (d .whole) (w .memory) s (d .size) busy in
       record {

@@ -119,7 +119,7 @@ standing b w g = subst (Standing b) (sym (g .1)) (history-keeps (Standing b) (st
 
 -- ---- the steps of a run that is done
 
-history-then : (cs ds : List Call) (w : World) → history (cs ++ ds) w ≡ history ds (history cs w)
+pub history-then : (cs ds : List Call) (w : World) → history (cs ++ ds) w ≡ history ds (history cs w)
 unfolding history
 history-then [] ds w = refl
 history-then (c ∷ cs) ds w = history-then cs ds (after c w)

@@ -65,7 +65,7 @@ second-guest = 0x20010005 ∷ 0xF8000007 ∷ []
 abbrev memory : List ℕ
 memory = zeros 1024 ++ (its-table ++ (zeros 2046 ++ (second-guest ++ (zeros 1022 ++ (first-guest ++ zeros 1016)))))
 
-pub two-guests : Boot
+unfoldable pub two-guests : Boot
 unfolding bootVerdict firstOf any firstFrom sum
 two-guests = record { pages = 2 ∷ 1 ∷ []; q = 3; frames = 4 ∷ 1 ∷ 3 ∷ []; memory = memory; done = refl }
 

@@ -1,0 +1,5 @@
+pub mod Promises
+pub mod Booted
+pub mod EmptyEach
+pub mod Histories
+pub mod Instances

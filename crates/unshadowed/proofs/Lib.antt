@@ -1,0 +1,4 @@
+pub mod Checked
+pub mod Matched
+pub mod Parts
+pub mod Steps

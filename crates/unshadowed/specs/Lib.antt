@@ -1,0 +1,4 @@
+pub mod Memory
+pub mod Turns
+pub mod Answers
+pub mod Examples
