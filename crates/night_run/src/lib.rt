@@ -15,6 +15,7 @@ ghost use Rattle.house.specs.Turns.{world};
 ghost use Rattle.house.specs.Calls.{answered, bootCall};
 ghost use Rattle.housefile.specs.Reader.{read, noReader, noRead, fed};
 ghost use Rattle.night_run.specs.Pieces.{input, afterRead, Brought, AllOf, FileOf};
+ghost use Rattle.engines.specs.Promises.{emptiedBy};
 ghost use Rattle.night_run.specs.Ran.{afterBoot, handed, held, answerIn};
 use boot::boot;
 use house::Answer;
@@ -23,8 +24,8 @@ use housefile::Reader;
 use housefile::finished;
 use housefile::lists;
 use housefile::total;
-use hypervisor::calls::run;
 use input::after_read;
+use unshadowed_run::run_by;
 
 // ---- the file
 
@@ -71,8 +72,9 @@ fn after_boot(
     frames: &[u32],
     memory: &mut [u32],
     steps: u32,
+    unshadowed: bool,
 ) -> Answer
-    ensures { λ x. ⌜ answered (verdict (x .number) (x .detail)) (world (x .house) (now (memory .exit))) ≡ afterBoot (bootCall (take (r .lists) (now (pages .entry))) q (take (r .total) (now (frames .entry))) (now (memory .entry))) steps ⌝ }
+    ensures { λ x. ⌜ answered (verdict (x .number) (x .detail)) (world (x .house) (now (memory .exit))) ≡ emptiedBy unshadowed (afterBoot (bootCall (take (r .lists) (now (pages .entry))) q (take (r .total) (now (frames .entry))) (now (memory .entry))) steps) ⌝ }
 {
     let n = lists(r, pages);
     let k = total(r, frames);
@@ -80,7 +82,7 @@ fn after_boot(
     if b.number != 0 {
         return b;
     }
-    run(b.house, memory, steps)
+    run_by(unshadowed, b.house, memory, steps)
 }
 
 // After a file that is right.
@@ -90,10 +92,11 @@ fn after_file(
     pages: &[u32; 8],
     frames: &[u32; 2048],
     memory: &mut [u32; 16384],
+    unshadowed: bool,
 ) -> Answer
-    ensures { λ x. ⌜ answered (verdict (x .number) (x .detail)) (world (x .house) (now (memory .exit))) ≡ afterBoot (bootCall (take (r .lists) (now (pages .entry))) (getD (now (turns .entry)) 0 0) (take (r .total) (now (frames .entry))) (now (memory .entry))) (getD (now (turns .entry)) 1 0) ⌝ }
+    ensures { λ x. ⌜ answered (verdict (x .number) (x .detail)) (world (x .house) (now (memory .exit))) ≡ emptiedBy unshadowed (afterBoot (bootCall (take (r .lists) (now (pages .entry))) (getD (now (turns .entry)) 0 0) (take (r .total) (now (frames .entry))) (now (memory .entry))) (getD (now (turns .entry)) 1 0)) ⌝ }
 {
-    after_boot(r, pages, turns[0], frames, memory, turns[1])
+    after_boot(r, pages, turns[0], frames, memory, turns[1], unshadowed)
 }
 
 // What was read, and what it came to: a house number and its detail, the house and its memory.
@@ -126,6 +129,13 @@ impl Ran {
 pub fn run_file(fd: i32) -> Ran
     ensures { λ x. ⌜ ((bs : List ℕ) × AllOf noRead (x .taken) bs × ((file : List ℕ) → FileOf (x .taken) bs file → answerIn x ≡ handed (x .taken) file)) ⌝ }
 {
+    run_file_by(fd, false)
+}
+
+// The same by the engine that is asked for: what it comes to is the same, but that every shadow is empty behind the one without shadows.
+pub fn run_file_by(fd: i32, unshadowed: bool) -> Ran
+    ensures { λ x. ⌜ ((bs : List ℕ) × AllOf noRead (x .taken) bs × ((file : List ℕ) → FileOf (x .taken) bs file → answerIn x ≡ emptiedBy unshadowed (handed (x .taken) file))) ⌝ }
+{
     let mut turns = [0u32; 2];
     let mut pages = [0u32; 8];
     let mut frames = [0u32; 2048];
@@ -138,7 +148,14 @@ pub fn run_file(fd: i32) -> Ran
     if f.number != 0 {
         return Ran::unbooted(taken, f.number, f.detail);
     }
-    let a = after_file(taken.reader(), &turns, &pages, &frames, &mut memory);
+    let a = after_file(
+        taken.reader(),
+        &turns,
+        &pages,
+        &frames,
+        &mut memory,
+        unshadowed,
+    );
     let house = a.house;
     Ran {
         taken,

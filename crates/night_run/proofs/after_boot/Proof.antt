@@ -25,16 +25,16 @@ same-length : tie.Need-same-length
 same-length c = search needs
 
 returns : tie.Need-returns
-returns c = boot-refused _ _ _ _ _ (c .before .before .boot .ensures ∙ lists-taken _ _ _ _ _ _ _ _ (c .before .before .before .before .before .before .before .lists .ensures) (c .before .before .before .before .before .before .total .ensures)) (c .if1 .taken)
+returns c = boot-refused _ _ _ _ _ _ _ _ _ (c .before .before .boot .ensures ∙ lists-taken _ _ _ _ _ _ _ _ (c .before .before .before .before .before .before .before .lists .ensures) (c .before .before .before .before .before .before .total .ensures)) (c .if1 .taken)
 
-run-requires : tie.Need-run-requires
-run-requires c κs = search needs
+run-by-requires : tie.Need-run-by-requires
+run-by-requires c κs = search needs
 
 same-length-2 : tie.Need-same-length-2
 same-length-2 c = search needs
 
 returns-2 : tie.Need-returns-2
-returns-2 c = c .before .before .run .ensures ∙ boot-done _ _ _ _ _ (c .before .before .before .before .before .before .boot .ensures ∙ lists-taken _ _ _ _ _ _ _ _ (c .before .before .before .before .before .before .before .before .before .before .before .lists .ensures) (c .before .before .before .before .before .before .before .before .before .before .total .ensures)) (c .before .before .before .before .if1 .left)
+returns-2 c = c .before .before .run-by .ensures ∙ boot-done _ _ _ _ _ _ _ _ _ (c .before .before .before .before .before .before .boot .ensures ∙ lists-taken _ _ _ _ _ _ _ _ (c .before .before .before .before .before .before .before .before .before .before .before .lists .ensures) (c .before .before .before .before .before .before .before .before .before .before .total .ensures)) (c .before .before .before .before .if1 .left)
 
 pub after-boot-spec : {M : Type 1} → statement M
 after-boot-spec =
@@ -47,6 +47,6 @@ after-boot-spec =
     boot-requires
     same-length
     returns
-    run-requires
+    run-by-requires
     same-length-2
     returns-2)

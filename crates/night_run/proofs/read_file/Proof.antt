@@ -1,6 +1,5 @@
 use mathlib.Core.Path.{sym, _∙_}
-use Rattle.night_run.specs.Ran.{heldOf}
-use Rattle.night_run.proofs.Files.{ran-failed, held-wrong, held-right}
+use Rattle.night_run.proofs.Files.{held-failed, held-wrong, held-right}
 use borrow.Author.Needs.{needs}
 use Rattle.night_run.proofs.read_file.Statement.{statement}
 use Rattle.night_run.proofs.read_file.Tie as tie
@@ -15,7 +14,7 @@ unbooted-requires : tie.Need-unbooted-requires
 unbooted-requires c κs = search needs
 
 returns : tie.Need-returns
-returns c = let e = c .before .before .before .take-file .ensures in ran-failed heldOf _ _ (e .0) (e .1) (sym (c .before .before .failed .ensures) ∙ c .before .if1 .taken) (c .unbooted .ensures)
+returns c = let e = c .before .before .before .take-file .ensures in held-failed _ _ (e .0) (e .1) (sym (c .before .before .failed .ensures) ∙ c .before .if1 .taken) (c .unbooted .ensures)
 
 reader-requires : tie.Need-reader-requires
 reader-requires c κs = search needs
