@@ -50,6 +50,7 @@ pub sized-sixteen : (op a c : ℕ) → 0 < sizeOf op a c → 16 ≤ sizeOf op a 
 unfolding sizeOf
 sized-sixteen op a c =
     either P (eqb op 0) (λ _ l. absurd (omega arith)) λ _.
+    either P (eqb op 17) (λ _ l. omega arith) λ _.
     either P (ltb 13 op) (λ _ l. absurd (omega arith)) λ _.
     either P (eqb op 6) (λ _. either P (ltb 4096 c) (λ _ l. absurd (omega arith)) (λ _ l. omega arith)) λ _.
     either P (eqb op 1)

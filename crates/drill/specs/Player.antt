@@ -15,6 +15,7 @@ use Rattle.drill_script.specs.Words.{wordAt, markedOf, filledOf}
 use Rattle.drill_script.specs.Poke.{poked}
 use Rattle.drill_text.specs.Lines.{outputOf, staleOf}
 use Rattle.staleness.specs.Audit.{auditCall, mendCall}
+use Rattle.unshadowed_run.specs.Calls.{unshadowedCall}
 use Rattle.drill.specs.declared.reading.Reading.{Reading}
 use Rattle.drill.specs.Told.{toldOf, shownOf}
 
@@ -59,6 +60,7 @@ calledOf c more h m =
     else if eqb (c .op) 3 then startCall (world h m) (c .a)
     else if eqb (c .op) 4 then stopCall (world h m) (c .a)
     else if eqb (c .op) 13 then mendCall (world h m)
+    else if eqb (c .op) 17 then unshadowedCall (world h m) (c .a)
     else emptyCall (world h m) (c .a)
 
 -- into an output of so many words

@@ -10,7 +10,7 @@ use Rattle.drill_text.specs.Queues.{queueLinesOf}
 
 -- the most bytes of a call's text, and of one with a read-out's output
 abbrev pub mostTold : ℕ
-mostTold = 8 * longest + 6144
+mostTold = 8 * longest + 6149
 
 abbrev pub mostRead : ℕ
 mostRead = mostTold + 196

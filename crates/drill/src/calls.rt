@@ -66,6 +66,7 @@ fn called(
         3 => calls::start(h, c.a),
         4 => calls::stop(h, c.a),
         13 => staleness::mend(h, memory),
+        17 => unshadowed_run::run(h, memory, c.a),
         _ => calls::empty(h, c.a),
     }
 }

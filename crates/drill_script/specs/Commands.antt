@@ -11,6 +11,7 @@ use Rattle.drill_script.specs.Words.{wordAt}
 unfoldable pub sizeOf : ℕ → ℕ → ℕ → ℕ
 sizeOf op a c =
     if eqb op 0 then 0
+    else if eqb op 17 then 16
     else if ltb 13 op then 0
     else if eqb op 6 then (if ltb 4096 c then 0 else 24)
     else if eqb op 1 then (if ltb 16 a then 0 else if ltb 4096 c then 0 else 16 + 4 * (a + c))

@@ -20,6 +20,9 @@ fn size(op: u32, a: u32, c: u32) -> usize
     if op == 0 {
         return 0;
     }
+    if op == 17 {
+        return 16;
+    }
     if op > 13 {
         return 0;
     }

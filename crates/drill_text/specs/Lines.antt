@@ -35,6 +35,7 @@ nameOf op =
     else if eqb op 5 then ascii "empty"
     else if eqb op 12 then ascii "audit"
     else if eqb op 13 then ascii "mend"
+    else if eqb op 17 then ascii "unshadowed"
     else ascii "read"
 
 unfoldable pub callOf : ℕ → ℕ → ℕ → List ℕ

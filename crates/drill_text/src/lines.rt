@@ -77,7 +77,7 @@ struct Span {
 
 // Where the name of a call stands among the names, by its command's number.
 fn among(op: u32) -> Span
-    ensures { λ s. ⌜ (s .from ≤ s .to) × (s .to ≤ s .from + 5) × (s .to ≤ 34) × (take (s .to - s .from) (drop (s .from) (ascii "bootrunstartstopemptyauditmendread")) ≡ nameOf op) ⌝ }
+    ensures { λ s. ⌜ (s .from ≤ s .to) × (s .to ≤ s .from + 10) × (s .to ≤ 44) × (take (s .to - s .from) (drop (s .from) (ascii "bootrunstartstopemptyauditmendreadunshadowed")) ≡ nameOf op) ⌝ }
 {
     match op {
         1 => Span { from: 0, to: 4 },
@@ -87,14 +87,15 @@ fn among(op: u32) -> Span
         5 => Span { from: 16, to: 21 },
         12 => Span { from: 21, to: 26 },
         13 => Span { from: 26, to: 30 },
+        17 => Span { from: 34, to: 44 },
         _ => Span { from: 30, to: 34 },
     }
 }
 
 fn name(text: &mut [u8; ROOM], used: usize, op: u32) -> usize
-    ensures { λ r. ⌜ Puts (now (text .entry)) used (now (text .exit)) r (nameOf op) 5 ⌝ }
+    ensures { λ r. ⌜ Puts (now (text .entry)) used (now (text .exit)) r (nameOf op) 10 ⌝ }
 {
-    let names = *b"bootrunstartstopemptyauditmendread";
+    let names = *b"bootrunstartstopemptyauditmendreadunshadowed";
     let s = among(op);
     let from = s.from;
     let to = s.to;
@@ -102,7 +103,7 @@ fn name(text: &mut [u8; ROOM], used: usize, op: u32) -> usize
 }
 
 pub fn call(text: &mut [u8; ROOM], used: usize, op: u32, n: u32, detail: u64) -> usize
-    ensures { λ r. ⌜ Puts (now (text .entry)) used (now (text .exit)) r (callOf op n detail) 56 ⌝ }
+    ensures { λ r. ⌜ Puts (now (text .entry)) used (now (text .exit)) r (callOf op n detail) 61 ⌝ }
 {
     let called = put_text(text, used, b"call ");
     let named = name(text, called, op);

@@ -24,6 +24,9 @@ stop-requires c κs = tt
 mend-requires : tie.Need-mend-requires
 mend-requires c κs = tt
 
+run-requires-2 : tie.Need-run-requires-2
+run-requires-2 c κs = tt
+
 empty-requires : tie.Need-empty-requires
 empty-requires c κs = tt
 
@@ -59,11 +62,18 @@ returns-5 : tie.Need-returns-5
 unfolding calledOf
 returns-5 c = simp (c .before .before .match .keys5) (c .mend .ensures)
 
+same-length-5 : tie.Need-same-length-5
+same-length-5 c = search needs
+
 returns-6 : tie.Need-returns-6
 unfolding calledOf
-returns-6 c =
+returns-6 c = simp (c .before .before .before .before .match .keys6) (c .before .before .run2 .ensures)
+
+returns-7 : tie.Need-returns-7
+unfolding calledOf
+returns-7 c =
     let r = c .before .match .rest in
-    simp (ne-eqb _ _ (r .1), ne-eqb _ _ (r .0 .1), ne-eqb _ _ (r .0 .0 .1), ne-eqb _ _ (r .0 .0 .0 .1), ne-eqb _ _ (r .0 .0 .0 .0 .1)) (c .empty .ensures _)
+    simp (ne-eqb _ _ (r .1), ne-eqb _ _ (r .0 .1), ne-eqb _ _ (r .0 .0 .1), ne-eqb _ _ (r .0 .0 .0 .1), ne-eqb _ _ (r .0 .0 .0 .0 .1), ne-eqb _ _ (r .0 .0 .0 .0 .0 .1)) (c .empty .ensures _)
 
 pub called-spec : {M : Type 1} → statement M
-called-spec = tie.close (tie.spec booted-requires run-requires start-requires stop-requires mend-requires empty-requires same-length same-length-2 returns same-length-3 returns-2 returns-3 returns-4 same-length-4 returns-5 returns-6)
+called-spec = tie.close (tie.spec booted-requires run-requires start-requires stop-requires mend-requires run-requires-2 empty-requires same-length same-length-2 returns same-length-3 returns-2 returns-3 returns-4 same-length-4 returns-5 same-length-5 returns-6 returns-7)

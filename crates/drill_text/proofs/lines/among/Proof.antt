@@ -35,9 +35,13 @@ returns-7 c = (omega arith, omega arith, omega arith, rw (c .match .keys7))
 
 returns-8 : tie.Need-returns-8
 unfolding nameOf ascii
-returns-8 c =
+returns-8 c = (omega arith, omega arith, omega arith, rw (c .match .keys8))
+
+returns-9 : tie.Need-returns-9
+unfolding nameOf ascii
+returns-9 c =
     let r = c .match .rest in
-    (omega arith, omega arith, omega arith, rw (ne-eqb _ _ (r .1), ne-eqb _ _ (r .0 .1), ne-eqb _ _ (r .0 .0 .1), ne-eqb _ _ (r .0 .0 .0 .1), ne-eqb _ _ (r .0 .0 .0 .0 .1), ne-eqb _ _ (r .0 .0 .0 .0 .0 .1), ne-eqb _ _ (r .0 .0 .0 .0 .0 .0 .1)))
+    (omega arith, omega arith, omega arith, rw (ne-eqb _ _ (r .1), ne-eqb _ _ (r .0 .1), ne-eqb _ _ (r .0 .0 .1), ne-eqb _ _ (r .0 .0 .0 .1), ne-eqb _ _ (r .0 .0 .0 .0 .1), ne-eqb _ _ (r .0 .0 .0 .0 .0 .1), ne-eqb _ _ (r .0 .0 .0 .0 .0 .0 .1), ne-eqb _ _ (r .0 .0 .0 .0 .0 .0 .0 .1)))
 
 pub among-spec : {M : Type 1} → statement M
-among-spec = tie.close (tie.spec returns returns-2 returns-3 returns-4 returns-5 returns-6 returns-7 returns-8)
+among-spec = tie.close (tie.spec returns returns-2 returns-3 returns-4 returns-5 returns-6 returns-7 returns-8 returns-9)
