@@ -1,5 +1,6 @@
 //! Compares another program with this emulator, on scripts, on house files and on listings.
 
+mod by_name;
 mod listings;
 
 use std::fmt::Write;
@@ -18,6 +19,9 @@ use crate::shrink::{shrink, Stretch};
 /// About how many bytes of scripts one start of the program gets.
 const BATCH_BYTES: usize = 1 << 20;
 
+/// One in so many of the damaged house files is run without shadows, and as many whole ones.
+const UNSHADOWED_SHARE: usize = 20;
+
 /// What to tell of a difference that does not come back.
 const NOT_TWICE: &str = "a second time it agrees: the program does not answer the same twice\n";
 
@@ -34,6 +38,8 @@ pub struct Options {
     pub list: Option<Program>,
     /// Assembles the lines on standard input.
     pub assemble: Option<Program>,
+    /// Runs the house file named by its first word, for `unshadowed`, by the engine without shadows.
+    pub unshadowed: Option<Program>,
     /// Start of the random numbers.
     pub seed: u64,
     /// Guest steps of the random scripts, at least.
@@ -68,6 +74,9 @@ pub fn compare(options: &Options) -> Result<Outcome, String> {
         compare_drill(drill, options, &mut outcome)?;
     }
     listings::compare_listings(options, &mut outcome)?;
+    if let Some(program) = &options.unshadowed {
+        compare_unshadowed(program, options, &mut outcome)?;
+    }
     if options.night.is_none() && options.audit.is_none() {
         return Ok(outcome);
     }
@@ -77,11 +86,11 @@ pub fn compare(options: &Options) -> Result<Outcome, String> {
     let random = files.len() - named;
     add(&mut outcome.report, &format!("named files: {named}, random files: {random}"));
     if let Some(program) = &options.night {
-        let night = Reader { name: "night", program, ours: housefile::night };
+        let night = Reader { name: "night", program, word: None, ours: housefile::night };
         compare_reader(&night, &files, options.jobs, &mut outcome)?;
     }
     if let Some(program) = &options.audit {
-        let audit = Reader { name: "audit", program, ours: housefile::audit };
+        let audit = Reader { name: "audit", program, word: None, ours: housefile::audit };
         compare_reader(&audit, &files, options.jobs, &mut outcome)?;
     }
     Ok(outcome)
@@ -91,7 +100,23 @@ pub fn compare(options: &Options) -> Result<Outcome, String> {
 struct Reader<'a> {
     name: &'static str,
     program: &'a Program,
+    /// The word behind the file's name; without one the file is given on standard input.
+    word: Option<&'static str>,
     ours: fn(&[u8], &mut Counts) -> String,
+}
+
+fn compare_unshadowed(
+    program: &Program,
+    options: &Options,
+    outcome: &mut Outcome,
+) -> Result<(), String> {
+    let some = options.files / UNSHADOWED_SHARE;
+    let mut files = named::files();
+    files.extend(generate::files(options.seed, some));
+    files.extend(generate::whole_files(options.seed, some));
+    let name = "unshadowed";
+    let unshadowed = Reader { name, program, word: Some(name), ours: housefile::night_unshadowed };
+    compare_reader(&unshadowed, &files, options.jobs, outcome)
 }
 
 fn compare_drill(drill: &Program, options: &Options, outcome: &mut Outcome) -> Result<(), String> {
@@ -357,18 +382,21 @@ fn first_together(drill: &Program, attempts: &[Vec<Command>]) -> Option<usize> {
     differs(drill, &attempts[found]).then_some(found)
 }
 
-/// The last step of a script that ends with a run, from a house made by hand.
+/// The last step of a script that ends with a run, by either engine, from a house made by hand.
 fn last_step(commands: &[Command]) -> Option<Vec<Command>> {
-    let Some((&Command::Run { steps }, before)) = commands.split_last() else {
-        return None;
+    let (last, before) = commands.split_last()?;
+    let (steps, run): (u32, fn(u32) -> Command) = match *last {
+        Command::Run { steps } => (steps, |steps| Command::Run { steps }),
+        Command::Unshadowed { steps } => (steps, |steps| Command::Unshadowed { steps }),
+        _ => return None,
     };
     let mut player = Player::new();
-    let earlier = Command::Run { steps: steps.checked_sub(1)? };
+    let earlier = run(steps.checked_sub(1)?);
     for command in before.iter().chain([&earlier]) {
         player.play(command, &mut String::new(), &mut Counts::default());
     }
     let mut commands = player.commands();
-    commands.push(Command::Run { steps: 1 });
+    commands.push(run(1));
     Some(commands)
 }
 
@@ -420,7 +448,7 @@ fn compare_files(
     let results = in_parallel(files.len(), jobs, |at| {
         let mut counts = Counts::default();
         let ours = (reader.ours)(&files[at].bytes, &mut counts);
-        told(reader.program, &files[at].bytes).map(|theirs| (counts, ours, theirs))
+        told(reader, &files[at].bytes).map(|theirs| (counts, ours, theirs))
     });
     let mut total = Counts::default();
     let mut differences = Vec::new();
@@ -434,9 +462,13 @@ fn compare_files(
     Ok((total, differences))
 }
 
-/// What the program says of a file. One that takes more than a piece is also given slowly, and what
-/// is then said counts too where it is something else.
-fn told(program: &Program, bytes: &[u8]) -> Result<String, String> {
+/// What the program says of a file. One on standard input that takes more than a piece is also given
+/// slowly, and what is then said counts too where it is something else.
+fn told(reader: &Reader<'_>, bytes: &[u8]) -> Result<String, String> {
+    let program = reader.program;
+    if let Some(word) = reader.word {
+        return Ok(file_text(by_name::run(program, bytes, word)?));
+    }
     let text = file_text(program.run(bytes)?);
     if bytes.len() <= PIECE {
         return Ok(text);
@@ -455,7 +487,7 @@ fn file_text(reply: Reply) -> String {
 
 fn file_differs(reader: &Reader<'_>, bytes: &[u8]) -> bool {
     let ours = (reader.ours)(bytes, &mut Counts::default());
-    told(reader.program, bytes).is_ok_and(|theirs| theirs != ours)
+    told(reader, bytes).is_ok_and(|theirs| theirs != ours)
 }
 
 fn explain_file(reader: &Reader<'_>, file: &File, first: &FileDifference) -> String {

@@ -6,6 +6,7 @@ use std::ops::AddAssign;
 use crate::audit::{Stale, Why};
 use crate::dlx::special::{PTL, PTO};
 use crate::dlx::Cause;
+use crate::engines::Engines;
 use crate::fields::{self, FRAMES, QUEUES, SHADOWS};
 use crate::house::House;
 use crate::memory::{Width, ENTRIES};
@@ -153,7 +154,7 @@ fn some_valid(house: &House) -> bool {
 }
 
 /// How many shadow entries of a house are not empty.
-fn valid_entries(house: &House) -> usize {
+pub(crate) fn valid_entries(house: &House) -> usize {
     entries(house).filter(|&entry| entry != 0).count()
 }
 
@@ -297,6 +298,8 @@ pub struct Counts {
     pub timers: Timers,
     /// Shadow audits.
     pub audits: Audits,
+    /// Runs by the engine without shadows.
+    pub engines: Engines,
     /// Answers, by house number.
     pub answers: [u64; 17],
 }
@@ -459,7 +462,15 @@ impl fmt::Display for Counts {
             self.audits.kinds().iter().map(|(name, count)| format!("{name}:{count}")).collect();
         writeln!(f, "stale entries and audits: {}", kinds.join("; "))?;
         let (found, emptied) = (self.audits.found[0], self.audits.emptied);
-        writeln!(f, "stale without edits:{found} entries emptied by mends:{emptied}")
+        writeln!(f, "stale without edits:{found} entries emptied by mends:{emptied}")?;
+        let kinds: Vec<String> =
+            self.engines.kinds().iter().map(|(name, count)| format!("{name}:{count}")).collect();
+        writeln!(f, "runs without shadows: {}", kinds.join("; "))?;
+        writeln!(
+            f,
+            "engines that differ in their turns:{} with nothing stale:{}",
+            self.engines.turns_differ, self.engines.differ_right
+        )
     }
 }
 
@@ -489,10 +500,11 @@ impl AddAssign<&Counts> for Counts {
         self.user_tickets += other.user_tickets;
         self.timers += &other.timers;
         self.audits += &other.audits;
+        self.engines += &other.engines;
     }
 }
 
-fn add_all(into: &mut [u64], from: &[u64]) {
+pub(crate) fn add_all(into: &mut [u64], from: &[u64]) {
     for (total, more) in into.iter_mut().zip(from) {
         *total += more;
     }

@@ -1,7 +1,7 @@
 //! The guest machine: registers, decoding, one step, interrupts.
 
 use crate::counts::Counts;
-use crate::memory::{Access, Fault, Place, Space, Table, Width};
+use crate::memory::{Access, Engine, Fault, Place, Space, Table, Width};
 use crate::tickets::{number, Tickets, SEND, TAKE};
 use crate::timer::{fall, Kind};
 
@@ -352,13 +352,14 @@ impl Guest {
         &mut self,
         memory: &mut [u32],
         tickets: &mut Tickets<'_>,
+        engine: Engine,
         counts: &mut Counts,
     ) -> Option<Cause> {
         let (user, handler) = (self.user(), self.dpc == 0 && !self.user());
         counts.steps[usize::from(user)] += 1;
         let (mask, shadows) = (self.specials[SR], counts.shadows());
         let (count, zero) = fall(self.specials[TCOUNT], self.specials[TLOAD]);
-        let done = self.instruction(memory, tickets, counts);
+        let done = self.instruction(memory, tickets, engine, counts);
         if done != Ok(Kind::WroteTcount) {
             self.specials[TCOUNT] = count;
         }
@@ -385,23 +386,30 @@ impl Guest {
         &mut self,
         memory: &mut [u32],
         tickets: &mut Tickets<'_>,
+        engine: Engine,
         counts: &mut Counts,
     ) -> Result<Kind, Interrupt> {
-        let word = self.fetch(memory, counts)?;
+        let word = self.fetch(memory, engine, counts)?;
         let instruction = decode(word)
             .filter(|instruction| !(self.user() && instruction.system_only()))
             .ok_or(Interrupt::plain(Cause::Ill))?;
-        self.execute(instruction, memory, tickets, counts)
+        self.execute(instruction, memory, tickets, engine, counts)
     }
 
-    fn fetch(&mut self, memory: &[u32], counts: &mut Counts) -> Result<u32, Interrupt> {
+    fn fetch(
+        &mut self,
+        memory: &[u32],
+        engine: Engine,
+        counts: &mut Counts,
+    ) -> Result<u32, Interrupt> {
         if !self.dpc.is_multiple_of(4) {
             return Err(Interrupt::plain(Cause::Mal));
         }
-        let place = self.locate(memory, self.dpc, Access::Load, counts).map_err(|fault| {
-            counts.fetch_faults[fault as usize] += 1;
-            Interrupt::with_data(Cause::Pff, self.dpc)
-        })?;
+        let place =
+            self.locate(memory, self.dpc, Access::Load, engine, counts).map_err(|fault| {
+                counts.fetch_faults[fault as usize] += 1;
+                Interrupt::with_data(Cause::Pff, self.dpc)
+            })?;
         Ok(self.space.word(memory, place))
     }
 
@@ -412,13 +420,14 @@ impl Guest {
         address: u32,
         width: Width,
         access: Access,
+        engine: Engine,
         counts: &mut Counts,
     ) -> Result<Place, Interrupt> {
         if !address.is_multiple_of(width.bytes()) {
             counts.odd_halves += u64::from(width == Width::Half);
             return Err(Interrupt::plain(Cause::Mal));
         }
-        self.locate(memory, address, access, counts).map_err(|fault| {
+        self.locate(memory, address, access, engine, counts).map_err(|fault| {
             counts.data_faults[fault as usize] += 1;
             counts.odd_faults += u64::from(address % 2 == 1);
             Interrupt::with_data(Cause::Pfls, address)
@@ -431,11 +440,12 @@ impl Guest {
         memory: &[u32],
         address: u32,
         access: Access,
+        engine: Engine,
         counts: &mut Counts,
     ) -> Result<Place, Fault> {
         let table = self.user().then(|| self.table());
         self.space
-            .locate(memory, table, address, access, counts)
+            .locate(memory, table, address, access, engine, counts)
             .inspect_err(|&fault| self.fault = fault as u32)
     }
 
@@ -444,13 +454,14 @@ impl Guest {
         instruction: Instruction,
         memory: &mut [u32],
         tickets: &mut Tickets<'_>,
+        engine: Engine,
         counts: &mut Counts,
     ) -> Result<Kind, Interrupt> {
         let mut next = self.pc.wrapping_add(4);
         let kind = match instruction {
             Instruction::Load { width, signed, rd, rs1, imm } => {
                 let address = self.registers[rs1].wrapping_add(imm);
-                let place = self.data(memory, address, width, Access::Load, counts)?;
+                let place = self.data(memory, address, width, Access::Load, engine, counts)?;
                 let value = self.space.load(memory, place, width);
                 let bits = 8 * width.bytes();
                 self.write(rd, if signed { sign_extended(value, bits) } else { value });
@@ -459,7 +470,7 @@ impl Guest {
             }
             Instruction::Store { width, rd, rs1, imm } => {
                 let address = self.registers[rs1].wrapping_add(imm);
-                let place = self.data(memory, address, width, Access::Store, counts)?;
+                let place = self.data(memory, address, width, Access::Store, engine, counts)?;
                 let value = self.registers[rd];
                 self.space.store(memory, self.table(), place, width, value, counts);
                 counts.store(width);

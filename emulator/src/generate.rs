@@ -2,6 +2,7 @@
 
 mod audits;
 mod calls;
+mod engines;
 mod files;
 pub mod listings;
 mod programs;
@@ -52,6 +53,10 @@ pub const TIMERS_EACH: u64 = 200;
 pub const BESIDE_EACH: u64 = 50;
 /// How often stale entries and audits of each kind must be met in a million steps.
 pub const AUDITS_EACH: u64 = 100;
+/// How often each kind of run by the engine without shadows must be met in a million steps.
+pub const ENGINES_EACH: u64 = 10;
+/// How many scripts run by both engines in a million steps.
+pub const ENGINES: u64 = 60;
 /// The numbers that scripts give: all but 15, which is the house file's.
 pub const SCRIPT_NUMBERS: [usize; 16] = [0, 1, 2, 3, 4, 5, 6, 7, 8, 9, 10, 11, 12, 13, 14, 16];
 
@@ -69,7 +74,13 @@ pub fn scripts(seed: u64, steps: u64) -> Vec<Script> {
         let name = format!("{kind} {number} of seed {seed}");
         scripts.push(Script { name, commands: draft.commands });
     }
+    scripts.extend(engines(seed, share(steps, ENGINES)));
     scripts
+}
+
+/// How many of something that comes so often in a million steps; at least one.
+fn share(steps: u64, each: u64) -> u64 {
+    (steps * each).div_ceil(1_000_000)
 }
 
 fn too_few(counts: &Counts, steps: u64) -> bool {
@@ -115,6 +126,15 @@ fn compose(draft: &mut Draft, number: u64) -> &'static str {
     }
 }
 
+/// Random scripts in which every run is made by both engines from the same state.
+fn engines(seed: u64, count: u64) -> impl Iterator<Item = Script> {
+    (0..count).map(move |number| {
+        let mut draft = Draft::new(Rng::new(!seed ^ number << 32 ^ 11));
+        engines::compose(&mut draft, number);
+        Script { name: format!("engines {number} of seed {seed}"), commands: draft.commands }
+    })
+}
+
 /// Random house files: `count` that are damaged or cut, and a tenth as many that are whole. Every
 /// fiftieth is longer than a piece.
 pub fn files(seed: u64, count: usize) -> Vec<File> {
@@ -123,6 +143,20 @@ pub fn files(seed: u64, count: usize) -> Vec<File> {
             let mut rng = Rng::new(!seed ^ (number as u64) << 32);
             let (kind, bytes) = files::compose(&mut rng, number < count, number.is_multiple_of(50));
             File { name: format!("{kind} file {number} of seed {seed}"), bytes }
+        })
+        .collect()
+}
+
+/// Random house files that are whole; every tenth is longer than a piece.
+pub fn whole_files(seed: u64, count: usize) -> Vec<File> {
+    (0..count)
+        .map(|number| {
+            let mut rng = Rng::new(!seed ^ (number as u64) << 32 ^ 8);
+            let (kind, bytes) = files::compose(&mut rng, false, number.is_multiple_of(10));
+            File {
+                name: format!("{kind} file {number} of seed {seed}, to be run without shadows"),
+                bytes,
+            }
         })
         .collect()
 }
@@ -140,11 +174,23 @@ struct Draft {
     player: Player,
     commands: Vec<Command>,
     counts: Counts,
+    /// Whether every run is made by both engines, from the same state.
+    both: bool,
 }
 
 impl Draft {
     fn new(rng: Rng) -> Self {
-        Draft { rng, player: Player::new(), commands: Vec::new(), counts: Counts::default() }
+        let (player, counts) = (Player::new(), Counts::default());
+        Draft { rng, player, commands: Vec::new(), counts, both: false }
+    }
+
+    /// A run, or one by each engine from the same state.
+    fn run(&mut self, steps: u32) {
+        if !self.both {
+            self.emit(Command::Run { steps });
+            return;
+        }
+        engines::run(self, steps);
     }
 
     fn emit(&mut self, command: Command) -> Option<Answer> {

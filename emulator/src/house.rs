@@ -3,7 +3,7 @@
 use crate::counts::Counts;
 use crate::dlx::special::{EMODE, MODE};
 use crate::dlx::{Cause, Guest};
-use crate::memory::{Fault, Place, Space, FRAME_WORDS, PAGE_BYTES, PROTECTED, VALID};
+use crate::memory::{Engine, Fault, Place, Space, FRAME_WORDS, PAGE_BYTES, PROTECTED, VALID};
 use crate::tickets::{Queue, Tickets};
 
 /// The most partitions of a house.
@@ -161,6 +161,15 @@ impl House {
 
     /// Runs for a number of host steps.
     pub fn run(&mut self, memory: &mut [u32], steps: u32, counts: &mut Counts) -> Answer {
+        self.check_run(memory, steps)?;
+        for _ in 0..steps {
+            self.host_step(memory, Engine::Shadowed, counts);
+        }
+        Ok(u64::from(steps))
+    }
+
+    /// A run's refusals: 8, 9, 14, 11.
+    pub(crate) fn check_run(&self, memory: &[u32], steps: u32) -> Result<(), Refusal> {
         self.check_damage()?;
         self.check_length(memory)?;
         if steps > MOST_STEPS {
@@ -169,20 +178,17 @@ impl House {
         if steps > 0 && !self.running.contains(&true) {
             return Err(Refusal::NothingRunning);
         }
-        for _ in 0..steps {
-            self.host_step(memory, counts);
-        }
-        Ok(u64::from(steps))
+        Ok(())
     }
 
     /// One guest step for the current partition.
-    fn host_step(&mut self, memory: &mut [u32], counts: &mut Counts) {
+    pub(crate) fn host_step(&mut self, memory: &mut [u32], engine: Engine, counts: &mut Counts) {
         let own = self.current as usize;
         let queues = &mut self.queues[..self.count as usize];
         let mut tickets = Tickets { queues, own, running: &self.running };
         let guest = &mut self.guests[own];
         let system = !guest.user();
-        let cause = guest.step(memory, &mut tickets, counts);
+        let cause = guest.step(memory, &mut tickets, engine, counts);
         guest.counter = guest.counter.wrapping_add(1);
         self.left -= 1;
         if self.left == 0 || system && cause == Some(Cause::Trap) {

@@ -5,7 +5,7 @@ use std::fmt::Write;
 use crate::counts::Counts;
 use crate::dlx::special::MODE;
 use crate::house::{numbers, House};
-use crate::memory::FRAME_WORDS;
+use crate::memory::{Engine, FRAME_WORDS};
 
 /// Frames of the program's memory.
 pub const FRAMES: usize = 16;
@@ -129,12 +129,21 @@ impl HouseFile {
 
 /// The program: reads a house file, boots, runs; its whole output.
 pub fn night(bytes: &[u8], counts: &mut Counts) -> String {
-    output(attempt(bytes, counts).map(|(house, _)| report(&house)), counts)
+    night_by(bytes, Engine::Shadowed, counts)
+}
+
+/// The same by the engine without shadows.
+pub fn night_unshadowed(bytes: &[u8], counts: &mut Counts) -> String {
+    night_by(bytes, Engine::Walking, counts)
+}
+
+fn night_by(bytes: &[u8], engine: Engine, counts: &mut Counts) -> String {
+    output(attempt(bytes, engine, counts).map(|(house, _)| report(&house)), counts)
 }
 
 /// The audit's program: the same, but it tells the stale entries of each partition.
 pub fn audit(bytes: &[u8], counts: &mut Counts) -> String {
-    let audited = attempt(bytes, counts).and_then(|(house, memory)| {
+    let audited = attempt(bytes, Engine::Shadowed, counts).and_then(|(house, memory)| {
         let stale = house.stale_counts(&memory);
         stale.map_err(|refusal| numbers(Err(refusal)))
     });
@@ -153,12 +162,16 @@ fn output(text: Result<String, (u32, u64)>, counts: &mut Counts) -> String {
 }
 
 /// The house and its memory after the run.
-fn attempt(bytes: &[u8], counts: &mut Counts) -> Result<(House, Vec<u32>), (u32, u64)> {
+fn attempt(
+    bytes: &[u8],
+    engine: Engine,
+    counts: &mut Counts,
+) -> Result<(House, Vec<u32>), (u32, u64)> {
     let mut file = read(bytes).map_err(|Wrong(at)| (WRONG_FILE, at))?;
     let pages: Vec<u32> = file.lists.iter().map(|list| list.len() as u32).collect();
     let (mut house, answer) = House::boot(&pages, file.q, &file.lists.concat(), file.memory.len());
     answer.map_err(|refusal| numbers(Err(refusal)))?;
-    let answer = house.run(&mut file.memory, file.steps, counts);
+    let answer = house.run_by(engine, &mut file.memory, file.steps, counts);
     answer.map_err(|refusal| numbers(Err(refusal)))?;
     Ok((house, file.memory))
 }

@@ -1,14 +1,15 @@
 //! A second emulator of the house of partitions.
 //!
-//! It is written from document 01 and requests 1, 2, 4, 5, 7, 8, 9, 10 and 13 of document 02 alone,
-//! shares no line with the proved house, and exists to be compared with it: the same script of calls, the
-//! same house file or the same listing must give the same answer.
+//! It is written from document 01 and requests 1, 2, 4, 5, 7 to 11 and 13 of document 02 alone, shares no
+//! line with the proved house, and exists to be compared with it: the same script of calls, the same house
+//! file or the same listing must give the same answer.
 
 pub mod assemble;
 pub mod audit;
 pub mod compare;
 pub mod counts;
 pub mod dlx;
+pub mod engines;
 pub mod fields;
 pub mod generate;
 pub mod house;

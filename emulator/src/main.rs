@@ -5,7 +5,7 @@ use std::os::unix::fs::MetadataExt;
 use std::path::Path;
 use std::process::ExitCode;
 use std::time::Duration;
-use std::{env, fs};
+use std::{env, fs, slice};
 
 use emulator::compare::{compare, shrink_script, Options};
 use emulator::counts::Counts;
@@ -15,16 +15,19 @@ use emulator::{generate, housefile, listing, named, script, source};
 const HELP: &str = "\
 emulator: a second emulator of the house of partitions, to be compared with the proved one
 
-emulator compare --drill CMD --night CMD --audit CMD --list CMD --assemble CMD [--seed N] [--steps N]
-                 [--files N] [--words N] [--lines N] [--alone N] [--jobs N] [--limit N]
+emulator compare --drill CMD --night CMD --audit CMD --list CMD --assemble CMD --unshadowed CMD
+                 [--seed N] [--steps N] [--files N] [--words N] [--lines N] [--alone N] [--jobs N]
+                 [--limit N]
     Plays named and random scripts with CMD of --drill, gives named and random house files to CMD
     of --night and to CMD of --audit, words to CMD of --list, and right and damaged lines to CMD of
-    --assemble, all on standard input, and compares every answer with its own. Some of the five CMD
-    may be left out. Shows the smallest script, file or text that differs. Status 0 and a last line
-    `emulator: N compared, 0 differ` only when all agree.
+    --assemble, all on standard input; runs `CMD FILE unshadowed` of --unshadowed on house files; and
+    compares every answer with its own. Some of the six CMD may be left out. Shows the smallest
+    script, file or text that differs. Status 0 and a last line `emulator: N compared, 0 differ` only
+    when all agree.
     --seed   start of the random numbers (1)
     --steps  guest steps of the random scripts, at least (1000000)
-    --files  random house files that are damaged or cut (2000)
+    --files  random house files that are damaged or cut (2000); for --unshadowed a twentieth of them,
+             and as many whole ones
     --words  random words that are listed and assembled again (4194304)
     --lines  damaged lines (100000)
     --alone  those of them that are wrong and are assembled in a text of their own, at most (4000)
@@ -32,8 +35,9 @@ emulator compare --drill CMD --night CMD --audit CMD --list CMD --assemble CMD [
     --limit  seconds that a program may take (600)
 emulator play [SCRIPT]
     Plays a script (FORMAT.md) and prints what it sees after each call.
-emulator night [FILE]
-    Reads a house file, boots, runs, and prints the report.
+emulator night [FILE [unshadowed]]
+    Reads a house file, boots, runs, with the word by the engine without shadows, and prints the
+    report.
 emulator audit [FILE]
     The same, but prints the number of each partition and how many of its shadow entries are
     stale.
@@ -80,7 +84,13 @@ fn command(arguments: &[String]) -> Result<ExitCode, String> {
         "compare" => run_compare(&Arguments::parse(rest)?),
         "play" => print(&script::play(&input(&Arguments::parse(rest)?)?, &mut Counts::default())),
         "night" => {
-            print(&housefile::night(&input(&Arguments::parse(rest)?)?, &mut Counts::default()))
+            let (night, rest): (fn(&[u8], &mut Counts) -> String, _) = match rest {
+                [file, word] if word == "unshadowed" => {
+                    (housefile::night_unshadowed, slice::from_ref(file))
+                }
+                _ => (housefile::night, rest),
+            };
+            print(&night(&input(&Arguments::parse(rest)?)?, &mut Counts::default()))
         }
         "audit" => {
             print(&housefile::audit(&input(&Arguments::parse(rest)?)?, &mut Counts::default()))
@@ -117,12 +127,13 @@ struct Arguments {
 
 impl Arguments {
     fn parse(arguments: &[String]) -> Result<Arguments, String> {
-        const NAMES: [&str; 14] = [
+        const NAMES: [&str; 15] = [
             "--drill",
             "--night",
             "--audit",
             "--list",
             "--assemble",
+            "--unshadowed",
             "--seed",
             "--steps",
             "--files",
@@ -190,6 +201,7 @@ fn run_compare(arguments: &Arguments) -> Result<ExitCode, String> {
         audit: arguments.program("--audit")?,
         list: arguments.program("--list")?,
         assemble: arguments.program("--assemble")?,
+        unshadowed: arguments.program("--unshadowed")?,
         seed: arguments.seed()?,
         steps: arguments.steps()?,
         files: arguments.files()?,
@@ -198,10 +210,16 @@ fn run_compare(arguments: &Arguments) -> Result<ExitCode, String> {
         alone: arguments.number("--alone", 4_000)? as usize,
         jobs: arguments.number("--jobs", 2)? as usize,
     };
-    let programs =
-        [&options.drill, &options.night, &options.audit, &options.list, &options.assemble];
+    let programs = [
+        &options.drill,
+        &options.night,
+        &options.audit,
+        &options.list,
+        &options.assemble,
+        &options.unshadowed,
+    ];
     if programs.iter().all(|program| program.is_none()) {
-        return Err("expected --drill CMD, --night CMD, --audit CMD, --list CMD or --assemble CMD, was given none".into());
+        return Err("expected CMD of --drill, --night, --audit, --list, --assemble or --unshadowed, was given none".into());
     }
     let outcome = compare(&options)?;
     let end = format!("emulator: {} compared, {} differ\n", outcome.compared, outcome.differ);

@@ -86,6 +86,15 @@ pub enum Access {
     Store,
 }
 
+/// How an access of user mode is translated.
+#[derive(Clone, Copy, Debug, PartialEq, Eq)]
+pub enum Engine {
+    /// A valid shadow entry decides; otherwise the guest's table, and the shadow is filled.
+    Shadowed,
+    /// The guest's table decides; no shadow is looked at or filled.
+    Walking,
+}
+
 /// How many bytes an access has; they never span two words.
 #[derive(Clone, Copy, Debug, PartialEq, Eq)]
 pub enum Width {
@@ -169,15 +178,25 @@ impl Space {
         table: Option<Table>,
         address: u32,
         access: Access,
+        engine: Engine,
         counts: &mut Counts,
     ) -> Result<Place, Fault> {
-        match table {
-            None => self.untranslated(address),
-            Some(table) => {
-                let page = self.translated(memory, table, address >> 12, access, counts)?;
-                Ok(Place { page, ..Place::of(address) })
-            }
-        }
+        let Some(table) = table else {
+            return self.untranslated(address);
+        };
+        let px = address >> 12;
+        let page = match engine {
+            Engine::Shadowed => self.translated(memory, table, px, access, counts)?,
+            Engine::Walking => self.walked(memory, table, px, access)?,
+        };
+        Ok(Place { page, ..Place::of(address) })
+    }
+
+    /// User mode without shadows: the guest's table decides, protection last.
+    fn walked(&self, memory: &[u32], table: Table, px: u32, access: Access) -> Result<u32, Fault> {
+        let (page, entry) = self.walk(memory, table, px)?;
+        check_protection(entry, access)?;
+        Ok(page)
     }
 
     /// System mode: the address must be below 4,096 times the page count.

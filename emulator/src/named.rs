@@ -3,6 +3,7 @@
 
 mod audits;
 mod bytes;
+mod engines;
 mod far_pages;
 mod faults;
 mod house_frame;
@@ -129,6 +130,11 @@ impl Story {
         self.then(Command::Run { steps })
     }
 
+    /// A run by the engine without shadows.
+    fn unshadowed(self, steps: u32) -> Self {
+        self.then(Command::Unshadowed { steps })
+    }
+
     fn start(self, partition: u32) -> Self {
         self.then(Command::Start { partition })
     }
@@ -176,9 +182,12 @@ pub fn scripts() -> Vec<Script> {
         calls(),
         house_frame::group(),
         audits::group(),
+        engines::group(),
     ];
     let named = |(name, story): (&str, Story)| Script { name: name.into(), commands: story.0 };
-    groups.into_iter().flatten().map(named).collect()
+    let scripts: Vec<Script> = groups.into_iter().flatten().map(named).collect();
+    let unshadowed = engines::unshadowed(&scripts);
+    [scripts, unshadowed].concat()
 }
 
 type Group = Vec<(&'static str, Story)>;

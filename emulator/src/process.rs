@@ -42,6 +42,12 @@ impl Program {
         Ok(Program { parts, limit })
     }
 
+    /// The same program with more words.
+    pub fn with(&self, words: &[&str]) -> Program {
+        let more = words.iter().map(|word| word.to_string());
+        Program { parts: self.parts.iter().cloned().chain(more).collect(), limit: self.limit }
+    }
+
     /// Runs the program to its end. An error tells that it could not be started.
     pub fn run(&self, input: &[u8]) -> Result<Reply, String> {
         self.run_on(input, input.len().max(1), Duration::ZERO)
@@ -155,6 +161,12 @@ mod tests {
         let parts = split("run  'a b' \"c\"d ''").unwrap();
         assert_eq!(parts, ["run", "a b", "cd", ""]);
         assert!(split("run 'a").is_err());
+    }
+
+    #[test]
+    fn takes_more_words() {
+        let program = Program::new("echo a", Duration::from_secs(5)).unwrap().with(&["b c", "d"]);
+        assert_eq!(program.run(b"").unwrap().text(), "a b c d\n");
     }
 
     #[test]

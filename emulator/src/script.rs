@@ -6,6 +6,7 @@ use crate::audit::Stale;
 use crate::counts::{Counts, Edited};
 use crate::dlx::special::TCOUNT;
 use crate::dlx::{decode, Guest};
+use crate::engines::Before;
 use crate::fields;
 use crate::house::{numbers, Answer, House};
 use crate::tickets::Queue;
@@ -40,6 +41,7 @@ mod op {
     pub const CLEAR: u32 = 11;
     pub const AUDIT: u32 = 12;
     pub const MEND: u32 = 13;
+    pub const UNSHADOWED: u32 = 17;
 }
 
 /// A command of a script; those with a [`Command::call_name`] are calls.
@@ -59,6 +61,7 @@ pub enum Command {
     Clear,
     Audit,
     Mend,
+    Unshadowed { steps: u32 },
 }
 
 impl Command {
@@ -73,6 +76,7 @@ impl Command {
             Command::Read { .. } => Some("read"),
             Command::Audit => Some("audit"),
             Command::Mend => Some("mend"),
+            Command::Unshadowed { .. } => Some("unshadowed"),
             _ => None,
         }
     }
@@ -99,6 +103,7 @@ impl Command {
             Command::Clear => vec![op::CLEAR, 0, 0, 0],
             Command::Audit => vec![op::AUDIT, 0, 0, 0],
             Command::Mend => vec![op::MEND, 0, 0, 0],
+            Command::Unshadowed { steps } => vec![op::UNSHADOWED, *steps, 0, 0],
         }
     }
 
@@ -121,6 +126,7 @@ impl Command {
             op::CLEAR => plain(Command::Clear),
             op::AUDIT => plain(Command::Audit),
             op::MEND => plain(Command::Mend),
+            op::UNSHADOWED => plain(Command::Unshadowed { steps: a }),
             _ => None,
         }
     }
@@ -241,6 +247,18 @@ impl Player {
             .collect()
     }
 
+    /// Commands that make this player like another with the same length, but for words that are not
+    /// lent.
+    pub fn changes(&self, to: &Player) -> Vec<Command> {
+        let words = (0..).zip(self.lent().iter().zip(to.lent()));
+        let pokes = words.filter(|(_, (from, to))| from != to);
+        let numbers = (0..fields::END).filter_map(|index| {
+            let value = fields::get(&to.house, index)?;
+            (fields::get(&self.house, index)? != value).then_some(Command::Field { index, value })
+        });
+        pokes.map(|(index, (_, &value))| Command::Poke { index, value }).chain(numbers).collect()
+    }
+
     /// Plays one command; a call adds to the text and gives its answer.
     pub fn play(
         &mut self,
@@ -320,6 +338,16 @@ impl Player {
             Command::Run { steps } => {
                 let lent = &mut self.memory[..self.length];
                 self.house.run(lent, steps, counts)
+            }
+            Command::Unshadowed { steps } => {
+                let lent = &mut self.memory[..self.length];
+                let before = Before::new(&self.house, lent);
+                let answer = self.house.run_unshadowed(lent, steps, counts);
+                counts.engines.ran(before, steps, answer, &self.house, lent);
+                if answer.is_ok() {
+                    self.edited = Edited::default();
+                }
+                answer
             }
             _ => unreachable!("not a call"),
         }
@@ -433,6 +461,7 @@ impl fmt::Display for Command {
             Command::Clear => write!(f, "clear"),
             Command::Audit => write!(f, "audit"),
             Command::Mend => write!(f, "mend"),
+            Command::Unshadowed { steps } => write!(f, "unshadowed {steps}"),
         }
     }
 }

@@ -103,6 +103,9 @@ impl Piece for Command {
             Command::Run { steps } => {
                 smaller(*steps).into_iter().map(|steps| Command::Run { steps }).collect()
             }
+            Command::Unshadowed { steps } => {
+                smaller(*steps).into_iter().map(|steps| Command::Unshadowed { steps }).collect()
+            }
             Command::Boot { pages, q, frames } => simpler_boots(pages, *q, frames),
             Command::Fill { index, count, value } => smaller(*count)
                 .into_iter()

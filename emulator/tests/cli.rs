@@ -95,6 +95,35 @@ fn it_compares_audits_where_it_is_asked_to() {
 }
 
 #[test]
+fn it_compares_runs_without_shadows_where_it_is_asked_to() {
+    let shell = |line: &str| format!("sh -c \"{line}\" sh");
+    let run =
+        |program: &str| emulator(&["compare", "--unshadowed", program, "--files", "240"], b"");
+    let output =
+        run(&shell(&format!("[ $# = 2 ] && [ $2 = unshadowed ] && '{EMULATOR}' night $@")));
+    let told = text(&output);
+    assert_eq!(output.status.code(), Some(0), "{told}");
+    assert!(told.contains("files of unshadowed by number: 0:"), "{told}");
+    let output =
+        run(&shell(&format!("'{EMULATOR}' night $@ | sed 's/^refused 3 0$/refused 2 0/'")));
+    let told = text(&output);
+    assert_eq!(output.status.code(), Some(1), "{told}");
+    assert!(told.contains("differs in unshadowed:\n  expected: refused 3 0\n"), "{told}");
+}
+
+#[test]
+fn night_runs_without_shadows_where_it_is_asked_to() {
+    let path = std::path::Path::new(env!("CARGO_TARGET_TMPDIR")).join("unshadowed.house");
+    let file = path.to_string_lossy();
+    let bytes = emulator::named::files().swap_remove(0).bytes;
+    std::fs::write(&path, &bytes).expect("a file");
+    let report = "partition pages steps mode dpc pc fault\n0 1 3 0 0 4 0\n";
+    assert_eq!(text(&emulator(&["night", &file], b"")), report);
+    assert_eq!(text(&emulator(&["night", &file, "unshadowed"], b"")), report);
+    assert_eq!(text(&emulator(&["night", "-", "unshadowed"], &bytes)), report);
+}
+
+#[test]
 fn it_compares_listings_where_it_is_asked_to() {
     let sizes = ["--words", "70000", "--lines", "2700", "--alone", "60"];
     let run = |list: &str, assemble: &str| {
@@ -141,7 +170,9 @@ fn lists_and_assembles() {
 
 #[test]
 fn wrong_use_is_told() {
-    let cases: [&[&str]; 7] = [
+    let cases: [&[&str]; 9] = [
+        &["night", "/dev/null", "shadowed"],
+        &["night", "/dev/null", "unshadowed", "unshadowed"],
         &[],
         &["frob"],
         &["compare"],

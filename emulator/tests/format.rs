@@ -80,9 +80,12 @@ fn the_digest_counts_every_word() {
 #[test]
 fn wrong_commands_end_the_script() {
     let run = [2, 0, 0, 0];
-    let cases: [&[u32]; 6] = [
+    let cases: [&[u32]; 9] = [
         &[0, 0, 0, 0],
         &[14, 0, 0, 0],
+        &[15, 0, 0, 0],
+        &[16, 0, 0, 0],
+        &[18, 0, 0, 0],
         &[1, 17, 1, 0],
         &[1, 1, 1, 4_097],
         &[6, 0, 0, 4_097, 0, 0],
@@ -172,6 +175,21 @@ fn audits_and_mends_are_calls() {
     assert!(stale.contains("\nshadow 3:6144\nmemory 2048 "), "{stale}");
     assert!(stale.contains("\nstale 0 3\ncall mend -> 0 1\n"), "{stale}");
     assert!(!text(&words(&[12, 0, 0, 0])).contains("stale"));
+}
+
+#[test]
+fn a_run_without_shadows_is_a_call() {
+    let boot = [8, 2_048, 0, 0, 1, 1, 2, 1, 1, 1, 9, 2_464, 6_144, 0];
+    let after = |commands: &[u32]| text(&words(&[&boot[..], commands].concat()));
+    let run = after(&[17, 1, 7, 8]);
+    assert!(run.contains("\ncall unshadowed -> 0 1\nhouse 1 2 2048 0 1 "), "{run}");
+    assert!(run.ends_with(&after(&[13, 0, 0, 0, 2, 1, 0, 0]).rsplit_once("\nhouse ").unwrap().1));
+    let none = after(&[17, 0, 0, 0]);
+    assert!(none.contains("\ncall unshadowed -> 0 0\n") && !none.contains("3:6144"), "{none}");
+    let refused = after(&[17, 1_000_001, 0, 0]);
+    assert!(
+        refused.contains("\ncall unshadowed -> 14 0\n") && refused.contains("\nshadow 3:6144\n")
+    );
 }
 
 #[test]

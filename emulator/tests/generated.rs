@@ -8,13 +8,13 @@ use emulator::dlx::special::{SR, TCOUNT, TLOAD};
 use emulator::dlx::{decode, Cause, Guest, Instruction};
 use emulator::fields;
 use emulator::generate::{
-    files, scripts, Script, ANSWERS_EACH, AUDITS_EACH, BESIDE_EACH, FAULTS_EACH, PARTS_EACH,
-    SCRIPT_NUMBERS, TIMERS_EACH,
+    files, scripts, Script, ANSWERS_EACH, AUDITS_EACH, BESIDE_EACH, ENGINES_EACH, FAULTS_EACH,
+    PARTS_EACH, SCRIPT_NUMBERS, TIMERS_EACH,
 };
 
 use emulator::house::{numbers, House, HOUSE_FRAME};
 use emulator::housefile::night;
-use emulator::memory::Access;
+use emulator::memory::{Access, Engine};
 use emulator::script::{self, Command, Player};
 use emulator::tickets::{Queue, PLACES, SEND, TAKE};
 use emulator::timer::Kind;
@@ -153,6 +153,17 @@ fn the_default_run_has_audits() {
         programs.right[0] >= 100 && programs.found[1..].iter().sum::<u64>() >= 50,
         "{programs:?}"
     );
+}
+
+#[test]
+fn the_default_run_has_both_engines() {
+    let engines = &default_counts().engines;
+    for (name, met) in engines.kinds() {
+        assert!(met >= ENGINES_EACH, "{name}: {engines:?}");
+    }
+    assert_eq!(engines.differ_right, 0, "{engines:?}");
+    assert!(engines.right >= 50 && engines.stale_differ >= 100, "{engines:?}");
+    assert!(engines.stale_agree >= 100 && engines.answers[0] >= 500, "{engines:?}");
 }
 
 /// An audit agrees with a mend behind it, and neither is refused alone.
@@ -484,6 +495,8 @@ fn next_instruction(player: &Player) -> Option<Instruction> {
         return None;
     }
     let counts = &mut Counts::default();
-    let place = space.locate(player.lent(), table, guest.dpc, Access::Load, counts).ok()?;
+    let place = space
+        .locate(player.lent(), table, guest.dpc, Access::Load, Engine::Shadowed, counts)
+        .ok()?;
     decode(space.word(player.lent(), place))
 }

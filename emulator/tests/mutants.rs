@@ -40,7 +40,7 @@ const MUTANTS: &[Mutant] = &[
     Mutant("interrupts empty the shadow", "dlx.rs", "self.dpc = 0;\n        self.pc = 4;", "self.dpc = 0;\n        self.pc = 4;\n        self.space.empty();"),
     Mutant("DPC's low bits are dropped", "dlx.rs", "if !self.dpc.is_multiple_of(4) {", "if self.dpc % 4 == 1 {"),
     Mutant("a load into register 0 is no access", "dlx.rs", "Instruction::Load { width, signed, rd, rs1, imm } => {", "Instruction::Load { rd: 0, .. } => Kind::Load,\n            Instruction::Load { width, signed, rd, rs1, imm } => {"),
-    Mutant("interrupts undo fills", "dlx.rs", "let done = self.instruction(memory, tickets, counts);", "let shadow = self.space.shadow;\n        let done = self.instruction(memory, tickets, counts);\n        if done.is_err() {\n            self.space.shadow = shadow;\n        }"),
+    Mutant("interrupts undo fills", "dlx.rs", "let done = self.instruction(memory, tickets, engine, counts);", "let shadow = self.space.shadow;\n        let done = self.instruction(memory, tickets, engine, counts);\n        if done.is_err() {\n            self.space.shadow = shadow;\n        }"),
     Mutant("stores in system mode empty nothing", "dlx.rs", "self.space.store(memory, self.table(), place", "let table = if self.user() { self.table() } else { Table { pto: 0, ptl: 0 } };\n                self.space.store(memory, table, place"),
     // Bytes and half words.
     Mutant("parts: lb extends with zeros", "dlx.rs", "32 => load(Width::Byte, true)", "32 => load(Width::Byte, false)"),
@@ -57,10 +57,10 @@ const MUTANTS: &[Mutant] = &[
     Mutant("parts: an odd half word is the even one", "dlx.rs", "if !address.is_multiple_of(width.bytes()) {", "let address = if width == Width::Half { address & !1 } else { address };\n        if !address.is_multiple_of(width.bytes()) {"),
     Mutant("parts: half words at multiples of 4 only", "dlx.rs", "if !address.is_multiple_of(width.bytes()) {", "if !address.is_multiple_of(if width == Width::Half { 4 } else { width.bytes() }) {"),
     Mutant("parts: bytes at even addresses only", "dlx.rs", "if !address.is_multiple_of(width.bytes()) {", "if !address.is_multiple_of(width.bytes().max(2)) {"),
-    Mutant("parts: pfls before mal", "dlx.rs", "if !address.is_multiple_of(width.bytes()) {", "if !address.is_multiple_of(width.bytes()) && self.locate(memory, address, access, counts).is_ok() {"),
+    Mutant("parts: pfls before mal", "dlx.rs", "if !address.is_multiple_of(width.bytes()) {", "if !address.is_multiple_of(width.bytes()) && self.locate(memory, address, access, engine, counts).is_ok() {"),
     Mutant("parts: an odd half word sets EDATA", "dlx.rs", "u64::from(width == Width::Half);\n            return Err(Interrupt::plain(Cause::Mal));", "u64::from(width == Width::Half);\n            if width == Width::Half {\n                return Err(Interrupt::with_data(Cause::Mal, address));\n            }\n            return Err(Interrupt::plain(Cause::Mal));"),
     Mutant("parts: EDATA is the word's address", "dlx.rs", "Interrupt::with_data(Cause::Pfls, address)", "Interrupt::with_data(Cause::Pfls, address & !3)"),
-    Mutant("parts: sb is no store for protection", "dlx.rs", "self.data(memory, address, width, Access::Store, counts)?", "self.data(memory, address, width, if width == Width::Byte { Access::Load } else { Access::Store }, counts)?"),
+    Mutant("parts: sb is no store for protection", "dlx.rs", "self.data(memory, address, width, Access::Store, engine, counts)?", "self.data(memory, address, width, if width == Width::Byte { Access::Load } else { Access::Store }, engine, counts)?"),
     Mutant("parts: a store writes the word", "memory.rs", "word[place.bytes(width)].copy_from_slice(lowest);", "if !lowest.is_empty() {\n            word = value.to_le_bytes();\n        }"),
     Mutant("parts: a store clears the other bytes", "memory.rs", "let mut word = host.to_le_bytes();", "let mut word = if width == Width::Word { host.to_le_bytes() } else { [0; 4] };"),
     Mutant("parts: a store takes the highest bits", "memory.rs", "&value.to_le_bytes()[..width.bytes() as usize]", "&value.to_le_bytes()[4 - width.bytes() as usize..]"),
@@ -182,8 +182,8 @@ const MUTANTS: &[Mutant] = &[
     Mutant("tickets: a stopped partition gets none", "tickets.rs", "Some(queue) => queue.put(ticket),\n            None =>", "Some(queue) if self.running[to] => queue.put(ticket),\n            _ =>"),
     Mutant("tickets: all take from partition 0", "tickets.rs", "self.queues[self.own].take()", "self.queues[0].take()"),
     Mutant("tickets: unused partitions receive", "house.rs", "let queues = &mut self.queues[..self.count as usize];", "let queues = &mut self.queues[..];"),
-    Mutant("tickets: a send ends the turn", "house.rs", "let cause = guest.step(memory, &mut tickets, counts);", "let sends = counts.sends;\n        let cause = guest.step(memory, &mut tickets, counts);\n        let cause = cause.or((counts.sends != sends).then_some(Cause::Trap));"),
-    Mutant("tickets: a take ends the turn", "house.rs", "let cause = guest.step(memory, &mut tickets, counts);", "let takes = counts.takes;\n        let cause = guest.step(memory, &mut tickets, counts);\n        let cause = cause.or((counts.takes != takes).then_some(Cause::Trap));"),
+    Mutant("tickets: a send ends the turn", "house.rs", "let cause = guest.step(memory, &mut tickets, engine, counts);", "let sends = counts.sends;\n        let cause = guest.step(memory, &mut tickets, engine, counts);\n        let cause = cause.or((counts.sends != sends).then_some(Cause::Trap));"),
+    Mutant("tickets: a take ends the turn", "house.rs", "let cause = guest.step(memory, &mut tickets, engine, counts);", "let takes = counts.takes;\n        let cause = guest.step(memory, &mut tickets, engine, counts);\n        let cause = cause.or((counts.takes != takes).then_some(Cause::Trap));"),
     Mutant("tickets: stopping drops them", "house.rs", "self.running[at] = false;", "self.running[at] = false;\n        self.queues[at] = Queue::EMPTY;"),
     Mutant("tickets: starting drops them", "house.rs", "self.running[at] = true;", "self.running[at] = true;\n        self.queues[at] = Queue::EMPTY;"),
     Mutant("tickets: emptying a shadow drops them", "house.rs", "counts.emptied_by_call += self.guests[at].space.empty();", "counts.emptied_by_call += self.guests[at].space.empty();\n        self.queues[at] = Queue::EMPTY;"),
@@ -211,13 +211,13 @@ const MUTANTS: &[Mutant] = &[
     Mutant("timer: movi2s to TLOAD starts it", "dlx.rs", "self.specials[TCOUNT] = count;", "self.specials[TCOUNT] = if done == Ok(Kind::WroteTload) { self.specials[TLOAD] } else { count };"),
     Mutant("timer: TCOUNT has 16 bits", "dlx.rs", "MODE | EMODE => value % 2,", "MODE | EMODE => value % 2,\n            TCOUNT => value & 0xFFFF,"),
     Mutant("timer: it goes on behind the next word", "dlx.rs", "Cause::Pff | Cause::Pfls | Cause::Timer", "Cause::Pff | Cause::Pfls"),
-    Mutant("timer: the old pair is saved", "dlx.rs", "let done = self.instruction(memory, tickets, counts);", "let old = (self.dpc, self.pc);\n        let done = self.instruction(memory, tickets, counts);\n        if done.is_ok() && zero && mask & 8_192 != 0 {\n            (self.dpc, self.pc) = old;\n        }"),
-    Mutant("timer: ESR is SR before the step", "dlx.rs", "let done = self.instruction(memory, tickets, counts);", "let done = self.instruction(memory, tickets, counts);\n        if done.is_ok() && zero && mask & 8_192 != 0 {\n            self.specials[SR] = mask;\n        }"),
-    Mutant("timer: EMODE is MODE before the step", "dlx.rs", "let done = self.instruction(memory, tickets, counts);", "let mode = self.specials[MODE];\n        let done = self.instruction(memory, tickets, counts);\n        if done.is_ok() && zero && mask & 8_192 != 0 {\n            self.specials[MODE] = mode;\n        }"),
-    Mutant("timer: the registers are as before", "dlx.rs", "let done = self.instruction(memory, tickets, counts);", "let registers = self.registers;\n        let done = self.instruction(memory, tickets, counts);\n        if done.is_ok() && zero && mask & 8_192 != 0 {\n            self.registers = registers;\n        }"),
-    Mutant("timer: fills and emptying are undone", "dlx.rs", "let done = self.instruction(memory, tickets, counts);", "let shadow = self.space.shadow;\n        let done = self.instruction(memory, tickets, counts);\n        if done.is_ok() && zero && mask & 8_192 != 0 {\n            self.space.shadow = shadow;\n        }"),
+    Mutant("timer: the old pair is saved", "dlx.rs", "let done = self.instruction(memory, tickets, engine, counts);", "let old = (self.dpc, self.pc);\n        let done = self.instruction(memory, tickets, engine, counts);\n        if done.is_ok() && zero && mask & 8_192 != 0 {\n            (self.dpc, self.pc) = old;\n        }"),
+    Mutant("timer: ESR is SR before the step", "dlx.rs", "let done = self.instruction(memory, tickets, engine, counts);", "let done = self.instruction(memory, tickets, engine, counts);\n        if done.is_ok() && zero && mask & 8_192 != 0 {\n            self.specials[SR] = mask;\n        }"),
+    Mutant("timer: EMODE is MODE before the step", "dlx.rs", "let done = self.instruction(memory, tickets, engine, counts);", "let mode = self.specials[MODE];\n        let done = self.instruction(memory, tickets, engine, counts);\n        if done.is_ok() && zero && mask & 8_192 != 0 {\n            self.specials[MODE] = mode;\n        }"),
+    Mutant("timer: the registers are as before", "dlx.rs", "let done = self.instruction(memory, tickets, engine, counts);", "let registers = self.registers;\n        let done = self.instruction(memory, tickets, engine, counts);\n        if done.is_ok() && zero && mask & 8_192 != 0 {\n            self.registers = registers;\n        }"),
+    Mutant("timer: fills and emptying are undone", "dlx.rs", "let done = self.instruction(memory, tickets, engine, counts);", "let shadow = self.space.shadow;\n        let done = self.instruction(memory, tickets, engine, counts);\n        if done.is_ok() && zero && mask & 8_192 != 0 {\n            self.space.shadow = shadow;\n        }"),
     Mutant("timer: EDATA becomes 0", "dlx.rs", "Interrupt::plain(Cause::Timer)", "Interrupt::with_data(Cause::Timer, 0)"),
-    Mutant("timer: EDATA is as before", "dlx.rs", "let done = self.instruction(memory, tickets, counts);", "let edata = self.specials[EDATA];\n        let done = self.instruction(memory, tickets, counts);\n        if done.is_ok() && zero && mask & 8_192 != 0 {\n            self.specials[EDATA] = edata;\n        }"),
+    Mutant("timer: EDATA is as before", "dlx.rs", "let done = self.instruction(memory, tickets, engine, counts);", "let edata = self.specials[EDATA];\n        let done = self.instruction(memory, tickets, engine, counts);\n        if done.is_ok() && zero && mask & 8_192 != 0 {\n            self.specials[EDATA] = edata;\n        }"),
     Mutant("timer: it comes before lower causes", "dlx.rs", "Err(interrupt) => interrupt,", "Err(_) if timer != 0 => Interrupt::plain(Cause::Timer),\n            Err(interrupt) => interrupt,"),
     Mutant("timer: its bit does not stand beside a lower cause", "dlx.rs", "interrupt.cause.bit() | timer", "interrupt.cause.bit()"),
     Mutant("timer: a masked one stands beside a lower cause", "dlx.rs", "interrupt.cause.bit() | timer", "interrupt.cause.bit() | u32::from(zero) << 13"),
@@ -265,6 +265,18 @@ const MUTANTS: &[Mutant] = &[
     Mutant("audit: a refused one tells none", "script.rs", "if *command == Command::Audit && answer.is_ok() {", "if *command == Command::Audit {"),
     Mutant("audit: the program tells one partition", "housefile.rs", "stale.into_iter().enumerate().map(line)", "stale.into_iter().enumerate().take(1).map(line)"),
     Mutant("audit: the program tells pages", "housefile.rs", "let stale = house.stale_counts(&memory);", "let stale = house.stale_counts(&memory).map(|_| house.guests[..house.count as usize].iter().map(|guest| guest.space.pages as usize).collect());"),
+    // The engine without shadows.
+    Mutant("unshadowed: it keeps the shadows", "engines.rs", "for guest in &mut self.guests {\n            guest.space.empty();\n        }\n        for _ in 0..steps", "for _ in 0..steps"),
+    Mutant("unshadowed: 0 steps keep the shadows", "engines.rs", "for guest in &mut self.guests {\n            guest.space.empty();\n        }\n        for _ in 0..steps", "if steps > 0 {\n            self.guests.iter_mut().for_each(|guest| drop(guest.space.empty()));\n        }\n        for _ in 0..steps"),
+    Mutant("unshadowed: a refused run empties", "engines.rs", "self.check_run(memory, steps)?;\n        for guest in &mut self.guests {\n            guest.space.empty();\n        }", "for guest in &mut self.guests {\n            guest.space.empty();\n        }\n        self.check_run(memory, steps)?;"),
+    Mutant("unshadowed: the running partitions' shadows alone", "engines.rs", "for guest in &mut self.guests {\n            guest.space.empty();\n        }\n        for _ in 0..steps", "for at in 0..8 {\n            if self.running[at] {\n                self.guests[at].space.empty();\n            }\n        }\n        for _ in 0..steps"),
+    Mutant("unshadowed: it is the first engine", "engines.rs", "self.host_step(memory, Engine::Walking, counts);", "self.host_step(memory, Engine::Shadowed, counts);"),
+    Mutant("unshadowed: it fills", "memory.rs", "Engine::Walking => self.walked(memory, table, px, access)?,", "Engine::Walking => {\n                let page = self.walked(memory, table, px, access)?;\n                let entry = self.filling(memory, table, px)?;\n                self.shadow[px as usize] = entry;\n                page\n            }"),
+    Mutant("unshadowed: it goes by a shadow first", "engines.rs", "for guest in &mut self.guests {\n            guest.space.empty();\n        }\n        for _ in 0..steps {\n            self.host_step(memory, Engine::Walking, counts);\n        }", "for _ in 0..steps {\n            self.host_step(memory, Engine::Shadowed, counts);\n        }\n        for guest in &mut self.guests {\n            guest.space.empty();\n        }"),
+    Mutant("unshadowed: no protection", "memory.rs", "let (page, entry) = self.walk(memory, table, px)?;\n        check_protection(entry, access)?;\n        Ok(page)", "let (page, _) = self.walk(memory, table, px)?;\n        Ok(page)"),
+    Mutant("unshadowed: no 14", "engines.rs", "self.check_run(memory, steps)?;", "self.check_run(memory, steps.min(1_000_000))?;"),
+    Mutant("unshadowed: no 11", "engines.rs", "self.check_run(memory, steps)?;", "self.check_run(memory, if steps > 1_000_000 { steps } else { 0 })?;\n        let steps = if self.running.contains(&true) { steps } else { 0 };"),
+    Mutant("unshadowed: the detail is 0", "engines.rs", "self.host_step(memory, Engine::Walking, counts);\n        }\n        Ok(u64::from(steps))", "self.host_step(memory, Engine::Walking, counts);\n        }\n        Ok(0)"),
     // Damage.
     Mutant("damage: EMODE", "house.rs", "|| guest.specials[EMODE] > 1", ""),
     Mutant("damage: MODE", "house.rs", "|| guest.specials[MODE] > 1", ""),
@@ -357,6 +369,7 @@ fn compare(program: &Path) -> Output {
     Command::new(env!("CARGO_BIN_EXE_emulator"))
         .args(["compare", "--drill", &command("play"), "--night", &command("night")])
         .args(["--audit", &command("audit")])
+        .args(["--unshadowed", &command("night")])
         .args(["--limit", "60", "--files", "400"])
         .output()
         .expect("the comparison starts")

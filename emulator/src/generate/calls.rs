@@ -147,7 +147,10 @@ fn any_call(draft: &mut Draft) {
     let command = match rng.below(8) {
         6 => Command::Audit,
         7 => Command::Mend,
-        0 => Command::Run { steps: rng.below(12) },
+        0 => {
+            let steps = rng.below(12);
+            return draft.run(steps);
+        }
         1 => Command::Start { partition },
         2 | 3 => Command::Stop { partition },
         4 => Command::Empty { partition },
@@ -197,7 +200,7 @@ fn read_from(draft: &mut Draft, partition: u32) {
 /// A run that is too long.
 pub fn refused_run(draft: &mut Draft) {
     let steps = draft.rng.pick(&[1_000_001, 1_000_002, u32::MAX, 1 << 31]);
-    draft.emit(Command::Run { steps });
+    draft.run(steps);
 }
 
 /// Stops all, runs, and starts one again.
@@ -209,7 +212,7 @@ fn nothing_running(draft: &mut Draft) {
     }
     for _ in 0..draft.rng.between(1, 2) {
         let steps = draft.rng.pick(&[0, 1, 5, 1_000_000, 1_000_001]);
-        draft.emit(Command::Run { steps });
+        draft.run(steps);
     }
     if draft.rng.chance(80) {
         draft.keep_running();
@@ -224,7 +227,7 @@ fn set_queue(draft: &mut Draft) {
 /// A run that is long enough to send and take.
 fn run_tickets(draft: &mut Draft) {
     let steps = draft.rng.between(12, 600);
-    draft.emit(Command::Run { steps });
+    draft.run(steps);
 }
 
 /// Calls while the memory's length is another than at boot.
@@ -234,7 +237,7 @@ pub fn wrong_length(draft: &mut Draft) {
     draft.emit(Command::Length { words: other });
     for _ in 0..draft.rng.between(1, 3) {
         match draft.rng.below(4) {
-            0 => drop(draft.emit(Command::Run { steps: 3 })),
+            0 => draft.run(3),
             1 => refused_run(draft),
             2 => read_out(draft),
             _ => any_call(draft),

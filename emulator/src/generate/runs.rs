@@ -20,7 +20,7 @@ pub fn compose(draft: &mut Draft) {
         }
         draft.keep_running();
         let steps = run_length(draft);
-        draft.emit(Command::Run { steps });
+        draft.run(steps);
         if draft.rng.chance(15) {
             audits::look(draft);
         }

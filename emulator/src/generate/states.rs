@@ -6,7 +6,7 @@ use crate::counts::Counts;
 use crate::dlx::special::{EDPC, EMODE, EPC, ESR, MODE, PTL, PTO, SR};
 use crate::dlx::{decode, Instruction};
 use crate::fields;
-use crate::memory::{shadow_entry, Access, Fault, ENTRIES, PROTECTED, VALID};
+use crate::memory::{shadow_entry, Access, Engine, Fault, ENTRIES, PROTECTED, VALID};
 use crate::script::Command;
 
 /// Low pages of user addresses that the tables have.
@@ -64,7 +64,7 @@ fn one_case(draft: &mut Draft) {
     };
     place_instruction(draft, partition, instruction);
     let steps = if draft.rng.chance(75) { 1 } else { draft.rng.between(2, 6) };
-    draft.emit(Command::Run { steps });
+    draft.run(steps);
     if draft.rng.chance(5) {
         draft.emit(Command::Empty { partition });
     }
@@ -236,9 +236,15 @@ fn data_address(draft: &mut Draft, partition: u32) -> u32 {
 fn place_instruction(draft: &mut Draft, partition: u32, instruction: u32) {
     let guest = &draft.player.house.guests[partition as usize];
     let table = guest.user().then(|| guest.table());
-    let mut space = guest.space.clone();
-    let place =
-        space.locate(draft.player.lent(), table, guest.dpc, Access::Load, &mut Counts::default());
+    let (mut space, lent) = (guest.space.clone(), draft.player.lent());
+    let place = space.locate(
+        lent,
+        table,
+        guest.dpc,
+        Access::Load,
+        Engine::Shadowed,
+        &mut Counts::default(),
+    );
     if let Ok(place) = place {
         draft.poke_guest(partition, 1_024 * place.page + place.word, instruction);
     }

@@ -12,7 +12,6 @@ use crate::dlx::Cause;
 use crate::fields;
 use crate::memory::{PROTECTED, VALID};
 use crate::rng::Rng;
-use crate::script::Command;
 
 /// SR's bit that lets the timer through.
 pub const OPEN: u32 = 1 << Cause::Timer as u32;
@@ -103,7 +102,7 @@ pub fn compose(draft: &mut Draft) {
             _ => {}
         }
         let steps = draft.rng.between(300, 900);
-        draft.emit(Command::Run { steps });
+        draft.run(steps);
     }
 }
 

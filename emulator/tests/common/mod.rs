@@ -1,8 +1,11 @@
 //! Plays named scripts and keeps what each call left behind.
 #![allow(dead_code)] // not every test file uses all of it
 
+use std::sync::OnceLock;
+
 use emulator::counts::Counts;
 use emulator::dlx::Guest;
+use emulator::generate::Script;
 use emulator::house::{numbers, House};
 use emulator::memory::FRAME_WORDS;
 use emulator::named;
@@ -61,10 +64,15 @@ impl After {
     }
 }
 
+/// The named scripts.
+pub fn scripts() -> &'static [Script] {
+    static SCRIPTS: OnceLock<Vec<Script>> = OnceLock::new();
+    SCRIPTS.get_or_init(named::scripts)
+}
+
 /// What every call of a named script left behind, boot included.
 pub fn play(name: &str) -> Vec<After> {
-    let scripts = named::scripts();
-    let script = scripts.iter().find(|script| script.name == name);
+    let script = scripts().iter().find(|script| script.name == name);
     let script = script.unwrap_or_else(|| panic!("no script {name}"));
     let mut player = Player::new();
     let mut states = Vec::new();
