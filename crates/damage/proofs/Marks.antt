@@ -21,7 +21,8 @@ use Rattle.house.specs.House.{noPartition}
 use Rattle.house.specs.Damage.{stands, entryWrong, wholeFrames, notZero, partitionUsed, damaged, outsideLimits, frameTwice, turnWrong, registersWrong, shadowWrong, unusedWrong, queuesWrong}
 use Rattle.house.specs.declared.House.{House}
 use Rattle.house.proofs.Lists.Bounded.{one-way, same-test, or-left, or-right, any-yes, any-at, any-none, any-from, any-same, and-right}
-use Rattle.marks.specs.Marked.{marked, twiceMarked}
+use Rattle.house.proofs.Lists.ByRule.{first-none}
+use Rattle.marks.specs.Marked.{marked, twiceMarked, firstTwice}
 use Rattle.marks.proofs.Marked.{marked-length, marked-at}
 use Rattle.damage.specs.Marks.{Within, shadowMarked, shadowOutside, pagesAt, partAt, entriesAt, pagesOutside, barredAt, framesBarred, ownersOf, twiceAt, twiceIn, entryMarked, groupMarked, behind, outside, turnOutside, registersAt, roomWrong, queueAt, inside}
 
@@ -90,9 +91,9 @@ module _ (ps : List Partition) (fr : List ℕ) where
         (λ k l. rw (owners-none i (getD (partAt fr i) k 0) (below k l), Bool·not-not))
 
     -- what marking partition i's part finds, and leaves
-    pub mark-part : (part o o′ : List ℕ) (pages tag : ℕ) (r : Bool) → part ≡ partAt fr i → pages ≡ pagesAt ps i → tag ≡ i + 1 → o ≡ ownersOf ps fr i → r ≡ any (twiceMarked o part) pages → (r ≡ false → o′ ≡ marked part tag o pages) → (r ≡ twiceIn ps fr i) × (r ≡ false → o′ ≡ ownersOf ps fr (i + 1))
+    pub mark-part : (part o o′ : List ℕ) (pages tag : ℕ) (r : Bool) → part ≡ partAt fr i → pages ≡ pagesAt ps i → tag ≡ i + 1 → o ≡ ownersOf ps fr i → r ≡ any (twiceMarked o part) pages → o′ ≡ marked part tag o (firstTwice o part pages) → (r ≡ twiceIn ps fr i) × (r ≡ false → o′ ≡ ownersOf ps fr (i + 1))
     unfolding ownersOf
-    mark-part part o o′ pages tag r p q t e h m = (h ∙ rw (p, q, e) twice-by-marks, λ z. m z ∙ rw (p, q, t, e, add-one))
+    mark-part part o o′ pages tag r p q t e h m = (h ∙ rw (p, q, e) twice-by-marks, λ z. m ∙ ap (marked part tag o) (first-none (twiceMarked o part) pages (sym h ∙ z)) ∙ rw (p, q, t, e, add-one))
 
     module _ (once : any (twiceIn ps fr) n ≡ false) (there : i < n) where
       owner-is : (f : ℕ) → eqb (getD (ownersOf ps fr n) f 0) (i + 1) ≡ has f i

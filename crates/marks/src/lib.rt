@@ -1,10 +1,9 @@
 // Marks: each frame of the memory has its owner's tag, 0 for none. A frame that stands twice is found by one look.
 ghost use mathlib.Core.Path.{_≡_};
-ghost use mathlib.Core.Bool.{false};
 ghost use Prim.Native.Nat.{ℕ, _<_, _≤_};
 ghost use lib.ListN.{length, getD};
-ghost use Rattle.house.specs.Lists.{any, firstFrom};
-ghost use Rattle.marks.specs.Marked.{marked, twiceMarked};
+ghost use Rattle.house.specs.Lists.{any};
+ghost use Rattle.marks.specs.Marked.{marked, twiceMarked, firstTwice};
 use dlx::words::wide;
 
 // Whether a frame had an owner already, and the first such position, or how many were marked.
@@ -16,7 +15,7 @@ pub struct Found {
 // Marks the first n frames of a list with the tag, up to one that has an owner already.
 pub fn mark(frames: &[u32], n: usize, tag: u32, owners: &mut [u32; 1024]) -> Found
     requires { ⌜ (n ≤ length (now frames)) × (0 < tag) × (length (now owners) ≡ 1024) × ((k : ℕ) → k < n → getD (now frames) k 0 < 1024) ⌝ }
-    ensures { λ r. ⌜ (r .twice ≡ any (twiceMarked (now (owners .entry)) (now (frames .entry))) n) × (r .at ≡ firstFrom (twiceMarked (now (owners .entry)) (now (frames .entry))) 0 n) × (r .twice ≡ false → now (owners .exit) ≡ marked (now (frames .entry)) tag (now (owners .entry)) n) ⌝ }
+    ensures { λ r. ⌜ (r .twice ≡ any (twiceMarked (now (owners .entry)) (now (frames .entry))) n) × (r .at ≡ firstTwice (now (owners .entry)) (now (frames .entry)) n) × (now (owners .exit) ≡ marked (now (frames .entry)) tag (now (owners .entry)) (firstTwice (now (owners .entry)) (now (frames .entry)) n)) ⌝ }
 {
     let mut k = 0;
     while k < n {

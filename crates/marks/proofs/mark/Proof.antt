@@ -1,11 +1,11 @@
 use native.Mathlib.Omega.{arith}
 use native.Mathlib.Nat.{le-antisymm}
 use lib.ListN.{length, length-set}
-use mathlib.Core.Bool.{true, false}
-use mathlib.Core.Path.{_≡_, refl, sym}
+use mathlib.Core.Bool.{false}
+use mathlib.Core.Path.{_≡_, refl, sym, ap, _∙_}
 use Prim.Native.Nat.{_≤_, _-_, zero-le}
 use Rattle.house.specs.Lists.{any}
-use Rattle.house.proofs.Lists.Bounded.{any-more, any-yes, one-way}
+use Rattle.house.proofs.Lists.Bounded.{any-more, any-yes}
 use Rattle.house.proofs.Lists.ByRule.{first-is, first-none}
 use Rattle.marks.specs.Marked.{marked, twiceMarked}
 use Rattle.marks.proofs.Marked.{marked-more, mark-found, mark-free}
@@ -40,10 +40,11 @@ element-copy-out-if1 c = let b = c .before .before .before .before .before .pre 
 returns : tie.Need-returns Inv-loop μ-loop
 returns c = let a = c .before .before .before .before .before .before .before .args in let l = c .before .before .before .before .before .loop in
     let b = c .before .before .before .before .before .before .before .pre .3 (l .k) (c .before .before .before .before .loop-test .taken) in
-    let f = mark-found (a .frames .now) (a .tag) (a .owners .now) (l .k) (omega (arith, b, c .before .before .before .before .before .before .before .pre .2)) (rw (l .inv .1, c .before .before .wide .ensures) at (c .if1 .taken)) in (
+    let f = mark-found (a .frames .now) (a .tag) (a .owners .now) (l .k) (omega (arith, b, c .before .before .before .before .before .before .before .pre .2)) (rw (l .inv .1, c .before .before .wide .ensures) at (c .if1 .taken)) in
+    let at = sym (first-is (twiceMarked (a .owners .now) (a .frames .now)) _ (l .k) (l .inv .0) (c .before .before .before .before .loop-test .taken) f) in (
       sym (any-yes (twiceMarked (a .owners .now) (a .frames .now)) _ (l .k) (c .before .before .before .before .loop-test .taken) f),
-      sym (first-is (twiceMarked (a .owners .now) (a .frames .now)) _ (l .k) (l .inv .0) (c .before .before .before .before .loop-test .taken) f),
-      λ e. one-way true refl e,
+      at,
+      l .inv .1 ∙ ap (marked (a .frames .now) (a .tag) (a .owners .now)) at,
     )
 
 mul-owners : tie.Need-mul-owners Inv-loop μ-loop
@@ -71,7 +72,9 @@ loop-again c = let a = c .before .before .before .before .before .before .before
 returns-2 : tie.Need-returns-2 Inv-loop μ-loop
 returns-2 c = let a = c .before .before .before .args in let l = c .before .loop in
     let q = le-antisymm (c .loop-test .left) (l .inv .3) in
-    (sym (rw q (l .inv .0)), sym (first-none (twiceMarked (a .owners .now) (a .frames .now)) _ (rw q (l .inv .0))), λ e. rw q (l .inv .1))
+    let free : any (twiceMarked (a .owners .now) (a .frames .now)) (a .n) ≡ false = rw q (l .inv .0) in
+    let at = first-none (twiceMarked (a .owners .now) (a .frames .now)) (a .n) free in
+    (sym free, sym at, rw (at, q) (l .inv .1))
 
 pub mark-spec : {M : Type 1} → statement M
 mark-spec =
