@@ -1,5 +1,6 @@
--- A stretch cut into spells, as the engine makes it: plain steps on end, in which nothing changes but DPC, PC, registers and memory, and TCOUNT, which falls. A spell
--- ends with a step that is not plain, or with the one in which the timer reaches 0. proofs/Spells.antt shows that the stretch is the same.
+-- A stretch cut into spells, as the engine makes it: plain steps on end, in which nothing changes but DPC, PC, registers, the memory with its shadow, the queues
+-- behind the desk, and TCOUNT, which falls. A spell ends with a step that is not plain, or with the one in which the timer reaches 0. proofs/Spells.antt shows
+-- that the stretch is the same.
 use mathlib.Core.Bool.{Bool, true, false}
 use Prim.Native.Nat.{ℕ, zero, suc, _-_}
 use Rattle.dlx.specs.Choice.{if_then_else_}

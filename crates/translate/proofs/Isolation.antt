@@ -72,12 +72,13 @@ module _ {fr base base′ : List ℕ} {n : ℕ} {h h′ : Host} (r : Alike fr n 
   unfolding hostRead
   read-same a e o = either-both _≡_ (valid e) (λ q. ap Word (own-same (number e) (a / 4 % 1024) (o q) (omega arith))) (λ _. refl)
 
-  module _ (F : Placed fr n (length base)) (l : length base ≡ length base′) where
+  module _ (F : Placed fr n (length base)) (F′ : Placed fr n (length base′)) where
     stored-alike : (f off x : ℕ) → Own fr n f → off < 1024
         → Alike fr n base base′ (host (h .table) (set (h .words) (f * 1024 + off) x) (emptied fr n (h .table) f off (h .shadow)))
         (host (h′ .table) (set (h′ .words) (f * 1024 + off) x) (emptied fr n (h′ .table) f off (h′ .shadow)))
     stored-alike f off x o ho =
         let i = own-inside F o in
+        let i′ = own-inside F′ o in
         record {
           table = r .table;
           shadow = rw (r .table, r .shadow);
@@ -99,13 +100,13 @@ module _ {fr base base′ : List ℕ} {n : ℕ} {h h′ : Host} (r : Alike fr n 
         rw (own-same (number e) (a / 4 % 1024) m (omega arith)) (record { same = refl; rest = stored-alike (number e) (a / 4 % 1024) _ m (omega arith) })
 
 -- What a guest gets, and what it leaves in its frames, depends on nothing outside them.
-pub isolation : (fr base base′ : List ℕ) (n : ℕ) → Placed fr n (length base) → length base ≡ length base′ → Like (Alike fr n base base′) (hostMemory fr n) (hostMemory fr n)
+pub isolation : (fr base base′ : List ℕ) (n : ℕ) → Placed fr n (length base) → Placed fr n (length base′) → Like (Alike fr n base base′) (hostMemory fr n) (hostMemory fr n)
 unfolding hostReads hostWrites
-isolation fr base base′ n F l = record {
+isolation fr base base′ n F F′ = record {
   tables = λ h h′ r. r .table;
   reads = λ h h′ r user a.
       let m = served-alike r user a in
       record { same = rw (← (served-same r user a .0)) (read-same m a _ (served-own fr n h (r .shadowed) user a)); rest = m };
-  writes = λ h h′ r user a f. rw (← (served-same r user a .0)) (written-same (served-alike r user a) F l a f _ (served-own fr n h (r .shadowed) user a));
+  writes = λ h h′ r user a f. rw (← (served-same r user a .0)) (written-same (served-alike r user a) F F′ a f _ (served-own fr n h (r .shadowed) user a));
   retables = λ h h′ r t. retabled r refl refl fresh-shadowed;
 }

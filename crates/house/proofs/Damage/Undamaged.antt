@@ -10,7 +10,7 @@ use lib.ListN.{length, getD, List·getD-eq-default}
 use Rattle.translate.specs.Entries.{valid}
 use Rattle.translate.specs.Walk.{entries}
 use Rattle.translate.proofs.Entries.{empty-invalid}
-use Rattle.dlx.proofs.Tests.{by-test, and-left}
+use Rattle.dlx.proofs.Tests.{by-test, by-eq, and-left}
 use Rattle.house.specs.Lists.{any, between}
 use Rattle.house.specs.House.{partition, pagesOf, runs, registersOf, framesOf, shadowOf, queuesOf}
 use Rattle.house.specs.Damage.{wholeFrames, frameBarred, outsideLimits, stands, frameTwice, turnWrong, registersWrong, shadowWrong, notZero, partitionUsed, unusedWrong, queueWrong, queuesWrong, damaged}
@@ -267,6 +267,10 @@ module _ (h : House) (e : damaged h ≡ false) where
   pub words-whole : (h .words % 1024 ≡ 0) × (h .words ≤ 2 ^ 20)
   words-whole = (u .whole, omega (arith, u .whole, u .size .1))
 
+  -- one is current, or 0 is named
+  pub current-below : h .current < h .count
+  current-below = by-eq (h .left) 0 (λ z. omega (arith, u .idle z .0, u .some)) (λ n. u .busy n .0)
+
   module _ (m : List ℕ) (s : Shaped h) (size : length m ≡ h .words) where
     pub sound-partition : (i : ℕ) → i < h .count → SoundPartition (world h m) i
     sound-partition i l =
@@ -289,6 +293,12 @@ module _ (h : House) (e : damaged h ≡ false) where
           };
         }
 
+    pub queues-most : (j : ℕ) → waitingOf (queuesOf h) j ≤ 32
+    queues-most j =
+        by-test (ltb j 8)
+        (λ t. u .queued j (ltb-true j 8 t) .most)
+        (λ t. omega (arith, List·getD-eq-default (h .waiting) 0 {n = j} (let k = ltb-false j 8 t in omega (arith, s .waiting))))
+
     pub sound : (h .left ≡ 0 → ⊥) → Sound (world h m)
     sound n = record {
       shaped = s;
@@ -297,7 +307,5 @@ module _ (h : House) (e : damaged h ≡ false) where
       here = u .busy n .0;
       left = omega (arith, n);
       turns = u .turns .0;
-      most = λ j. by-test (ltb j 8)
-          (λ t. u .queued j (ltb-true j 8 t) .most)
-          (λ t. omega (arith, List·getD-eq-default (h .waiting) 0 {n = j} (let k = ltb-false j 8 t in omega (arith, s .waiting))));
+      most = queues-most;
     }
