@@ -18,9 +18,12 @@ use Rattle.house.specs.Boot.{bootVerdict}
 use Rattle.house.specs.Turns.{World, world}
 use Rattle.house.specs.Calls.{bootCall, runVerdict, runCall, oneVerdict, startCall, stopCall, emptyCall, readVerdict, readCall}
 use Rattle.demands.specs.Histories.{booted, history, turnsMade, loneAtBoot, queueIn, logOf, ticketsOff, feedOf}
-use Rattle.demands.specs.Demands.{RefusedMeansUntouched, Isolation, RunIsolation, Frame0, EveryBoot, NeverDamaged, Step, WithinRuns, Reach, Histories, EqualGuests, EqualCounters, Tickets, TicketCounts, ReadsThosePages, Fairness, FairShares}
+use Rattle.demands.specs.Demands.{RefusedMeansUntouched, MayStep, Isolation, EveryStep, RunIsolation, Frame0, EveryBoot, NeverDamaged, Step, WithinRuns, Reach, Histories, EqualGuests, EqualCounters, Tickets, TicketCounts, ReadsThosePages, Fairness, FairShares}
 use Rattle.house.proofs.Lists.Bounded.{one-way}
 use Rattle.house.proofs.Calls.Verdicts.{run-done}
+use Rattle.house.specs.Sound.{Sound}
+use Rattle.house.proofs.Damage.Denied.{undamaged-from}
+use Rattle.house.proofs.Turns.HostStep.{steps-ready}
 use Rattle.house.proofs.Damage.Undamaged.{undamaged-gives, sound}
 use Rattle.demands.proofs.Isolation.Isolated.{step-isolated}
 use Rattle.demands.proofs.Isolation.IsolatedRun.{same-verdict, answers-alike}
@@ -53,8 +56,18 @@ refused-means-untouched = record {
   read = λ w i a n out r. (refl, refused-given (readVerdict w i a n out .number) _ out r);
 }
 
+may-sound : (w : World) → MayStep w → Sound w
+may-sound w o = sound (w .house) (o .whole) (w .memory) (o .shaped) (o .size) (o .busy)
+
 pub isolation-demand : Isolation
-isolation-demand h m m′ s e n l l′ = step-isolated h m m′ (sound h e m s l n) (l ∙ sym l′)
+isolation-demand w w′ o o′ = step-isolated (w .house) (w′ .house) (w .memory) (w′ .memory) (may-sound w o) (may-sound w′ o′)
+
+pub every-step : EveryStep
+unfolding runCall
+every-step w k j y e l =
+    let d = run-done w k e in
+    let r = steps-ready j w (record { typed = y; whole = undamaged-gives (w .house) (d .whole); size = d .size; busy = d .busy (λ z. omega arith) }) in
+    (r .typed, record { shaped = r .typed .shaped; whole = undamaged-from _ (r .whole); size = r .size; busy = r .busy })
 
 pub run-isolation : RunIsolation
 unfolding runCall
@@ -131,8 +144,7 @@ pub reads-those-pages : ReadsThosePages
 reads-those-pages b w g = reads-pages w
 
 pub fairness-demand : Fairness
-fairness-demand b w g cs i m e l =
-    by-eq (turnsMade cs w i) 0 (λ z. omega (arith, others-most b w g cs i m e z)) (λ n. omega arith)
+fairness-demand w cs i m e l = by-eq (turnsMade cs w i) 0 (λ z. omega (arith, others-most w cs i m e z)) (λ n. omega arith)
 
 pub fair-shares : FairShares
-fair-shares b w g cs z y i j m o r s = (shares-most b w g cs z y i j m o r s, shares-most b w g cs z y j i o m s r)
+fair-shares w cs z y i j m o r s = (shares-most w cs z y i j m o r s, shares-most w cs z y j i o m s r)

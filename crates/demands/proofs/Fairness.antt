@@ -7,24 +7,22 @@ use native.Mathlib.Nat.{mul-le-mul-right}
 use native.Mathlib.Omega.{arith}
 use borrow.Author.Tests.{eqb-true, eqb-false, ne-eqb}
 use lib.Dec.{eqb}
-use lib.ListN.{length, getD, set}
+use lib.ListN.{getD, set}
 use Rattle.dlx.specs.Choice.{if_then_else_}
 use Rattle.dlx.proofs.Kept.{either}
 use Rattle.dlx.proofs.Tests.{either-both, by-eq, getD-set-default}
 use Rattle.house.specs.Lists.{any}
 use Rattle.house.specs.House.{runs, turn}
 use Rattle.house.specs.Damage.{damaged}
-use Rattle.house.specs.Boot.{bootedHouse}
 use Rattle.house.specs.Turns.{World, world, nextOf, turnOf, guestStep, settledHouse, stepWith, hostStep, hostSteps}
 use Rattle.house.specs.Calls.{runVerdict, runCall, oneVerdict, started, stopped, emptiedHouse, startCall, stopCall, emptyCall, readCall}
-use Rattle.demands.specs.Histories.{Boot, booted, Call, run, start, stop, empty, readOut, after, history, Grown, turnsIn, stepsOf, stepsMade, turnsMade, StaysRunning}
+use Rattle.demands.specs.Histories.{Call, run, start, stop, empty, readOut, after, history, turnsIn, stepsOf, stepsMade, turnsMade, StaysRunning}
 use Rattle.house.specs.declared.House.{House}
 use Rattle.house.specs.declared.Turn.{Turn}
 use Rattle.house.proofs.Lists.Bounded.{or-left, and-right, one-way, any-yes}
 use Rattle.house.proofs.Turns.Kept.{next-below, distance, distance-some, distance-other, next-nearer, steps-keep, InTurn, in-turn, in-turn-on}
 use Rattle.house.proofs.Turns.SameLayout.{steps-layout}
-use Rattle.demands.proofs.Histories.Standing.{Standing}
-use Rattle.demands.proofs.Histories.Grown.{standing, standing-after}
+use Rattle.demands.proofs.Histories.Stays.{after-layout}
 use Rattle.house.proofs.Damage.Undamaged.{undamaged-gives}
 use Rattle.house.proofs.Calls.Verdicts.{run-done, one-done}
 
@@ -160,7 +158,7 @@ module _ (w : World) (i : ℕ) (m : i < w .house .count) (e : runs (w .house) i 
   call-waits (readOut p a n out) r z = omega arith
 
 -- a call that makes steps finds the house not damaged
-steps-undamaged : (c : Call) (w : World) → (stepsOf c w ≡ 0 → ⊥) → damaged (w .house) ≡ false
+pub steps-undamaged : (c : Call) (w : World) → (stepsOf c w ≡ 0 → ⊥) → damaged (w .house) ≡ false
 unfolding stepsOf runCall
 steps-undamaged (run k) w n =
     either (λ n. (n ≡ 0 → ⊥) → damaged (w .house) ≡ false) (eqb (runVerdict w k .number) 0)
@@ -186,27 +184,26 @@ in-terms : (x n q n′ q′ : ℕ) → n ≡ n′ → q ≡ q′ → x ≤ (n - 
 in-terms x n q n′ q′ e f l = rw (← e, ← f) l
 
 -- while only others make steps
-others-steps : (b : Boot) (cs : List Call) (w : World) → Standing b w → (i : ℕ) → i < w .house .count → StaysRunning cs w i → turnsMade cs w i ≡ 0
-    → (stepsMade cs w ≤ waiting (w .house) i) × (stepsMade cs w ≤ (booted b .house .count - 1) * booted b .house .q)
+others-steps : (cs : List Call) (w : World) (i : ℕ) → i < w .house .count → StaysRunning cs w i → turnsMade cs w i ≡ 0
+    → (stepsMade cs w ≤ waiting (w .house) i) × (stepsMade cs w ≤ (w .house .count - 1) * w .house .q)
 unfolding stepsMade turnsMade
-others-steps b [] w st i m e z = (omega arith, omega arith)
-others-steps b (c ∷ cs) w st i m e z =
+others-steps [] w i m e z = (omega arith, omega arith)
+others-steps (c ∷ cs) w i m e z =
     let r = runs-first (c ∷ cs) w i e in
     let e′ = runs-on c cs w i e in
-    let t = standing-after b w st c in
-    let h = others-steps b cs (after c w) t i (omega (arith, st .layout .count, t .layout .count)) e′ (omega arith) in
+    let t = after-layout w c in
+    let h = others-steps cs (after c w) i (omega (arith, t .count)) e′ (omega arith) in
+    let later = in-terms _ _ _ (w .house .count) (w .house .q) (t .count) (t .q) (h .1) in
     let now = call-waits w i m r c (runs-first cs (after c w) i e′) (omega arith) in
     let all : stepsOf c w + stepsMade cs (after c w) ≤ waiting (w .house) i = omega (arith, h .0) in (
       all,
       by-eq (stepsOf c w) 0
-          (λ y. omega (arith, h .1))
+          (λ y. omega (arith, later))
           (λ n.
           let s = turning (w .house) i (steps-undamaged c w n) m r in
           let k = wait-most (w .house .count) (w .house .q) i (w .house .current) (w .house .left) m (s .here) (s .most) in
-          in-terms _ (w .house .count) (w .house .q) _ _ (st .layout .count) (st .layout .q) (omega arith)),
+          omega arith),
     )
 
-pub others-most : (b : Boot) (w : World) → Grown b w → (cs : List Call) (i : ℕ) → i < length (b .pages) → StaysRunning cs w i → turnsMade cs w i ≡ 0
-    → stepsMade cs w ≤ (length (b .pages) - 1) * b .q
-unfolding bootedHouse
-others-most b w g cs i m e z = let st = standing b w g in others-steps b cs w st i (omega (arith, st .layout .count)) e z .1
+pub others-most : (w : World) (cs : List Call) (i : ℕ) → i < w .house .count → StaysRunning cs w i → turnsMade cs w i ≡ 0 → stepsMade cs w ≤ (w .house .count - 1) * w .house .q
+others-most w cs i m e z = others-steps cs w i m e z .1

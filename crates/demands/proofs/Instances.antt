@@ -3,3 +3,4 @@ pub mod FairShares
 pub mod ThreeGuests
 pub mod Tickets
 pub mod TwoGuests
+pub mod TwoHouses

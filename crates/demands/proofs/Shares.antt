@@ -7,15 +7,15 @@ use Prim.Native.Nat.{ℕ, zero, suc, _+_, _<_, _≤_}
 use native.Mathlib.Omega.{arith}
 use borrow.Author.Tests.{eqb-true}
 use lib.Dec.{eqb}
-use lib.ListN.{length, getD}
+use lib.ListN.{getD}
 use Rattle.dlx.specs.Choice.{if_then_else_}
 use Rattle.dlx.proofs.Kept.{either}
 use Rattle.dlx.proofs.Tests.{either-both, by-test, by-eq}
 use Rattle.house.specs.House.{runs}
-use Rattle.house.specs.Boot.{bootedHouse}
+use Rattle.house.specs.Damage.{damaged}
 use Rattle.house.specs.Turns.{World, world, guestStep, settledHouse, stepWith, hostStep, hostSteps}
 use Rattle.house.specs.Calls.{runVerdict, runCall, oneVerdict, emptiedHouse, startCall, stopCall, emptyCall, readCall}
-use Rattle.demands.specs.Histories.{Boot, Call, run, start, stop, empty, readOut, after, history, Grown, turnsIn, stepsOf, turnsMade, endsEarly, earlyEndsIn, earlyEnds, startOrStop, startsAndStops}
+use Rattle.demands.specs.Histories.{Call, run, start, stop, empty, readOut, after, history, turnsIn, stepsOf, turnsMade, endsEarly, earlyEndsIn, earlyEnds, startOrStop, startsAndStops}
 use Rattle.house.specs.declared.House.{House}
 use Rattle.house.proofs.Lists.Bounded.{one-way}
 use Rattle.house.proofs.Turns.Kept.{in-turn-on}
@@ -23,8 +23,9 @@ use Rattle.house.proofs.Turns.SameLayout.{steps-layout}
 use Rattle.house.proofs.Turns.Shares.{lead-most, leadIn, step-shares}
 use Rattle.house.proofs.Calls.StartStopEmpty.{started-running, stopped-still}
 use Rattle.house.proofs.Calls.Verdicts.{run-done, one-done}
-use Rattle.demands.proofs.Histories.Grown.{standing}
-use Rattle.demands.proofs.Fairness.{Turning, turning, steps-running}
+use Rattle.house.proofs.Damage.Undamaged.{undamaged-gives}
+use Rattle.demands.proofs.Histories.Stays.{after-damaged}
+use Rattle.demands.proofs.Fairness.{Turning, turning, steps-running, steps-undamaged}
 
 -- ---- host steps
 
@@ -129,14 +130,28 @@ module _ (i j : ℕ) (d : i ≡ j → ⊥) where
       let on = shares-told cs (after c w) (call-runs c w z0 i r) (call-runs c w z0 j s) (omega arith) (omega arith) in
       omega (arith, now, on)
 
+-- a damaged house makes no steps
+damaged-still : (cs : List Call) (w : World) → damaged (w .house) ≡ true → (i : ℕ) → turnsMade cs w i ≡ 0
+unfolding turnsMade turnsIn
+damaged-still [] w e i = refl
+damaged-still (c ∷ cs) w e i =
+    by-eq (stepsOf c w) 0
+    (λ z. rw (z, after-damaged w e c) (omega (arith, damaged-still cs w e i)))
+    (λ n. one-way (damaged (w .house)) e (steps-undamaged c w n))
+
+-- a turn has at most q steps left, in a house that is not damaged
+left-most : (h : House) → damaged h ≡ false → h .left ≤ h .q
+left-most h e = by-eq (h .left) 0 (λ z. omega arith) (λ n. undamaged-gives h e .busy n .2)
+
 -- the bound, of any two
-pub shares-most : (b : Boot) (w : World) → Grown b w → (cs : List Call) → startsAndStops cs w ≡ 0 → earlyEnds cs w ≡ 0 → (i j : ℕ) → i < length (b .pages) → j < length (b .pages)
-    → runs (w .house) i ≡ true → runs (w .house) j ≡ true → turnsMade cs w i ≤ turnsMade cs w j + b .q
-unfolding bootedHouse
-shares-most b w g cs z y i j m o r s =
-    let st = standing b w g in
+pub shares-most : (w : World) (cs : List Call) → startsAndStops cs w ≡ 0 → earlyEnds cs w ≡ 0 → (i j : ℕ) → i < w .house .count → j < w .house .count
+    → runs (w .house) i ≡ true → runs (w .house) j ≡ true → turnsMade cs w i ≤ turnsMade cs w j + w .house .q
+shares-most w cs z y i j m o r s =
     by-eq i j
-    (λ e. subst (λ (x : ℕ). turnsMade cs w i ≤ turnsMade cs w x + b .q) e (omega arith))
+    (λ e. subst (λ (x : ℕ). turnsMade cs w i ≤ turnsMade cs w x + w .house .q) e (omega arith))
     (λ d.
-    let told = shares-told i j d cs w (record { there = omega (arith, st .layout .count); runs = r }) (record { there = omega (arith, st .layout .count); runs = s }) z y in
-    omega (arith, told, lead-most (w .house .count) (w .house .q) i j (w .house .current) (w .house .left) (st .turns), st .layout .q))
+    by-test (damaged (w .house))
+    (λ e. omega (arith, damaged-still cs w e i))
+    (λ e.
+    let told = shares-told i j d cs w (record { there = m; runs = r }) (record { there = o; runs = s }) z y in
+    omega (arith, told, lead-most (w .house .count) (w .house .q) i j (w .house .current) (w .house .left) (left-most (w .house) e))))

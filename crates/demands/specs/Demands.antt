@@ -11,10 +11,10 @@ use Rattle.translate.specs.Entries.{number, valid, protection, refused, protect
 use Rattle.translate.specs.Memory.{wordIn, loneFound, loneMemory, served}
 use Rattle.translate.specs.Premises.{Own}
 use Rattle.house.specs.Lists.{listFrom}
-use Rattle.house.specs.House.{noHouse, partition, pagesOf, runs, registersOf, framesOf, shadowOf, queuesOf, turn}
+use Rattle.house.specs.House.{noHouse, partition, pagesOf, runs, registersOf, framesOf, shadowOf, queuesOf, turn, turnNow}
 use Rattle.house.specs.Damage.{damaged}
 use Rattle.house.specs.Turns.{World, world, turnOf, guest, hostStep, hostSteps}
-use Rattle.house.specs.Sound.{Shaped, LaidOut}
+use Rattle.house.specs.Sound.{Shaped, LaidOut, Typed}
 use Rattle.house.specs.Calls.{Answered, bootCall, runCall, startCall, stopCall, emptyCall, readCall}
 use Rattle.demands.specs.Histories.{Boot, booted, Call, history, Grown, turnsMade, stepsMade, StaysRunning, earlyEnds, startsAndStops, loneOf, loneAtBoot, queueIn, loneAsks, loneAnswer, logOf, ticketsTo, ticketsOff, feedOf}
 use Rattle.tickets.specs.Queues.{waitingOf, queueOf, lined, Moved}
@@ -54,21 +54,44 @@ pub record OwnAndOneTicket (h h′ : House) (i : ℕ) : Type 0 where
   pub running : h′ .running ≡ h .running
   pub queues : Moved (h .count) i (queueOf (queuesOf h)) (queueOf (queuesOf h′))
 
--- One host step, in two memories, reads and changes the current partition's frames alone. The queues and the partition count are the one house's.
-abbrev pub OwnFramesAlone : House → List ℕ → List ℕ → Type 0
-OwnFramesAlone h m m′ =
-    let w = hostStep (world h m) in
-    let w′ = hostStep (world h m′) in
-    (w .house ≡ w′ .house)
-    × AgreeOn h (h .current) (w .memory) (w′ .memory)
-    × KeepsFramesNotOf h (h .current) m (w .memory)
-    × KeepsFramesNotOf h (h .current) m′ (w′ .memory)
-    × OwnAndOneTicket h (w .house) (h .current)
+-- A host step can be made: the house is not damaged, the memory has its size, and one is current. The lengths of its arrays are what their types give.
+pub record MayStep (w : World) : Type 0 where
+  pub shaped : Shaped (w .house)
+  pub whole : damaged (w .house) ≡ false
+  pub size : length (w .memory) ≡ w .house .words
+  pub busy : w .house .left ≡ 0 → ⊥
 
--- Isolation: so it is in any house that is not damaged, right shadows or wrong.
+-- Two houses have the same of partition i, its record, registers, frame list and shadow; the same count and queues; and the same of what a turn asks for.
+pub record SameFor (h h′ : House) (i : ℕ) : Type 0 where
+  pub part : partition h i ≡ partition h′ i
+  pub registers : registersOf h i ≡ registersOf h′ i
+  pub frames : framesOf h i ≡ framesOf h′ i
+  pub shadow : shadowOf h i ≡ shadowOf h′ i
+  pub count : h .count ≡ h′ .count
+  pub queues : queuesOf h ≡ queuesOf h′
+  pub turn : turnNow h ≡ turnNow h′
+  pub q : h .q ≡ h′ .q
+  pub running : h .running ≡ h′ .running
+
+-- One host step in each of two houses: partition i and its frames, the queues and the turn come to the same in both, and each keeps all else as it was.
+pub record OwnAlone (w w′ x x′ : World) (i : ℕ) : Type 0 where
+  pub same : SameFor (x .house) (x′ .house) i
+  pub own : AgreeOn (w .house) i (x .memory) (x′ .memory)
+  pub foreign : KeepsFramesNotOf (w .house) i (w .memory) (x .memory)
+  pub foreign′ : KeepsFramesNotOf (w′ .house) i (w′ .memory) (x′ .memory)
+  pub rest : OwnAndOneTicket (w .house) (x .house) i
+  pub rest′ : OwnAndOneTicket (w′ .house) (x′ .house) i
+
+-- Isolation: a step depends on nothing but what two such houses have in common and on the own frames, right shadows or wrong. The other partitions, in
+-- records, registers, pages, frames and shadows, and the sizes of the memories may be whatever they may be in a house that is not damaged.
 abbrev pub Isolation : Type 0
-Isolation = (h : House) (m m′ : List ℕ) → Shaped h → damaged h ≡ false → (h .left ≡ 0 → ⊥) → length m ≡ h .words → length m′ ≡ h .words →
-    AgreeOn h (h .current) m m′ → OwnFramesAlone h m m′
+Isolation = (w w′ : World) → MayStep w → MayStep w′ → let i = w .house .current in
+    SameFor (w .house) (w′ .house) i → AgreeOn (w .house) i (w .memory) (w′ .memory) → OwnAlone w w′ (hostStep w) (hostStep w′) i
+
+-- Every step: before each host step of a run that is done, of any house, stands one that is not damaged, over a memory of its size, with one current. So
+-- Isolation speaks of it. Typed is what the types of the house's numbers give.
+abbrev pub EveryStep : Type 0
+EveryStep = (w : World) (k j : ℕ) → Typed w → runCall w k .verdict .number ≡ 0 → j < k → Typed (hostSteps j w) × MayStep (hostSteps j w)
 
 -- Isolation of a run: frames that belong to no partition are never read and never changed.
 abbrev pub RunIsolation : Type 0
@@ -212,15 +235,15 @@ ReadsThosePages = (b : Boot) (w : World) → Grown b w → (i a n : ℕ) (out : 
     let r = readCall w i a n out in
     r .verdict .number ≡ 0 → r .output ≡ listFrom (λ j. getD (loneOf w i .1 .words) (a / 4 + j) 0) 0 n ++ drop n out
 
--- Fairness: over any stretch of a history in which a partition stays running and (n-1)q+1 host steps are made, it makes a step.
+-- Fairness: of any house, over any calls in which a partition stays running and (n-1)q+1 host steps are made, it makes a step.
 abbrev pub Fairness : Type 0
-Fairness = (b : Boot) (w : World) → Grown b w → (cs : List Call) (i : ℕ) → i < length (b .pages) → StaysRunning cs w i →
-    (length (b .pages) - 1) * b .q + 1 ≤ stepsMade cs w → 0 < turnsMade cs w i
+Fairness = (w : World) (cs : List Call) (i : ℕ) → i < w .house .count → StaysRunning cs w i →
+    (w .house .count - 1) * w .house .q + 1 ≤ stepsMade cs w → 0 < turnsMade cs w i
 
--- Fair shares: over any stretch of a history in which no start or stop changes who runs and no turn ends early by a trap, any two partitions running make
+-- Fair shares: of any house, over any calls in which no start or stop changes who runs and no turn ends early by a trap, any two partitions running make
 -- step counts that differ by at most q. Runs, emptyings and read-outs may stand in it, done or refused, in any number and lengths. A refused start or stop
 -- changes nothing, so it may stand in it too, as may a start of one that runs and a stop of one that is stopped.
 abbrev pub FairShares : Type 0
-FairShares = (b : Boot) (w : World) → Grown b w → (cs : List Call) → startsAndStops cs w ≡ 0 → earlyEnds cs w ≡ 0 →
-    (i j : ℕ) → i < length (b .pages) → j < length (b .pages) → runs (w .house) i ≡ true → runs (w .house) j ≡ true →
-    (turnsMade cs w i ≤ turnsMade cs w j + b .q) × (turnsMade cs w j ≤ turnsMade cs w i + b .q)
+FairShares = (w : World) (cs : List Call) → startsAndStops cs w ≡ 0 → earlyEnds cs w ≡ 0 →
+    (i j : ℕ) → i < w .house .count → j < w .house .count → runs (w .house) i ≡ true → runs (w .house) j ≡ true →
+    (turnsMade cs w i ≤ turnsMade cs w j + w .house .q) × (turnsMade cs w j ≤ turnsMade cs w i + w .house .q)

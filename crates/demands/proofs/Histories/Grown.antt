@@ -124,6 +124,11 @@ unfolding history
 history-then [] ds w = refl
 history-then (c ∷ cs) ds w = history-then cs ds (after c w)
 
+-- a call more
+pub grown-after : (b : Boot) (w : World) → Grown b w → (c : Call) → Grown b (after c w)
+unfolding history
+grown-after b w g c = (g .0 ++ (c ∷ []), ap (after c) (g .1) ∙ sym (history-then (g .0) (c ∷ []) (booted b)))
+
 module _ (b : Boot) (w : World) (g : Grown b w) (k j : ℕ) (d : RunDone w k) (less : j < k) where
   busy : w .house .left ≡ 0 → ⊥
   busy = d .busy (λ z. omega arith)
@@ -137,7 +142,7 @@ module _ (b : Boot) (w : World) (g : Grown b w) (k j : ℕ) (d : RunDone w k) (l
   unfolding history after runCall
   run-grown =
       let e : runCall w j .world ≡ hostSteps j w = rw (eq-eqb (runVerdict w j .number) 0 shorter) in
-      (g .0 ++ (run j ∷ []), sym e ∙ ap (after (run j)) (g .1) ∙ sym (history-then (g .0) (run j ∷ []) (booted b)))
+      subst (Grown b) e (grown-after b w g (run j))
 
   pub run-busy : hostSteps j w .house .left ≡ 0 → ⊥
   run-busy z = omega (arith, sound-steps j w (sound (w .house) (d .whole) (w .memory) (standing b w g .shaped) (d .size) busy) .left)

@@ -1,16 +1,19 @@
 -- Every call, done or refused, leaves a house that is not damaged where it is given one, of the same layout, in a memory of the same length.
 use mathlib.Core.Path.{_≡_, refl, _∙_}
-use mathlib.Core.Bool.{false}
+use mathlib.Core.Bool.{true, false}
 use mathlib.Core.List.{List}
 use Prim.Native.Nat.{ℕ}
 use Rattle.dlx.proofs.Tests.{by-eq}
 use Rattle.house.specs.Damage.{damaged}
 use Rattle.house.specs.Turns.{World, hostSteps}
-use Rattle.house.specs.Sound.{Typed, Stays}
+use Rattle.house.specs.House.{turnNow}
+use Rattle.house.specs.Calls.{started, stopped, emptiedHouse}
+use Rattle.house.specs.Sound.{LaidOut, Typed, Stays}
+use Rattle.house.proofs.Lists.Bounded.{one-way}
 use Rattle.demands.specs.Histories.{Call, after, history}
 use Rattle.house.proofs.Damage.Undamaged.{undamaged-gives}
 use Rattle.house.proofs.Calls.Verdicts.{RunDone}
-use Rattle.house.proofs.Turns.SameLayout.{same-layout, layout-on}
+use Rattle.house.proofs.Turns.SameLayout.{same-layout, layout-on, steps-layout, changed-layout}
 use Rattle.demands.proofs.Histories.LeftByCalls.{Done, after-keeps, history-keeps}
 use Rattle.house.proofs.Turns.HostStep.{steps-stay}
 use Rattle.house.proofs.Calls.StartStopEmpty.{started-stays, stopped-stays, emptied-stays}
@@ -35,6 +38,27 @@ call-stays v w s = record {
   stop = λ i d. stays-on v w _ s (stopped-stays w i (s .typed) d);
   empty = λ i d. stays-on v w _ s (emptied-stays w i (s .typed) d);
 }
+
+-- the layout, of any house
+pub after-layout : (w : World) (c : Call) → LaidOut (w .house) (after c w .house)
+unfolding started stopped emptiedHouse
+after-layout w =
+    let h = w .house in
+    after-keeps (λ x. LaidOut h (x .house)) w (same-layout h) (record {
+      run = λ k _. steps-layout k w;
+      start = λ i _. changed-layout h _ _ (h .shadows);
+      stop = λ i _. changed-layout h _ _ (h .shadows);
+      empty = λ i _. changed-layout h (h .running) (turnNow h) _;
+    })
+
+-- a damaged house stays as it is, since every call is refused
+pub after-damaged : (w : World) → damaged (w .house) ≡ true → (c : Call) → after c w ≡ w
+after-damaged w e = after-keeps (λ x. x ≡ w) w refl (record {
+  run = λ k d. one-way (damaged (w .house)) e (d .whole);
+  start = λ i d. one-way (damaged (w .house)) e (d .whole);
+  stop = λ i d. one-way (damaged (w .house)) e (d .whole);
+  empty = λ i d. one-way (damaged (w .house)) e (d .whole);
+})
 
 module _ (w : World) (t : Typed w) (e : damaged (w .house) ≡ false) where
   pub after-stays : (c : Call) → Stays w (after c w)

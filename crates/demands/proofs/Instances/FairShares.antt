@@ -5,7 +5,7 @@ use mathlib.Core.List.{List, [], _∷_, _++_}
 use Prim.Native.Nat.{ℕ, suc, _+_, _^_, _<_, _≤_}
 use native.Mathlib.Omega.{arith}
 use lib.Count.{trailingZeros}
-use lib.ListN.{length, getD, replicate}
+use lib.ListN.{getD, replicate}
 use Rattle.dlx.specs.Words.{extendedBy, readIn, holds}
 use Rattle.dlx.specs.Instructions.{registerType, partType, instructionOf}
 use Rattle.dlx.specs.Fields.{field, put, width, brought, placed}
@@ -20,12 +20,15 @@ use Rattle.translate.specs.Walk.{walked, direct}
 use Rattle.translate.specs.Memory.{hosted, given, filled, looked, served, hostRead, emptied, hostWritten, hostReads, hostWrites}
 use Rattle.tickets.specs.Queues.{sending, taking, desk}
 use Rattle.house.specs.Lists.{listFrom, any, firstFrom}
-use Rattle.house.specs.House.{freshShadows, runs}
+use Rattle.house.specs.House.{freshShadows, runs, turn}
 use Rattle.house.specs.Boot.{sum, firstOf, bootVerdict, laid, offset, bootedHouse}
 use Rattle.house.specs.Turns.{World, world, nextFrom, turnOf, requestNow, replyNow, queuesNext, guestStep, settledHouse, stepWith, hostStep, hostSteps}
 use Rattle.house.specs.Calls.{startCall, started, emptiedHouse}
-use Rattle.demands.specs.Histories.{Boot, booted, Call, run, start, empty, after, history, stepsOf, turnsMade, turnsIn, endsEarly, earlyEndsIn, earlyEnds, startOrStop, startsAndStops}
+use Rattle.demands.specs.Histories.{Boot, booted, Call, run, start, empty, after, stepsOf, turnsMade, turnsIn, endsEarly, earlyEndsIn, earlyEnds, startOrStop, startsAndStops}
 use Rattle.demands.proofs.Booted.FreshHouse.{booted-whole, booted-ready}
+use Rattle.house.proofs.Turns.SameLayout.{changed}
+use Rattle.house.proofs.Damage.Changed.{same-flags, same-shadows, changed-stays}
+use Rattle.house.proofs.Damage.Undamaged.{undamaged-gives}
 use Rattle.demands.proofs.Instances.ClosedCalls.{below, below-at, Fit, fit-after, one-verdict, no-verdict, after-run, after-start, after-empty, after-refused}
 use Rattle.demands.proofs.Demands.{fair-shares}
 
@@ -118,20 +121,55 @@ four = made 0 ∙ (unfold computing in refl)
 pub two : turnsMade calls begun 2 ≡ 2
 two = made 2 ∙ (unfold computing in refl)
 
-there : (i : ℕ) → i < 3 → i < length (turn-takers .pages)
-unfolding turn-takers
-there i l = l
+there : (i : ℕ) → i < 3 → i < begun .house .count
+there i l = omega (arith, fit-begun .count)
+
+two-each : begun .house .q ≡ 2
+two-each = unfold computing in refl
 
 -- the demand alone gives as much, by either of its parts: 0 made 4, so 2 made 2 or more
 pub shared : (2 ≤ turnsMade calls begun 2) × (2 ≤ turnsMade calls begun 2)
-unfolding history turn-takers
 shared =
     let runs-0 : runs (begun .house) 0 ≡ true = unfold computing in refl in
     let runs-2 : runs (begun .house) 2 ≡ true = unfold computing in refl in
-    let ways = fair-shares turn-takers begun ([], refl) calls no-starts none-early in (
-      omega (arith, ways 0 2 (there 0 (omega arith)) (there 2 (omega arith)) runs-0 runs-2 .0, four),
-      omega (arith, ways 2 0 (there 2 (omega arith)) (there 0 (omega arith)) runs-2 runs-0 .1, four),
+    let ways = fair-shares begun calls no-starts none-early in (
+      omega (arith, ways 0 2 (there 0 (omega arith)) (there 2 (omega arith)) runs-0 runs-2 .0, four, two-each),
+      omega (arith, ways 2 0 (there 2 (omega arith)) (there 0 (omega arith)) runs-2 runs-0 .1, four, two-each),
     )
+
+-- ---- of a house that no boot leads to: no step is made, and the first turn has one left
+
+abbrev midway : World
+midway = world (changed (begun .house) (begun .house .running) (turn 0 1) (begun .house .shadows)) (begun .memory)
+
+fit-midway : Fit 3 midway
+fit-midway =
+    let h = begun .house in
+    let u = undamaged-gives h (fit-begun .whole) in
+    let s = changed-stays h (begun .memory) u (fit-begun .typed) (h .running) (turn 0 1) (h .shadows)
+    (same-flags h (begun .memory) u (fit-begun .typed))
+    (record { idle = λ e. absurd (omega arith); busy = λ _. (omega (arith, fit-begun .count), unfold computing in refl, omega (arith, two-each)) })
+    (same-shadows h (begun .memory) u (fit-begun .typed)) in
+    record { typed = s .typed; whole = s .whole; size = s .size ∙ fit-begun .size; count = fit-begun .count }
+
+to-midday : stepsOf (run 7) midway ≡ 7
+to-midday = after-run midway fit-midway 7 (omega arith) (some 0 refl) .1
+
+-- 0 once, 1 and 2 twice, 0 twice
+none-early-midway : (startsAndStops (run 7 ∷ []) midway ≡ 0) × (earlyEnds (run 7 ∷ []) midway ≡ 0)
+unfolding earlyEnds startsAndStops startOrStop
+none-early-midway = (refl, simp to-midday (unfold computing in refl))
+
+three : turnsMade (run 7 ∷ []) midway 0 ≡ 3
+unfolding turnsMade
+three = simp to-midday (unfold computing in refl)
+
+-- 0 made 3, so 2 made 1 or more
+pub shared-midway : 1 ≤ turnsMade (run 7 ∷ []) midway 2
+shared-midway =
+    let runs-0 : runs (midway .house) 0 ≡ true = unfold computing in refl in
+    let runs-2 : runs (midway .house) 2 ≡ true = unfold computing in refl in
+    omega (arith, fair-shares midway (run 7 ∷ []) (none-early-midway .0) (none-early-midway .1) 0 2 (there 0 (omega arith)) (there 2 (omega arith)) runs-0 runs-2 .0, three, two-each)
 
 -- ---- why no turn may end early
 

@@ -4,7 +4,7 @@ use mathlib.Core.List.{List, [], _∷_, _++_}
 use Prim.Native.Nat.{ℕ, suc, _+_, _-_, _*_, _^_, _<_}
 use native.Mathlib.Omega.{arith}
 use lib.Count.{trailingZeros}
-use lib.ListN.{length, getD, replicate}
+use lib.ListN.{getD, replicate}
 use Rattle.dlx.specs.Words.{extendedBy, readIn, holds}
 use Rattle.dlx.specs.Instructions.{registerType, partType, instructionOf}
 use Rattle.dlx.specs.Fields.{field, put, width, brought, placed}
@@ -23,7 +23,7 @@ use Rattle.house.specs.House.{freshShadows}
 use Rattle.house.specs.Boot.{sum, firstOf, bootVerdict, laid, offset, bootedHouse}
 use Rattle.house.specs.Turns.{World, world, nextFrom, turnOf, requestNow, replyNow, queuesNext, guestStep, settledHouse, stepWith, hostStep, hostSteps}
 use Rattle.house.specs.Calls.{bootCall, started, stopped}
-use Rattle.demands.specs.Histories.{Boot, booted, Call, run, start, stop, after, history, stepsOf, stepsMade, turnsMade, turnsIn, StaysRunning}
+use Rattle.demands.specs.Histories.{Boot, booted, Call, run, start, stop, after, stepsOf, stepsMade, turnsMade, turnsIn, StaysRunning}
 use Rattle.demands.specs.Demands.{BootOf}
 use Rattle.demands.proofs.Booted.FreshHouse.{booted-whole, booted-ready}
 use Rattle.demands.proofs.Instances.ClosedCalls.{below, below-at, Fit, fit-after, after-run, after-start, after-stop, runs-at-end, runs-onward}
@@ -115,14 +115,13 @@ five : stepsMade calls begun ≡ 5
 unfolding stepsMade
 five = simp (to-one .0, to-without, to-again, to-one .1, to-ended .1) (unfold stepsOf in refl)
 
-bound : (length (three-guests .pages) - 1) * three-guests .q + 1 ≡ 5
-unfolding three-guests called every-boot
+bound : (begun .house .count - 1) * begun .house .q + 1 ≡ 5
+unfolding three-guests called every-boot bootedHouse
 bound = refl
 
-last-of-three : 2 < length (three-guests .pages)
-unfolding three-guests called every-boot
+last-of-three : 2 < begun .house .count
+unfolding three-guests called every-boot bootedHouse
 last-of-three = omega arith
 
 pub fair : 0 < turnsMade calls begun 2
-unfolding history
-fair = fairness-demand three-guests begun ([], refl) calls 2 last-of-three stays (omega (arith, bound, five))
+fair = fairness-demand begun calls 2 last-of-three stays (omega (arith, bound, five))

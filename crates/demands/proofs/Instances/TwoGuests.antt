@@ -24,7 +24,6 @@ use Rattle.translate.specs.Memory.{loneMemory, loneFound, loneRead, hosted, giv
 use Rattle.dlx.specs.Parts.{inner, outer}
 use Rattle.dlx.proofs.Parts.{part-at}
 use Rattle.dlx.proofs.Kept.{getD-set-elim}
-use Rattle.translate.specs.Premises.{Own}
 use Rattle.house.specs.Lists.{listFrom, any, firstFrom}
 use Rattle.house.specs.House.{freshShadows, noHouse, partition, pagesOf, runs, framesOf, shadowOf, turn}
 use Rattle.tickets.specs.Queues.{sending, taking, desk, queueOf, oldest, ruled}
@@ -34,7 +33,7 @@ use Rattle.house.specs.Turns.{World, world, nextFrom, turnOf, requestNow, reply
 use Rattle.house.specs.Calls.{bootCall, runVerdict, runCall, started, stopped, emptiedHouse, startCall, stopCall, emptyCall, readVerdict, readCall}
 use Rattle.house.specs.Sound.{Proper, Stays, Ready}
 use Rattle.demands.specs.Histories.{Boot, booted, Call, run, start, stop, empty, readOut, after, history, Grown, turnsIn, stepsOf, stepsMade, turnsMade, StaysRunning, loneOf, loneAtBoot, loneAsks, loneAnswer, eventOf, logIn, logOf, each, answersTo, feedOf}
-use Rattle.demands.specs.Demands.{AgreeOn, OwnFramesAlone, ApartInFrame0, StepOf, SameAnswers, fails, word, byShadow, listed, byTable}
+use Rattle.demands.specs.Demands.{AgreeOn, MayStep, SameFor, ApartInFrame0, StepOf, SameAnswers, fails, word, byShadow, listed, byTable}
 use Rattle.house.specs.declared.House.{House}
 use Rattle.house.proofs.Lists.Bounded.{one-way}
 use Rattle.demands.proofs.Instances.ClosedCalls.{below, below-at, Fit, fit-after, run-verdict, no-verdict, after-run, after-start, after-stop, after-empty, after-refused, runs-at-end, runs-onward}
@@ -42,7 +41,8 @@ use Rattle.demands.proofs.Booted.FreshHouse.{booted-whole, booted-ready
 use Rattle.house.proofs.Turns.SameLayout.{changed}
 use Rattle.house.proofs.Damage.Changed.{ShadowsRight, same-flags, changed-stays}
 use Rattle.house.proofs.Damage.Undamaged.{undamaged-gives}
-use Rattle.demands.proofs.Demands.{refused-means-untouched, isolation-demand, run-isolation, frame-0-demand, never-damaged, step-demand, within-runs, reach-demand, histories-demand, equal-guests, equal-counters, reads-those-pages, fairness-demand}
+use Rattle.demands.proofs.Isolation.Isolated.{same-for}
+use Rattle.demands.proofs.Demands.{refused-means-untouched, isolation-demand, every-step, run-isolation, frame-0-demand, never-damaged, step-demand, within-runs, reach-demand, histories-demand, equal-guests, equal-counters, reads-those-pages, fairness-demand}
 
 -- ---- the boot
 
@@ -50,11 +50,11 @@ abbrev zeros : ℕ → List ℕ
 zeros n = replicate n 0
 
 -- Partition 0: PTO = 1, PTL = 2, user mode; a load through entry 1, a store into entry 1 of the table, a trap.
-abbrev first-guest : List ℕ
+abbrev pub first-guest : List ℕ
 first-guest = 0x20010001 ∷ 0x002001D1 ∷ 0x20020002 ∷ 0x00400211 ∷ 0x00200191 ∷ 0x8C031000 ∷ 0xAC031004 ∷ 0xF8000007 ∷ []
 
 -- its table, in its page 1: pages 0 and 1 as they are
-abbrev its-table : List ℕ
+abbrev pub its-table : List ℕ
 its-table = 0x00000800 ∷ 0x00001800 ∷ []
 
 -- partition 1: register 1 = 5, a trap
@@ -170,7 +170,7 @@ fit-alone = fit-after ran fit-ran (stop 1) to-alone
 to-full : (after (run 3) alone ≡ full) × (stepsOf (run 3) alone ≡ 3)
 to-full = after-run alone fit-alone 3 (omega arith) (some 2 alone-left)
 
-fit-full : Fit 2 full
+pub fit-full : Fit 2 full
 fit-full = fit-after alone fit-alone (run 3) (to-full .0)
 
 to-bare : (after (run 1) full ≡ bare) × (stepsOf (run 1) full ≡ 1)
@@ -206,7 +206,7 @@ to-read i a n out w = refl
 abbrev pub aside : List Call
 aside = stop 1 ∷ run 10 ∷ []
 
-abbrev lonely : World
+abbrev pub lonely : World
 lonely = world (stopped (begun .house) 1) (begun .memory)
 
 abbrev pub far : World
@@ -215,8 +215,14 @@ far = hostSteps 10 lonely
 to-lonely : after (stop 1) begun ≡ lonely
 to-lonely = after-stop begun fit-begun 1 (omega arith)
 
+pub fit-lonely : Fit 2 lonely
+fit-lonely = fit-after begun fit-begun (stop 1) to-lonely
+
+pub lonely-left : lonely .house .left ≡ 3
+lonely-left = unfold computing in refl
+
 to-far : (after (run 10) lonely ≡ far) × (stepsOf (run 10) lonely ≡ 10)
-to-far = after-run lonely (fit-after begun fit-begun (stop 1) to-lonely) 10 (omega arith) (some 2 (unfold computing in refl))
+to-far = after-run lonely fit-lonely 10 (omega arith) (some 2 lonely-left)
 
 full-is : full ≡ history filling begun
 unfolding history
@@ -286,7 +292,7 @@ untouched-read =
     refused-means-untouched .read full 0 8192 1 (0 ∷ [])
     (some 11 (simp (fit-full .whole, eq-eqb (length (full .memory)) (full .house .words) (fit-full .size), fit-full .count) (unfold computing in refl))) .1
 
--- a memory that differs in one word: 3072 is partition 1's, 2048 is no partition's
+-- a memory that differs in one word: 3072 is partition 1's, 2048 is no partition's. Isolation between two houses is used in TwoHouses
 abbrev elsewhere : ℕ → List ℕ
 elsewhere x = set (full .memory) x 7
 
@@ -318,34 +324,11 @@ Same x j f = getD (full .memory) (f * 1024 + j) 0 ≡ getD (elsewhere x) (f * 10
 same : (x j f : ℕ) → (f * 1024 + j ≡ x → ⊥) → Same x j f
 same x j f d = sym (getD-set-other (full .memory) x (f * 1024 + j) 7 0 d)
 
-full-current : full .house .current ≡ 0
+pub full-current : full .house .current ≡ 0
 full-current = unfold computing in refl
 
 agree : AgreeOn (full .house) 0 (full .memory) (elsewhere 3072)
 agree k j l m = both (Same 3072 j) (same 3072 j 4 (λ e. omega arith)) (same 3072 j 1 (λ e. omega arith)) k l
-
-pub isolated : OwnFramesAlone (full .house) (full .memory) (elsewhere 3072)
-isolated =
-    isolation-demand (full .house) (full .memory) (elsewhere 3072) (fit-full .typed .shaped) (fit-full .whole) (some 2 full-left) (fit-full .size)
-    (length-set (full .memory) 3072 7 ∙ fit-full .size)
-    (rw full-current agree)
-
--- the one part and the other: own frames agree after it, frame 3 is kept in each, and partition 1's record, registers, shadow and queue stay
-pub isolated-words : (getD (hostStep (world (full .house) (elsewhere 3072)) .memory) 3072 0 ≡ 7)
-    × (getD (hostStep full .memory) 1025 0 ≡ getD (hostStep (world (full .house) (elsewhere 3072)) .memory) 1025 0)
-isolated-words = (
-  isolated .3 3 0 (foreign 3 (λ e. omega arith) (λ e. omega arith)) (omega arith) ∙ (unfold computing in refl),
-  subst (λ (x : ℕ). getD (hostStep full .memory) x 0 ≡ getD (hostStep (world (full .house) (elsewhere 3072)) .memory) x 0) place
-      (subst (λ (x : ℕ). AgreeOn (full .house) x (hostStep full .memory) (hostStep (world (full .house) (elsewhere 3072)) .memory)) full-current (isolated .1) 1 1 (unfold computing in omega arith) (omega arith)),
-)
-  where
-    place : getD (framesOf (full .house) 0) 1 0 * 1024 + 1 ≡ 1025
-    place = unfold computing in refl
-
-    foreign : (f : ℕ) → (f ≡ 4 → ⊥) → (f ≡ 1 → ⊥) → Own (framesOf (full .house) (full .house .current)) (pagesOf (full .house) (full .house .current)) f → ⊥
-    foreign f a b o = both (λ (x : ℕ). x ≡ f → ⊥) (λ e. a (sym e)) (λ e. b (sym e)) (o .0)
-        (subst (λ (x : ℕ). o .0 < pagesOf (full .house) x) full-current (o .1))
-        (subst (λ (x : ℕ). getD (framesOf (full .house) x) (o .0) 0 ≡ f) full-current (o .2))
 
 -- ---- a shadow that is wrong: entry 0 of partition 0 names its frame 1, and the table gives frame 4
 
@@ -393,11 +376,28 @@ misled-stays =
     changed-stays (full .house) (full .memory) u (fit-full .typed) (full .house .running) (turn (full .house .current) (full .house .left)) astray
     (same-flags (full .house) (full .memory) u (fit-full .typed)) (record { idle = u .idle; busy = u .busy }) misled-right
 
-pub isolated-misled : hostStep (world misled (full .memory)) .house ≡ hostStep (world misled (elsewhere 3072)) .house
+-- of any house, grown or not: it steps alike in both memories
+abbrev strayed : List ℕ → World
+strayed m = world misled m
+
+abbrev pub lost : World
+lost = strayed (full .memory)
+
+strayed-steps : (m : List ℕ) → length m ≡ full .house .words → MayStep (strayed m)
+strayed-steps m l = record { shaped = misled-stays .typed .shaped; whole = misled-stays .whole; size = l; busy = some 2 full-left }
+
+pub isolated-misled : SameFor (hostStep lost .house) (hostStep (strayed (elsewhere 3072)) .house) (misled .current)
 isolated-misled =
-    isolation-demand misled (full .memory) (elsewhere 3072) (misled-stays .typed .shaped) (misled-stays .whole) (some 2 full-left) (fit-full .size)
-    (length-set (full .memory) 3072 7 ∙ fit-full .size)
-    (rw full-current agree) .0
+    isolation-demand lost (strayed (elsewhere 3072)) (strayed-steps (full .memory) (fit-full .size))
+    (strayed-steps (elsewhere 3072) (length-set (full .memory) 3072 7 ∙ fit-full .size)) (same-for misled (misled .current)) (rw full-current agree) .same
+
+fit-misled : Fit 2 lost
+fit-misled = record { typed = misled-stays .typed; whole = misled-stays .whole; size = misled-size; count = fit-full .count }
+
+-- before the last of four steps of it stands one that is not damaged, with one current
+pub every : MayStep (hostSteps 3 lost)
+unfolding runCall
+every = every-step lost 4 3 (misled-stays .typed) (numbered 0 4 (run-verdict lost fit-misled 4 (omega arith) (some 2 full-left))) (omega arith) .1
 
 agree-all : (i : ℕ) → i < full .house .count → AgreeOn (full .house) i (full .memory) (elsewhere 2048)
 agree-all zero n k j l m = both (Same 2048 j) (same 2048 j 4 (λ e. omega arith)) (same 2048 j 1 (λ e. omega arith)) k l
@@ -542,18 +542,33 @@ stays =
     at-cleared : runs (cleared .house) 0 ≡ true
     at-cleared = unfold computing in refl
 
-bound : (length (two-guests .pages) - 1) * two-guests .q + 1 ≡ 4
-unfolding two-guests
-bound = refl
+-- at the start, later, and where a shadow is wrong, so that the house is not grown
+bound : (begun .house .count - 1) * begun .house .q + 1 ≡ 4
+bound = unfold computing in refl
+
+bound-full : (full .house .count - 1) * full .house .q + 1 ≡ 4
+bound-full = unfold computing in refl
 
 pub fair : 0 < turnsMade emptying full 0
-fair = fairness-demand two-guests full grown-full emptying 0 (below-two 0 (omega arith)) stays (omega (arith, bound, enough))
+fair = fairness-demand full emptying 0 (omega (arith, fit-full .count)) stays (omega (arith, bound-full, enough))
 
 pub just-fair : 0 < turnsMade (run 4 ∷ []) begun 1
-just-fair = fairness-demand two-guests begun grown-begun (run 4 ∷ []) 1 (below-two 1 (omega arith)) runs-on (omega (arith, bound, four))
+just-fair = fairness-demand begun (run 4 ∷ []) 1 (omega (arith, fit-begun .count)) runs-on (omega (arith, bound, four))
   where
     runs-on : StaysRunning (run 4 ∷ []) begun 1
     runs-on = runs-onward _ _ begun ran 1 (unfold computing in refl) (to-ran .0) (runs-at-end ran 1 (unfold computing in refl))
 
     four : stepsMade (run 4 ∷ []) begun ≡ 4
     four = unfold stepsMade in simp (to-ran .1) (unfold stepsOf in refl)
+
+pub fair-misled : 0 < turnsMade (run 4 ∷ []) lost 0
+fair-misled = fairness-demand lost (run 4 ∷ []) 0 (omega (arith, fit-full .count)) runs-on (omega (arith, bound-full, four))
+  where
+    to-late : (after (run 4) lost ≡ hostSteps 4 lost) × (stepsOf (run 4) lost ≡ 4)
+    to-late = after-run lost fit-misled 4 (omega arith) (some 2 full-left)
+
+    runs-on : StaysRunning (run 4 ∷ []) lost 0
+    runs-on = runs-onward _ _ lost (hostSteps 4 lost) 0 (unfold computing in refl) (to-late .0) (runs-at-end (hostSteps 4 lost) 0 (unfold computing in refl))
+
+    four : stepsMade (run 4 ∷ []) lost ≡ 4
+    four = unfold stepsMade in simp (to-late .1) (unfold stepsOf in refl)

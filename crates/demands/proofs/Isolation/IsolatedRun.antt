@@ -11,7 +11,7 @@ use Rattle.translate.specs.Premises.{Own}
 use Rattle.dlx.proofs.Tests.{either-both, by-eq}
 use Rattle.house.specs.House.{pagesOf, framesOf}
 use Rattle.house.specs.Boot.{Verdict}
-use Rattle.house.specs.Turns.{World, world, stepWith, hostStep, hostSteps}
+use Rattle.house.specs.Turns.{World, world, hostStep, hostSteps}
 use Rattle.house.specs.Sound.{Shaped, Sound, Undamaged, LaidOut}
 use Rattle.house.specs.Calls.{runVerdict, runCall}
 use Rattle.demands.specs.Demands.{AgreeOn}
@@ -20,7 +20,7 @@ use Rattle.house.proofs.Turns.Kept.{sound-step}
 use Rattle.house.proofs.Turns.SameLayout.{same-layout, layout-on, step-layout}
 use Rattle.house.proofs.Damage.Undamaged.{undamaged-gives, sound}
 use Rattle.house.proofs.Calls.Verdicts.{RunDone, run-done}
-use Rattle.demands.proofs.Isolation.Isolated.{step-alike, step-isolated}
+use Rattle.demands.proofs.Isolation.Isolated.{one-house, one-long, one-isolated}
 
 -- f is no partition's frame
 abbrev pub Nobodys : House → ℕ → Type 0
@@ -34,13 +34,13 @@ pub record InStep (h : House) (m : List ℕ) (w w′ : World) : Type 0 where
 
 -- what is said of g's frames is said of h's
 module _ (h g : House) (s : LaidOut h g) (i : ℕ) where
-  own-of : (f : ℕ) → Own (framesOf g i) (pagesOf g i) f → Own (framesOf h i) (pagesOf h i) f
+  pub own-of : (f : ℕ) → Own (framesOf g i) (pagesOf g i) f → Own (framesOf h i) (pagesOf h i) f
   own-of f o = rw (s .frames, s .pages i) at o
 
   agree-of : (m m′ : List ℕ) → AgreeOn g i m m′ → AgreeOn h i m m′
   agree-of m m′ a = rw (s .frames, s .pages i) at a
 
-  agree-in : (m m′ : List ℕ) → AgreeOn h i m m′ → AgreeOn g i m m′
+  pub agree-in : (m m′ : List ℕ) → AgreeOn h i m m′ → AgreeOn g i m m′
   agree-in m m′ a = rw (s .frames, s .pages i) a
 
 module _ (h : House) (m : List ℕ) (u : Undamaged h) where
@@ -57,26 +57,22 @@ module _ (h : House) (m : List ℕ) (u : Undamaged h) where
     others-own : (i : ℕ) → i < h .count → (i ≡ g .current → ⊥) → AgreeOn h i (hostStep (world g ma) .memory) (hostStep (world g mb) .memory)
     others-own i l d k j b c =
         let f = getD (framesOf h i) k 0 in
-        let t = step-isolated g ma mb o long agrees in
+        let t = one-isolated g ma mb o long agrees in
         let n : Own (framesOf g (g .current)) (pagesOf g (g .current)) f → ⊥ = λ x. d (let y = own-of h g s (g .current) f x in u .once i (g .current) k (y .0) l here b (y .1) (sym (y .2)) .0) in
-        t .2 f j n c ∙ r .own i l k j b c ∙ sym (t .3 f j n c)
+        t .foreign f j n c ∙ r .own i l k j b c ∙ sym (t .foreign′ f j n c)
 
     step-agrees : InStep h m (hostStep (world g ma)) (hostStep (world g mb))
     step-agrees =
-        let t = step-isolated g ma mb o long agrees in
+        let t = one-isolated g ma mb o long agrees in
         let a = hostStep (world g ma) .memory in
         let b = hostStep (world g mb) .memory in
         record {
-          house = t .0;
+          house = one-house g ma mb o long agrees;
           own = λ i l. by-eq i (g .current)
-              (λ q. subst (λ (x : ℕ). AgreeOn h x a b) (sym q) (agree-of h g s (g .current) a b (t .1)))
+              (λ q. subst (λ (x : ℕ). AgreeOn h x a b) (sym q) (agree-of h g s (g .current) a b (t .own)))
               (λ d. others-own i l d);
-          others = λ f j n l. t .2 f j (λ x. n (g .current) here (own-of h g s (g .current) f x)) l ∙ r .others f j n l;
+          others = λ f j n l. t .foreign f j (λ x. n (g .current) here (own-of h g s (g .current) f x)) l ∙ r .others f j n l;
         }
-
-    step-long : length (hostStep (world g ma) .memory) ≡ length (hostStep (world g mb) .memory)
-    unfolding hostStep stepWith
-    step-long = let b = step-alike g ma mb o long agrees in b .rest .size ∙ long ∙ sym (b .rest .size′)
 
   -- ---- steps
 
@@ -94,7 +90,7 @@ module _ (h : House) (m : List ℕ) (u : Undamaged h) where
       record {
         layout = layout-on h (w .house) _ (r .layout) (step-layout w);
         sound = sound-step w (r .sound);
-        long = subst (λ (x : World). length (hostStep w .memory) ≡ length (hostStep x .memory)) one (step-long at (w .memory) (w′ .memory) (r .layout) (r .sound) (r .long) now);
+        long = subst (λ (x : World). length (hostStep w .memory) ≡ length (hostStep x .memory)) one (one-long at (w .memory) (w′ .memory) (r .sound) (r .long) (agrees at (w .memory) (w′ .memory) (r .layout) (r .sound) (r .long) now));
         alike = subst (λ (x : World). InStep h m (hostStep w) (hostStep x)) one (step-agrees at (w .memory) (w′ .memory) (r .layout) (r .sound) (r .long) now);
       }
 
