@@ -151,17 +151,14 @@ call-alike c w = record {
 }
 
 module _ (w : World) (y : Typed w) (p : Passes w) (k : ℕ) where
-  steps-of : runVerdict w k .number ≡ 0 → (k ≡ 0 → ⊥) → (n : ℕ) → allEmpty (hostSteps n w) ≡ allEmpty (unshadowedSteps n w)
-  steps-of e z n = steps-alike w (y .shaped) p (run-done w k e .busy z) n
-
   -- as many of each partition, and the same log, where the run is done
   turns-done : runVerdict w k .number ≡ 0 → (i : ℕ) → eitherTurnsIn (unshadowedRun k) k w i ≡ turnsIn k w i
   unfolding eitherTurnsIn turnsIn
-  turns-done e i = by-eq k 0 (λ z. rw z) (λ z. turns-alike w k (steps-of e z) i k)
+  turns-done e i = by-eq k 0 (λ z. rw z) (λ _. turns-alike w k (steps-alike w (y .shaped) p) i k)
 
   log-done : runVerdict w k .number ≡ 0 → eitherLogIn (unshadowedRun k) k w ≡ logIn k w
   unfolding eitherLogIn logIn
-  log-done e = by-eq k 0 (λ z. rw z) (λ z. log-alike w k (steps-of e z) k)
+  log-done e = by-eq k 0 (λ z. rw z) (λ _. log-alike w k (steps-alike w (y .shaped) p) k)
 
   run-alike : AlikeOne (unshadowedRun k) (instead k w) w
   unfolding afterEither history stepsMade turnsMade logOf

@@ -8,7 +8,6 @@ use Rattle.house.specs.House.{withShadows}
 use Rattle.house.specs.Turns.{World, world, hostSteps}
 use Rattle.house.specs.Sound.{Shaped}
 use Rattle.house.specs.Calls.{runVerdict, runCall}
-use Rattle.house.proofs.Calls.Verdicts.{RunDone, run-done}
 use Rattle.demands.proofs.Histories.Standing.{Firm, firm-step}
 use Rattle.staleness.specs.Promises.{Passes}
 use Rattle.staleness.proofs.Promises.{passed-done, passed-right, firm-passed}
@@ -46,19 +45,15 @@ done-empty w k e = ap (λ (x : World). x .house .shadows) (done-is w k e)
 -- ---- the runs of a house that passes
 
 module _ (w : World) (s : Shaped (w .house)) (p : Passes w) where
-  -- after any number of steps, from a house that is ready for one
-  pub steps-alike : (w .house .left ≡ 0 → ⊥) → (n : ℕ) → allEmpty (hostSteps n w) ≡ allEmpty (unshadowedSteps n w)
-  steps-alike busy n =
+  -- after any number of steps
+  pub steps-alike : (n : ℕ) → allEmpty (hostSteps n w) ≡ allEmpty (unshadowedSteps n w)
+  steps-alike n =
       steps-same Firm firm-step (λ x f. f .right (x .house .current) (f .here)) n w
-      (firm-passed w s (passed-done w p) (passed-right w p) busy) .0
-
-  run-alike : (k : ℕ) → RunDone w k → allEmpty (hostSteps k w) ≡ allEmpty (unshadowedSteps k w)
-  unfolding hostSteps unshadowedSteps
-  run-alike k d = by-eq k 0 (λ z. rw z) (λ n. steps-alike (d .busy n) k)
+      (firm-passed w s (passed-done w p) (passed-right w p)) .0
 
   -- a done run by the second engine is one by the first, with every shadow emptied
   pub done-runs : (k : ℕ) → runVerdict w k .number ≡ 0 → unshadowedCall w k .world ≡ allEmpty (runCall w k .world)
-  done-runs k e = done-is w k e ∙ sym (run-alike k (run-done w k e)) ∙ ap allEmpty (sym (run-is w k e))
+  done-runs k e = done-is w k e ∙ sym (steps-alike k) ∙ ap allEmpty (sym (run-is w k e))
 
   pub refused-runs : (k : ℕ) → (runVerdict w k .number ≡ 0 → ⊥) → unshadowedCall w k .world ≡ runCall w k .world
   unfolding unshadowedCall

@@ -1,7 +1,7 @@
 -- What an audit is worth: a theorem for each statement of specs/Promises.antt, in its order.
 use mathlib.Core.Path.{_≡_, refl, sym, ap, subst, _∙_}
 use mathlib.Core.Bool.{true, false}
-use mathlib.Core.List.{List}
+use mathlib.Core.List.{List, [], _∷_}
 use Prim.Native.Nat.{ℕ, _<_, _≤_}
 use native.Mathlib.Omega.{arith}
 use borrow.Author.Tests.{eq-eqb, ne-eqb, ltb-true}
@@ -13,19 +13,19 @@ use Rattle.translate.specs.Walk.{entries}
 use Rattle.house.specs.Boot.{verdict, sum, bootedHouse}
 use Rattle.house.specs.Turns.{World, world, staleAt, hostStep, hostSteps}
 use Rattle.house.specs.Sound.{Shaped, Typed, Ready}
-use Rattle.house.specs.Calls.{answered}
+use Rattle.house.specs.Calls.{Answered, answered}
 use Rattle.house.proofs.Damage.Denied.{undamaged-from}
-use Rattle.house.proofs.Damage.Undamaged.{undamaged-gives, sound}
+use Rattle.house.proofs.Damage.Undamaged.{undamaged-gives, current-below, sound-partition, queues-most}
 use Rattle.house.proofs.Lists.ByRule.{listFrom-same, listFrom-replicate}
 use Rattle.house.proofs.Turns.HostStep.{step-ready}
 use Rattle.house.proofs.Turns.Kept.{steps-keep}
-use Rattle.demands.specs.Histories.{Boot, booted, Grown}
+use Rattle.demands.specs.Histories.{Boot, booted, history, Grown}
 use Rattle.demands.proofs.Demands.{never-damaged}
-use Rattle.demands.proofs.Histories.Grown.{standing}
+use Rattle.demands.proofs.Histories.Grown.{standing, grown-after}
 use Rattle.demands.proofs.Histories.Landings.{lands}
 use Rattle.demands.proofs.Histories.Standing.{Standing, Firm, step-of, firm-step}
 use Rattle.staleness.specs.Audit.{auditVerdict, finding, firstStale, auditCall, staleCount, countAt, staleCounts, countsCall, counts, mended, mendedTo, mendCall}
-use Rattle.staleness.specs.Promises.{Passes, GrownPass, NamesFirst, Names, PassesRight, CountsStale, Mends, MendsAll, MendRefused, PassedSteps, PassedReach, PassesOn}
+use Rattle.staleness.specs.Promises.{Passes, GrownPass, Use, called, audited, tallied, mendedIn, used, uses, StillGrown, NamesFirst, Names, PassesRight, CountsStale, Mends, MendsAll, MendRefused, PassedSteps, PassedReach, PassesOn}
 use Rattle.staleness.specs.declared.Finding.{Finding}
 use Rattle.staleness.proofs.Counting.{count-none, count-some}
 use Rattle.staleness.proofs.Mending.{mended-rest, mended-entry, mended-right, mended-stays, mended-same}
@@ -131,27 +131,53 @@ pub mend-refused : MendRefused
 unfolding mendCall
 mend-refused w n = rw (ne-eqb (auditVerdict w (sum (staleCounts w)) .number) 0 n)
 
+-- ---- grown houses, audited, counted and mended
+
+-- a mend that is done finds nothing, and one that is refused changes nothing
+grown-mended : (b : Boot) (w : World) → Grown b w → mendCall w .world ≡ w
+grown-mended b w g =
+    let st = standing b w g in
+    by-eq (mendCall w .verdict .number) 0
+    (λ e. ap (λ (a : Answered). a .world) (nothing-mended w (st .shaped) (mend-done w e) (λ i px l. st .right i l px)))
+    (mend-refused w)
+
+used-grown : (b : Boot) (w : World) → Grown b w → (u : Use) → Grown b (used u w)
+unfolding used
+used-grown b w g (called c) = grown-after b w g c
+used-grown b w g audited = g
+used-grown b w g tallied = g
+used-grown b w g mendedIn = subst (Grown b) (sym (grown-mended b w g)) g
+
+uses-grown : (b : Boot) (us : List Use) (w : World) → Grown b w → Grown b (uses us w)
+unfolding uses
+uses-grown b [] w g = g
+uses-grown b (u ∷ us) w g = uses-grown b us (used u w) (used-grown b w g u)
+
+pub still-grown : StillGrown
+unfolding history
+still-grown b us = uses-grown b us (booted b) ([], refl)
+
 -- ---- steps of a house that passes
 
-module _ (w : World) (s : Shaped (w .house)) (d : AuditDone w) (r : AllRight w) (busy : w .house .left ≡ 0 → ⊥) where
+module _ (w : World) (s : Shaped (w .house)) (d : AuditDone w) (r : AllRight w) where
   pub firm-passed : Firm w
   firm-passed =
-      let o = sound (w .house) (d .whole) (w .memory) s (d .size) busy in
+      let h = w .house in
       record {
         shaped = s;
-        few = o .few;
-        placed = λ i l. o .each i l .placed;
-        apart = λ i j k l a b a′ b′ e. undamaged-gives (w .house) (d .whole) .once i j k l a b a′ b′ e .0;
-        here = o .here;
-        most = o .most;
+        few = undamaged-gives h (d .whole) .few;
+        placed = λ i l. sound-partition h (d .whole) (w .memory) s (d .size) i l .placed;
+        apart = λ i j k l a b a′ b′ e. undamaged-gives h (d .whole) .once i j k l a b a′ b′ e .0;
+        here = current-below h (d .whole);
+        most = queues-most h (d .whole) (w .memory) s (d .size);
         right = λ i l px. r i px l;
       }
 
 pub passed-steps : PassedSteps
-passed-steps w s p busy = step-of w (firm-passed w s (passed-done w p) (passed-right w p) busy)
+passed-steps w s p _ = step-of w (firm-passed w s (passed-done w p) (passed-right w p))
 
 pub passed-reach : PassedReach
-passed-reach w s p busy = lands w (firm-passed w s (passed-done w p) (passed-right w p) busy)
+passed-reach w s p = lands w (firm-passed w s (passed-done w p) (passed-right w p))
 
 -- ready for a step, and right
 pub record Going (w : World) : Type 0 where
@@ -164,7 +190,7 @@ going-done w g = record { whole = undamaged-from (w .house) (g .ready .whole); s
 going-step : (w : World) → Going w → Going (hostStep w)
 going-step w g = record {
   ready = step-ready w (g .ready);
-  right = λ i px l. firm-step w (firm-passed w (g .ready .typed .shaped) (going-done w g) (g .right) (g .ready .busy)) .right i l px;
+  right = λ i px l. firm-step w (firm-passed w (g .ready .typed .shaped) (going-done w g) (g .right)) .right i l px;
 }
 
 pub passes-on : PassesOn

@@ -1,7 +1,7 @@
 -- What an audit is worth, as statements about the definitions that the calls' contracts cite. proofs/Promises.antt proves each.
 use mathlib.Core.Path.{_≡_}
 use mathlib.Core.Bool.{Bool, true, false}
-use mathlib.Core.List.{List}
+use mathlib.Core.List.{List, [], _∷_}
 use Prim.Native.Nat.{ℕ, _^_, _<_}
 use lib.ListN.{length, getD, replicate}
 use Rattle.translate.specs.Walk.{entries}
@@ -11,7 +11,7 @@ use Rattle.house.specs.Boot.{verdict}
 use Rattle.house.specs.Turns.{World, world, staleAt, hostStep, hostSteps}
 use Rattle.house.specs.Sound.{Shaped, Typed, Stays}
 use Rattle.house.specs.Calls.{answered}
-use Rattle.demands.specs.Histories.{Boot, Grown}
+use Rattle.demands.specs.Histories.{Boot, booted, Call, after, Grown}
 use Rattle.demands.specs.Demands.{StepOf, byShadow, byTable}
 use Rattle.staleness.specs.Audit.{finding, auditCall, staleCount, staleCounts, countsCall, counts, keptAt, mended, mendCall}
 use Rattle.staleness.specs.declared.Finding.{Finding}
@@ -24,6 +24,28 @@ Passes w = auditCall w ≡ finding 0 false 0 0
 abbrev pub GrownPass : Type 0
 GrownPass = (b : Boot) → ((i : ℕ) → getD (b .memory) i 0 < 2 ^ 32) → (w : World) → Grown b w →
     Passes w × (countsCall w ≡ counts 0 (replicate 8 0)) × (mendCall w ≡ answered (verdict 0 0) w)
+
+-- A house and memory may be audited, counted and mended between the calls of a history: audits and counts are given nothing to change, and what a mend
+-- leaves is handed on.
+pub data Use : Type 0 where
+  called : Call → Use
+  audited : Use
+  tallied : Use
+  mendedIn : Use
+
+unfoldable pub used : Use → World → World
+used (called c) w = after c w
+used audited w = w
+used tallied w = w
+used mendedIn w = mendCall w .world
+
+unfoldable pub uses : List Use → World → World
+uses [] w = w
+uses (u ∷ us) w = uses us (used u w)
+
+-- Still grown: whatever they were used for, they are grown by the calls alone, since a mend leaves them as they were. So every demand speaks of them.
+abbrev pub StillGrown : Type 0
+StillGrown = (b : Boot) (us : List Use) → Grown b (uses us (booted b))
 
 -- An audit that is done names a stale entry, and the first one; it names none only where there is none. So it never calls a right entry stale, and misses none.
 pub record NamesFirst (w : World) (f : Finding) : Type 0 where
@@ -61,9 +83,9 @@ MendRefused = (w : World) → (mendCall w .verdict .number ≡ 0 → ⊥) → me
 abbrev pub PassedSteps : Type 0
 PassedSteps = (w : World) → Shaped (w .house) → Passes w → (w .house .left ≡ 0 → ⊥) → StepOf w (hostStep w) (w .house .current)
 
--- And each of its partitions reaches what its table and its frame list give, or fails by the same fault.
+-- And each of its partitions reaches what its table and its frame list give, or fails by the same fault, be one current or none.
 abbrev pub PassedReach : Type 0
-PassedReach = (w : World) → Shaped (w .house) → Passes w → (w .house .left ≡ 0 → ⊥) → (i : ℕ) → i < w .house .count → (store user : Bool) (a : ℕ) →
+PassedReach = (w : World) → Shaped (w .house) → Passes w → (i : ℕ) → i < w .house .count → (store user : Bool) (a : ℕ) →
     byShadow w i store user a ≡ byTable w i store user a
 
 -- It passes again after each of its steps.
