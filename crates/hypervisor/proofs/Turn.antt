@@ -28,10 +28,10 @@ use Rattle.dlx.proofs.Parts.{inner-length}
 use Rattle.house.proofs.Turns.Stretch.{Turned, turned}
 
 -- the part of a list that is lent from i * s on, and the list when it is back
-abbrev lent : ℕ → ℕ → List ℕ → List ℕ
+abbrev pub lent : ℕ → ℕ → List ℕ → List ℕ
 lent i s l = take (i * s + s - i * s) (drop (i * s) l)
 
-abbrev back : ℕ → ℕ → List ℕ → List ℕ → List ℕ
+abbrev pub back : ℕ → ℕ → List ℕ → List ℕ → List ℕ
 back i s l k = take (i * s) l ++ (k ++ drop (i * s + s - i * s) (drop (i * s) l))
 
 module _ (h : House) (current left : ℕ) (parts : List Partition) (regs shadows tickets waiting m : List ℕ) where
@@ -66,7 +66,7 @@ module _ (h : House) (current left : ℕ) (parts : List Partition) (regs shadows
         (subst (λ (j : ℕ). Made now ((getD parts j noPartition .counter + s .made) % 2 ^ 64) j ≡ hostSteps (s .made) here) (sym q)
         (simp add-sub-cancel-left (sym (d .steps)))))
 
-  seated : Sound here → Seated (h .count) current (queues tickets waiting)
+  pub seated : Sound here → Seated (h .count) current (queues tickets waiting)
   seated o = record { queued = record { tickets = o .shaped .tickets; waiting = o .shaped .waiting; most = o .most }; few = o .few; small = omega (arith, o .here, o .few) }
 
   -- what the engine asks of the lent parts
