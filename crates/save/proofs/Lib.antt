@@ -1,0 +1,15 @@
+pub mod Bytes
+pub mod Machine
+pub mod Joined
+pub mod Guests
+pub mod Restored
+pub mod Emptied
+pub mod RoundTrip
+pub mod Put
+pub mod Exact
+pub mod Bytewise
+pub mod Promises
+pub mod Lives
+pub mod WholeFile
+pub mod Checked
+pub mod Instances
