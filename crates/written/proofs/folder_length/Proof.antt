@@ -1,0 +1,52 @@
+use lib.ListN.{length}
+use Prim.Native.Nat.{_≤_}
+use native.Mathlib.Omega.{arith}
+use borrow.Author.Needs.{needs}
+use Rattle.written.proofs.Laws.{not-good, was-good, counts-at}
+use Rattle.written.proofs.folder_length.Statement.{statement}
+use Rattle.written.proofs.folder_length.Tie as tie
+
+abbrev Inv-loop : tie.InvT-loop
+Inv-loop path n₀ n = n ≤ length path
+
+abbrev μ-loop : tie.MeasureT-loop
+μ-loop path n₀ n = n
+
+loop-holds : tie.Need-loop-holds Inv-loop μ-loop
+loop-holds c = omega arith
+
+sub-if1 : tie.Need-sub-if1 Inv-loop μ-loop
+sub-if1 c = search needs
+
+shared-slice-read-if1 : tie.Need-shared-slice-read-if1 Inv-loop μ-loop
+shared-slice-read-if1 c = omega (arith, c .before .before .loop .inv)
+
+returns : tie.Need-returns Inv-loop μ-loop
+returns c = counts-at _ _ (c .before .before .before .loop .inv)
+
+sub-n : tie.Need-sub-n Inv-loop μ-loop
+sub-n c = search needs
+
+loop-less : tie.Need-loop-less Inv-loop μ-loop
+loop-less c = omega arith
+
+loop-again : tie.Need-loop-again Inv-loop μ-loop
+loop-again c = omega (arith, c .before .before .before .loop .inv)
+
+returns-2 : tie.Need-returns-2 Inv-loop μ-loop
+returns-2 c = search needs
+
+pub folder-length-spec : {M : Type 1} → statement M
+folder-length-spec =
+    tie.close
+    (tie.spec
+    Inv-loop
+    μ-loop
+    loop-holds
+    sub-if1
+    shared-slice-read-if1
+    returns
+    sub-n
+    loop-less
+    loop-again
+    returns-2)
