@@ -1,25 +1,11 @@
--- Which text an answer gives.
-use mathlib.Core.Path.{_≡_, refl, sym}
+-- The report tells nothing of shadows.
+use mathlib.Core.Path.{_≡_, refl}
 use mathlib.Core.Bool.{Bool, true, false}
-use mathlib.Core.List.{List}
-use Prim.Native.Nat.{ℕ}
-use borrow.Author.Tests.{eq-eqb, ne-eqb}
-use Rattle.house.specs.Boot.{verdict}
-use Rattle.house.specs.Turns.{World}
-use Rattle.house.specs.Calls.{Answered, answered}
-use Rattle.report.specs.Report.{reportOf, refusedText}
+use Rattle.house.specs.Calls.{Answered}
+use Rattle.report.specs.Report.{reportOf}
+use Rattle.report.specs.Printed.{printed}
 use Rattle.engines.specs.Promises.{emptiedBy}
-use Rattle.night.specs.Printed.{printed}
 
-pub text-refused : (n d : ℕ) (w : World) → (n ≡ 0 → ⊥) → refusedText n d ≡ printed (answered (verdict n d) w)
-unfolding printed
-text-refused n d w z = rw (ne-eqb n 0 z)
-
-pub text-done : (n d : ℕ) (w : World) → n ≡ 0 → reportOf (w .house) ≡ printed (answered (verdict n d) w)
-unfolding printed
-text-done n d w z = sym (rw (eq-eqb n 0 z))
-
--- nothing is told of shadows
 pub printed-by : (u : Bool) (a : Answered) → printed (emptiedBy u a) ≡ printed a
 unfolding printed emptiedBy reportOf
 printed-by true a = refl

@@ -1,135 +1,170 @@
-// night FILE [unshadowed]: reads a house file, or standard input where no file is named, boots its house over a memory of 16 zero frames, runs it and
-// prints the report, or `refused N D`. By the engine without shadows, where that is asked for, the text is the same.
+// night [FILE [unshadowed] [save OUT]]: reads a house file, or standard input where no file is named, boots its house over a memory of 16 zero frames, runs it,
+// saves house and memory as the file OUT where that is asked for, and prints the report; or `refused N D`, and then nothing is saved. By the engine without
+// shadows, where that is asked for, the text is the same.
 ghost use mathlib.Core.Path.{_≡_};
 ghost use mathlib.Core.List.{List};
 ghost use Prim.Native.Nat.{ℕ};
 ghost use Rattle.house.specs.Boot.{verdict};
 ghost use Rattle.house.specs.Turns.{world};
 ghost use Rattle.house.specs.Calls.{answered};
-ghost use Rattle.report.specs.Put.{Counts, put};
-ghost use Rattle.night_run.specs.Ran.{Told};
-ghost use Rattle.night.specs.Printed.{printed};
+ghost use Rattle.report.specs.Printed.{printed};
+ghost use Rattle.night_run.specs.Ran.{houseFile, houseFileBy, Told, Left};
 use command::asks_help;
 use command::fail;
 use command::open;
 use command::wrong;
 use decimal::is;
 use house::House;
+use keep::keep;
 use libc::STDIN_FILENO;
 use libc::STDOUT_FILENO;
 use night_run::Taken;
-use night_run::run_file_by;
-use report::refused;
-use report::report;
+use night_run::WORDS;
+use night_run::run_file;
+use report::text_of;
 
-// Puts the text for an answer at the buffer's start, and answers its length.
-fn text_of(number: u32, detail: u64, house: House, out: &mut [u8; 1024]) -> usize
-    ensures { λ r. ⌜ ((m : List ℕ) → (r, now (out .exit)) ≡ put (printed (answered (verdict number detail) (world house m))) (now (out .entry))) ⌝ }
-    ensures { λ r. ⌜ Counts r (now (out .exit)) ⌝ }
+// ---- after the run
+
+// Saves house and memory: those after the run of the file that was read.
+fn save_left(t: Taken, unshadowed: bool, house: House, memory: &[u32], path: &[u8]) -> bool
+    requires { ⌜ Left (houseFileBy unshadowed) t (world house (now memory)) ⌝ }
 {
+    keep(house, memory, path)
+}
+
+// The same where it is asked for, and the run was not refused. Answers whether all that was to be done is done.
+fn saved(
+    t: Taken,
+    unshadowed: bool,
+    number: u32,
+    house: House,
+    memory: &[u32],
+    path: &[u8],
+    saving: bool,
+) -> bool
+    requires { ⌜ (number ≡ 0 → Left (houseFileBy unshadowed) t (world house (now memory))) ⌝ }
+{
+    if !saving {
+        return true;
+    }
     if number != 0 {
-        return refused(number, detail, out);
+        return true;
     }
-    report(house, out)
-}
-
-// What was read, and the length of the text for it.
-struct Text {
-    taken: Taken,
-    length: usize,
-}
-
-// Reads and runs what is open as fd, and puts the text for it at the buffer's start; none where a read failed.
-fn text_for(fd: i32, unshadowed: bool, out: &mut [u8; 1024]) -> Text
-    ensures { λ x. ⌜ ((text : List ℕ) × Told printed (x .taken) text × ((x .length, now (out .exit)) ≡ put text (now (out .entry)))) ⌝ }
-    ensures { λ x. ⌜ Counts (x .length) (now (out .exit)) ⌝ }
-{
-    let x = run_file_by(fd, unshadowed);
-    let taken = x.taken;
-    if taken.failed() {
-        return Text { taken, length: 0 };
-    }
-    let house = x.house;
-    let length = text_of(x.number, x.detail, house, out);
-    Text { taken, length }
+    save_left(t, unshadowed, house, memory, path)
 }
 
 // Prints a text: the one for the file that was read.
 fn show(t: Taken, text: &[u8])
-    requires { ⌜ Told printed t (now text) ⌝ }
+    requires { ⌜ Told houseFile printed t (now text) ⌝ }
 {
     if !io::write_all(STDOUT_FILENO, text) {
         fail(b"standard output");
     }
 }
 
-// Reads and runs what is open as fd, and prints. A read that fails prints nothing and says why.
-fn night(fd: i32, name: &[u8], unshadowed: bool) {
+// Prints the text for the answer.
+fn tell(t: Taken, number: u32, detail: u64, house: House)
+    requires { ⌜ ((m : List ℕ) × Told houseFile printed t (printed (answered (verdict number detail) (world house m)))) ⌝ }
+{
     let mut out = [0u8; 1024];
-    let x = text_for(fd, unshadowed, &mut out);
-    if x.taken.failed() {
+    let n = text_of(number, detail, house, &mut out);
+    show(t, &out[..n]);
+}
+
+// Reads and runs what is open as fd, saves and prints. A read that fails prints nothing and says why, and so does a save.
+fn night(fd: i32, name: &[u8], unshadowed: bool, path: &[u8], saving: bool) {
+    let mut memory = [0u32; WORDS];
+    let x = run_file(fd, &mut memory, unshadowed);
+    let taken = x.taken;
+    if taken.failed() {
         fail(name);
         return;
     }
-    let n = x.length;
-    show(x.taken, &out[..n]);
+    let house = x.house;
+    let n = x.words;
+    if !saved(
+        taken,
+        unshadowed,
+        x.number,
+        house,
+        &memory[..n],
+        path,
+        saving,
+    ) {
+        return;
+    }
+    tell(taken, x.number, x.detail, house);
 }
+
+// ---- the command
 
 fn help() {
     io::write_all(
         STDOUT_FILENO,
-        b"night [FILE [unshadowed]]: reads a house file (standard input where none is named, or where it is -), boots and runs its house, and prints\n",
+        b"night [FILE [unshadowed] [save OUT]]: reads a house file (standard input where none is named, or where it is -), boots and runs its house, saves it\n",
     );
     io::write_all(
         STDOUT_FILENO,
-        b"a line for each partition, or `refused N D`: docs/FILES.md and docs/CALLS.md tell what it means;\n",
+        b"as the file OUT where asked to, and prints a line for each partition; or `refused N D`, and nothing is saved: docs/FILES.md and docs/CALLS.md tell\n",
     );
     io::write_all(
         STDOUT_FILENO,
-        b"unshadowed: run by the engine that keeps no shadows, and the same is printed\n",
+        b"what it means; unshadowed: run by the engine that keeps no shadows, and the same is printed and saved\n",
     );
 }
 
-// The engine that is asked for.
-struct Engine {
-    said: bool,
-    unshadowed: bool,
-}
-
-// The one that the second word asks for, if there is one. Where it asks for none, that is told.
-fn asked_engine(given: usize) -> Engine {
-    if given < 3 {
-        return Engine {
-            said: true,
-            unshadowed: false,
-        };
+// Opens the file and goes on.
+fn open_and_run(name: &[u8], unshadowed: bool, path: &[u8], saving: bool) {
+    let fd = open(name);
+    if fd < 0 {
+        fail(name);
+        return;
     }
+    night(fd, name, unshadowed, path, saving);
+    libc::close(fd);
+}
+
+// With two words more, which stand here: `save` and OUT.
+fn with_out(name: &[u8], unshadowed: bool, at: usize, out_at: usize) {
     let mut word = io::buffer();
-    let length = os::arg(2, &mut word);
-    if is(&word[..length], b"unshadowed") {
-        return Engine {
-            said: true,
-            unshadowed: true,
-        };
+    let n = os::arg(at, &mut word);
+    if !is(&word[..n], b"save") {
+        wrong(b"save OUT", &word[..n]);
+        return;
     }
-    wrong(b"nothing behind FILE, or unshadowed", &word[..length]);
-    Engine {
-        said: false,
-        unshadowed: false,
+    let mut path = io::buffer();
+    let length = os::arg(out_at, &mut path);
+    if os::errno() != 0 {
+        fail(b"OUT");
+        return;
     }
+    open_and_run(name, unshadowed, &path[..length], true);
+}
+
+// With so many words behind FILE, the first of which is said to be `unshadowed` or not.
+fn with_words(name: &[u8], unshadowed: bool, behind: usize) {
+    if unshadowed & (behind == 1) {
+        open_and_run(name, true, b"", false);
+        return;
+    }
+    if unshadowed & (behind == 3) {
+        with_out(name, true, 3, 4);
+        return;
+    }
+    if !unshadowed & (behind == 2) {
+        with_out(name, false, 2, 3);
+        return;
+    }
+    wrong(b"[FILE [unshadowed] [save OUT]]", b"other words");
 }
 
 fn main() {
     let given = os::arg_count();
-    if given > 3 {
-        wrong(b"FILE [unshadowed], or none", b"more words");
-        return;
-    }
     let mut path = io::buffer();
     let length = os::arg(1, &mut path);
     let e = os::errno();
     if e == libc::EINVAL {
-        night(STDIN_FILENO, b"standard input", false);
+        night(STDIN_FILENO, b"standard input", false, b"", false);
         return;
     }
     if e != 0 {
@@ -140,15 +175,11 @@ fn main() {
         help();
         return;
     }
-    let engine = asked_engine(given);
-    if !engine.said {
+    if given < 3 {
+        open_and_run(&path[..length], false, b"", false);
         return;
     }
-    let fd = open(&path[..length]);
-    if fd < 0 {
-        fail(&path[..length]);
-        return;
-    }
-    night(fd, &path[..length], engine.unshadowed);
-    libc::close(fd);
+    let mut word = io::buffer();
+    let n = os::arg(2, &mut word);
+    with_words(&path[..length], is(&word[..n], b"unshadowed"), given - 2);
 }

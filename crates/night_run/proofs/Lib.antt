@@ -1,2 +1,3 @@
-pub mod Files
 pub mod Pieces
+pub mod Choices
+pub mod Files

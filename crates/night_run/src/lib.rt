@@ -1,193 +1,146 @@
-// What programs over a house file share: the file is read in pieces, its house booted over a memory of 16 zero frames and run, and house and
-// memory handed on, or the refusal.
+// What programs over a file share. A house file is read in pieces, its house booted over a memory of 16 zero frames and run; a saved file is read in pieces, and
+// nothing is run. House and memory are handed on, or the refusal.
+mod booting;
+mod choice;
 mod input;
+mod restoring;
 mod system;
 
 pub use input::Taken;
 ghost use mathlib.Core.Path.{_≡_};
-ghost use mathlib.Core.List.{List};
-ghost use Prim.Native.Nat.{ℕ};
-ghost use lib.IntN.{ℤ};
-ghost use lib.ListN.{getD, take, replicate};
+ghost use Prim.Native.Nat.{_≤_};
+ghost use lib.ListN.{length};
 ghost use Rattle.house.specs.House.{noHouse};
-ghost use Rattle.house.specs.Boot.{verdict};
-ghost use Rattle.house.specs.Turns.{world};
-ghost use Rattle.house.specs.Calls.{answered, bootCall};
-ghost use Rattle.housefile.specs.Reader.{read, noReader, noRead, fed};
-ghost use Rattle.night_run.specs.Pieces.{input, afterRead, Brought, AllOf, FileOf};
-ghost use Rattle.engines.specs.Promises.{emptiedBy};
-ghost use Rattle.night_run.specs.Ran.{afterBoot, handed, held, answerIn};
-use boot::boot;
-use house::Answer;
+ghost use Rattle.night_run.specs.Ran.{noFrames, houseFileBy, savedFile, eitherFile, eitherHeld, Handed};
+use booting::boot_from;
+use booting::hold_from;
+use choice::is_saved;
+use choice::room;
 use house::House;
-use housefile::Reader;
-use housefile::finished;
-use housefile::lists;
-use housefile::total;
-use input::after_read;
-use unshadowed_run::run_by;
+use input::take_head;
+use restoring::restore_from;
 
-// ---- the file
+// The memory that a program lends: 1,024 frames.
+pub const WORDS: usize = 1048576;
 
-// One read more. What it answers and leaves in the buffer is the system's.
-fn take_piece(
-    t: Taken,
-    fd: i32,
-    turns: &mut [u32; 2],
-    pages: &mut [u32; 8],
-    frames: &mut [u32; 2048],
-    memory: &mut [u32; 16384],
-) -> Taken
-    ensures { λ x. ⌜ ((got : ℤ) × (buffer : List ℕ) × Brought got buffer × (input x (now (turns .exit)) (now (pages .exit)) (now (frames .exit)) (now (memory .exit)) ≡ afterRead (input t (now (turns .entry)) (now (pages .entry)) (now (frames .entry)) (now (memory .entry))) got buffer)) ⌝ }
-{
-    let mut buffer = io::large_buffer();
-    let answer = system::read(fd, &mut buffer);
-    after_read(t, answer, &buffer, turns, pages, frames, memory)
-}
-
-// Reads what is open as fd to its end, or to the first wrong record: that one's refusal no byte behind it can change.
-fn take_file(
-    fd: i32,
-    turns: &mut [u32; 2],
-    pages: &mut [u32; 8],
-    frames: &mut [u32; 2048],
-    memory: &mut [u32; 16384],
-) -> Taken
-    ensures { λ x. ⌜ ((bs : List ℕ) × AllOf (read noReader (now (turns .entry)) (now (pages .entry)) (now (frames .entry)) (now (memory .entry))) x bs × (read (x .reader) (now (turns .exit)) (now (pages .exit)) (now (frames .exit)) (now (memory .exit)) ≡ fed (read noReader (now (turns .entry)) (now (pages .entry)) (now (frames .entry)) (now (memory .entry))) bs)) ⌝ }
-{
-    let mut t = Taken::none();
-    while t.more() {
-        t = take_piece(t, fd, turns, pages, frames, memory);
-    }
-    t
-}
-
-// ---- what it comes to
-
-// After a boot of the file's lists, and the run where it is done.
-fn after_boot(
-    r: Reader,
-    pages: &[u32],
-    q: u32,
-    frames: &[u32],
-    memory: &mut [u32],
-    steps: u32,
-    unshadowed: bool,
-) -> Answer
-    ensures { λ x. ⌜ answered (verdict (x .number) (x .detail)) (world (x .house) (now (memory .exit))) ≡ emptiedBy unshadowed (afterBoot (bootCall (take (r .lists) (now (pages .entry))) q (take (r .total) (now (frames .entry))) (now (memory .entry))) steps) ⌝ }
-{
-    let n = lists(r, pages);
-    let k = total(r, frames);
-    let b = boot(&pages[..n], q, &frames[..k], memory);
-    if b.number != 0 {
-        return b;
-    }
-    run_by(unshadowed, b.house, memory, steps)
-}
-
-// After a file that is right.
-fn after_file(
-    r: Reader,
-    turns: &[u32; 2],
-    pages: &[u32; 8],
-    frames: &[u32; 2048],
-    memory: &mut [u32; 16384],
-    unshadowed: bool,
-) -> Answer
-    ensures { λ x. ⌜ answered (verdict (x .number) (x .detail)) (world (x .house) (now (memory .exit))) ≡ emptiedBy unshadowed (afterBoot (bootCall (take (r .lists) (now (pages .entry))) (getD (now (turns .entry)) 0 0) (take (r .total) (now (frames .entry))) (now (memory .entry))) (getD (now (turns .entry)) 1 0)) ⌝ }
-{
-    after_boot(r, pages, turns[0], frames, memory, turns[1], unshadowed)
-}
-
-// What was read, and what it came to: a house number and its detail, the house and its memory.
+// What was read, and what it came to: a house number and its detail, the house, and how many words of the lent memory are its.
 pub struct Ran {
     pub taken: Taken,
     pub number: u32,
     pub detail: u64,
+    pub words: usize,
     pub house: House,
-    pub memory: [u32; 16384],
 }
 
 impl Ran {
-    // No house was booted.
-    fn unbooted(taken: Taken, number: u32, detail: u64) -> Ran
-        ensures { λ x. ⌜ x ≡ record { taken = taken; number = number; detail = detail; house = noHouse; memory = replicate 16384 0 } ⌝ }
+    // There is no house.
+    pub(crate) fn none(taken: Taken, number: u32, detail: u64) -> Ran
+        ensures { λ x. ⌜ x ≡ record { taken = taken; number = number; detail = detail; words = 0; house = noHouse } ⌝ }
     {
         let house = House::none();
-        let memory = [0u32; 16384];
         Ran {
             taken,
             number,
             detail,
+            words: 0,
             house,
-            memory,
         }
     }
 }
 
-// Reads what is open as fd over 16 zero frames, boots its house and runs it.
-pub fn run_file(fd: i32) -> Ran
-    ensures { λ x. ⌜ ((bs : List ℕ) × AllOf noRead (x .taken) bs × ((file : List ℕ) → FileOf (x .taken) bs file → answerIn x ≡ handed (x .taken) file)) ⌝ }
+// ---- in a memory that is lent as a slice
+
+// A house file, by the engine that is asked for.
+fn run_in(fd: i32, memory: &mut [u32], unshadowed: bool) -> Ran
+    requires { ⌜ now memory ≡ noFrames ⌝ }
+    ensures { λ x. ⌜ Handed (houseFileBy unshadowed) x (now (memory .exit)) ⌝ }
+    ensures { λ x. ⌜ x .words ≤ length (now (memory .exit)) ⌝ }
 {
-    run_file_by(fd, false)
+    let mut head = [0u8; 22];
+    let t = take_head(fd, &mut head);
+    let n = t.in_head(&head);
+    boot_from(fd, t, &head[..n], &mut memory[..16384], unshadowed)
 }
 
-// The same by the engine that is asked for: what it comes to is the same, but that every shadow is empty behind the one without shadows.
-pub fn run_file_by(fd: i32, unshadowed: bool) -> Ran
-    ensures { λ x. ⌜ ((bs : List ℕ) × AllOf noRead (x .taken) bs × ((file : List ℕ) → FileOf (x .taken) bs file → answerIn x ≡ emptiedBy unshadowed (handed (x .taken) file))) ⌝ }
+// A saved file.
+fn restore_in(fd: i32, memory: &mut [u32]) -> Ran
+    requires { ⌜ now memory ≡ noFrames ⌝ }
+    ensures { λ x. ⌜ Handed savedFile x (now (memory .exit)) ⌝ }
+    ensures { λ x. ⌜ x .words ≤ length (now (memory .exit)) ⌝ }
 {
-    let mut turns = [0u32; 2];
-    let mut pages = [0u32; 8];
-    let mut frames = [0u32; 2048];
-    let mut memory = [0u32; 16384];
-    let taken = take_file(fd, &mut turns, &mut pages, &mut frames, &mut memory);
-    if taken.failed() {
-        return Ran::unbooted(taken, 0, 0);
-    }
-    let f = finished(taken.reader());
-    if f.number != 0 {
-        return Ran::unbooted(taken, f.number, f.detail);
-    }
-    let a = after_file(
-        taken.reader(),
-        &turns,
-        &pages,
-        &frames,
-        &mut memory,
-        unshadowed,
-    );
-    let house = a.house;
-    Ran {
-        taken,
-        number: a.number,
-        detail: a.detail,
-        house,
-        memory,
-    }
+    let mut head = [0u8; 22];
+    let t = take_head(fd, &mut head);
+    let n = t.in_head(&head);
+    let words = room(&head[..n]);
+    restore_from(fd, t, &head[..n], &mut memory[..words])
 }
 
-// Reads what is open as fd over 16 zero frames, and boots nothing.
-pub fn read_file(fd: i32) -> Ran
-    ensures { λ x. ⌜ ((bs : List ℕ) × AllOf noRead (x .taken) bs × ((file : List ℕ) → FileOf (x .taken) bs file → answerIn x ≡ held (x .taken) file)) ⌝ }
+// Either; the first record tells which.
+fn read_in(fd: i32, memory: &mut [u32]) -> Ran
+    requires { ⌜ now memory ≡ noFrames ⌝ }
+    ensures { λ x. ⌜ Handed eitherFile x (now (memory .exit)) ⌝ }
+    ensures { λ x. ⌜ x .words ≤ length (now (memory .exit)) ⌝ }
 {
-    let mut turns = [0u32; 2];
-    let mut pages = [0u32; 8];
-    let mut frames = [0u32; 2048];
-    let mut memory = [0u32; 16384];
-    let taken = take_file(fd, &mut turns, &mut pages, &mut frames, &mut memory);
-    if taken.failed() {
-        return Ran::unbooted(taken, 0, 0);
+    let mut head = [0u8; 22];
+    let t = take_head(fd, &mut head);
+    let n = t.in_head(&head);
+    if is_saved(&head[..n]) {
+        let words = room(&head[..n]);
+        return restore_from(fd, t, &head[..n], &mut memory[..words]);
     }
-    let f = finished(taken.reader());
-    if f.number != 0 {
-        return Ran::unbooted(taken, f.number, f.detail);
+    boot_from(fd, t, &head[..n], &mut memory[..16384], false)
+}
+
+// Either, and nothing is booted of a house file.
+fn hold_in(fd: i32, memory: &mut [u32]) -> Ran
+    requires { ⌜ now memory ≡ noFrames ⌝ }
+    ensures { λ x. ⌜ Handed eitherHeld x (now (memory .exit)) ⌝ }
+    ensures { λ x. ⌜ x .words ≤ length (now (memory .exit)) ⌝ }
+{
+    let mut head = [0u8; 22];
+    let t = take_head(fd, &mut head);
+    let n = t.in_head(&head);
+    if is_saved(&head[..n]) {
+        let words = room(&head[..n]);
+        return restore_from(fd, t, &head[..n], &mut memory[..words]);
     }
-    let house = House::none();
-    Ran {
-        taken,
-        number: 0,
-        detail: 0,
-        house,
-        memory,
-    }
+    hold_from(fd, t, &head[..n], &mut memory[..16384])
+}
+
+// ---- and as the array that a program has
+
+// Reads what is open as fd as a house file, boots its house and runs it by the engine that is asked for.
+pub fn run_file(fd: i32, memory: &mut [u32; WORDS], unshadowed: bool) -> Ran
+    requires { ⌜ now memory ≡ noFrames ⌝ }
+    ensures { λ x. ⌜ Handed (houseFileBy unshadowed) x (now (memory .exit)) ⌝ }
+    ensures { λ x. ⌜ x .words ≤ length (now (memory .exit)) ⌝ }
+{
+    run_in(fd, memory, unshadowed)
+}
+
+// Reads what is open as fd as a saved file.
+pub fn restore_file(fd: i32, memory: &mut [u32; WORDS]) -> Ran
+    requires { ⌜ now memory ≡ noFrames ⌝ }
+    ensures { λ x. ⌜ Handed savedFile x (now (memory .exit)) ⌝ }
+    ensures { λ x. ⌜ x .words ≤ length (now (memory .exit)) ⌝ }
+{
+    restore_in(fd, memory)
+}
+
+// Reads what is open as fd: a saved file, or a house file, whose house is booted and run. The first record tells which.
+pub fn read_file(fd: i32, memory: &mut [u32; WORDS]) -> Ran
+    requires { ⌜ now memory ≡ noFrames ⌝ }
+    ensures { λ x. ⌜ Handed eitherFile x (now (memory .exit)) ⌝ }
+    ensures { λ x. ⌜ x .words ≤ length (now (memory .exit)) ⌝ }
+{
+    read_in(fd, memory)
+}
+
+// Reads what is open as fd: a saved file, or a house file, and then boots nothing.
+pub fn hold_file(fd: i32, memory: &mut [u32; WORDS]) -> Ran
+    requires { ⌜ now memory ≡ noFrames ⌝ }
+    ensures { λ x. ⌜ Handed eitherHeld x (now (memory .exit)) ⌝ }
+    ensures { λ x. ⌜ x .words ≤ length (now (memory .exit)) ⌝ }
+{
+    hold_in(fd, memory)
 }

@@ -1,3 +1,4 @@
 pub mod Report
 pub mod Put
+pub mod Printed
 pub mod Examples

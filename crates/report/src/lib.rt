@@ -1,11 +1,15 @@
 // The report of a house and the text of a refusal, each written into a lent buffer from its start. A function that puts a piece of text at
 // `at` answers where the piece ends.
 ghost use mathlib.Core.Path.{_≡_};
-ghost use mathlib.Core.List.{[], _∷_, _++_};
-ghost use Prim.Native.Nat.{min};
+ghost use mathlib.Core.List.{List, [], _∷_, _++_};
+ghost use Prim.Native.Nat.{ℕ, min};
 ghost use lib.ListN.{length, take, drop};
 ghost use Rattle.decimal.specs.Texts.{Puts};
-ghost use Rattle.report.specs.Put.{Counts};
+ghost use Rattle.house.specs.Boot.{verdict};
+ghost use Rattle.house.specs.Turns.{world};
+ghost use Rattle.house.specs.Calls.{answered};
+ghost use Rattle.report.specs.Put.{Counts, put};
+ghost use Rattle.report.specs.Printed.{printed};
 ghost use Rattle.report.specs.Report.{field, line, lineOf, linesFrom, reportOf, refusedText};
 use decimal::put_byte;
 use decimal::put_decimal;
@@ -118,4 +122,15 @@ pub fn refused(number: u32, detail: u64, out: &mut [u8; 1024]) -> usize
     ensures { λ r. ⌜ Counts r (now (out .exit)) ⌝ }
 {
     put_refused(out, 0, number, detail)
+}
+
+// The text for an answer. Answers its length.
+pub fn text_of(number: u32, detail: u64, house: House, out: &mut [u8; 1024]) -> usize
+    ensures { λ r. ⌜ ((m : List ℕ) → (r, now (out .exit)) ≡ put (printed (answered (verdict number detail) (world house m))) (now (out .entry))) ⌝ }
+    ensures { λ r. ⌜ Counts r (now (out .exit)) ⌝ }
+{
+    if number != 0 {
+        return refused(number, detail, out);
+    }
+    report(house, out)
 }

@@ -1,44 +1,55 @@
-use mathlib.Core.Path.{sym, subst}
-use Rattle.report.proofs.Texts.{put-there}
-use Rattle.night_run.specs.Ran.{Told}
-use Rattle.night.specs.Printed.{printed}
+use mathlib.Core.Path.{refl, sym, _∙_}
+use Rattle.report.specs.Printed.{printed}
+use lib.Seq.{length-take-le}
+use Rattle.night_run.specs.Ran.{houseFileBy, noFrames}
+use Rattle.night_run.proofs.Files.{told-by, told-answer, left-world}
+use Rattle.night.proofs.Texts.{printed-by}
 use borrow.Author.Needs.{needs}
 use Rattle.night.proofs.night.Statement.{statement}
 use Rattle.night.proofs.night.Tie as tie
 
-text-for-requires : tie.Need-text-for-requires
-text-for-requires c κs = search needs
+run-file-requires : tie.Need-run-file-requires
+unfolding noFrames
+run-file-requires c κs = refl
 
 failed-requires : tie.Need-failed-requires
-failed-requires c κs = search needs
+failed-requires c κs = tt
 
 fail-requires : tie.Need-fail-requires
-fail-requires c κs = search needs
+fail-requires c κs = tt
 
 returns : tie.Need-returns
-returns c = search needs
+returns c = tt
 
-array-share-prefix-out : tie.Need-array-share-prefix-out
-array-share-prefix-out c = search needs
+array-share-prefix-memory : tie.Need-array-share-prefix-memory
+array-share-prefix-memory c = c .before .before .before .before .run-file .ensures .1
 
-slice-aggregate-show : tie.Need-slice-aggregate-show
-slice-aggregate-show c = search needs
+slice-aggregate-saved : tie.Need-slice-aggregate-saved
+slice-aggregate-saved c = sym (length-take-le _ _ (c .before .before .before .before .before .run-file .ensures .1))
 
-show-requires : tie.Need-show-requires
-show-requires c κs = let e = c .before .before .before .text-for .ensures .0 in subst (Told printed (c .before .before .before .text-for .result .taken)) (sym (put-there _ _ _ _ (e .2))) (e .1)
+saved-requires : tie.Need-saved-requires
+saved-requires c κs = λ z. left-world (houseFileBy _) printed (c .before .before .before .before .before .run-file .result) _ (c .before .before .before .before .before .run-file .ensures .0) (sym (c .before .before .before .failed .ensures) ∙ c .before .before .if1 .left) z
 
 returns-2 : tie.Need-returns-2
-returns-2 c = search needs
+returns-2 c = tt
+
+tell-requires : tie.Need-tell-requires
+tell-requires c κs = (_, told-by _ printed (printed-by _) _ _ (told-answer (houseFileBy _) printed (c .before .before .before .before .before .before .before .run-file .result) _ (c .before .before .before .before .before .before .before .run-file .ensures .0) (sym (c .before .before .before .before .before .failed .ensures) ∙ c .before .before .before .before .if1 .left)))
+
+returns-3 : tie.Need-returns-3
+returns-3 c = tt
 
 pub night-spec : {M : Type 1} → statement M
 night-spec =
     tie.close
     (tie.spec
-    text-for-requires
+    run-file-requires
     failed-requires
     fail-requires
     returns
-    array-share-prefix-out
-    slice-aggregate-show
-    show-requires
-    returns-2)
+    array-share-prefix-memory
+    slice-aggregate-saved
+    saved-requires
+    returns-2
+    tell-requires
+    returns-3)
