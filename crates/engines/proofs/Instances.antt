@@ -151,7 +151,7 @@ unfoldable pub three : Boot
 unfolding bootVerdict firstOf any firstFrom sum
 three = record { pages = 2 ∷ 1 ∷ 1 ∷ []; q = 3; frames = 4 ∷ 1 ∷ 3 ∷ 2 ∷ []; memory = memory; done = refl }
 
-three-words : (i : ℕ) → getD (three .memory) i 0 < 2 ^ 32
+pub three-words : (i : ℕ) → getD (three .memory) i 0 < 2 ^ 32
 unfolding three below
 three-words = below-at memory refl
 
@@ -161,22 +161,22 @@ abbrev mixed : List EitherCall
 mixed =
     call (run 4) ∷ unshadowedRun 5 ∷ unshadowedRun 1000001 ∷ unshadowedRun 0 ∷ call (stop 1) ∷ call (run 5) ∷ unshadowedRun 3 ∷ []
 
-abbrev begun : World
+abbrev pub begun : World
 begun = booted three
 
-abbrev first : World
+abbrev pub first : World
 first = hostSteps 4 begun
 
-abbrev second : World
+abbrev pub second : World
 second = allEmpty (unshadowedSteps 5 first)
 
-abbrev without : World
+abbrev pub without : World
 without = world (stopped (second .house) 1) (second .memory)
 
-abbrev third : World
+abbrev pub third : World
 third = hostSteps 5 without
 
-abbrev ended : World
+abbrev pub ended : World
 ended = allEmpty (unshadowedSteps 3 third)
 
 reckoning : ℕ
@@ -187,7 +187,7 @@ reckoning = 0
 grown-on : (e : EitherCall) (w v : World) → Grown three w → afterEither e w ≡ v → Grown three v
 grown-on e w v g q = subst (Grown three) q (grown-after three three-words e w g)
 
-fit-of : (w : World) → Grown three w → Fit 3 w
+pub fit-of : (w : World) → Grown three w → Fit 3 w
 unfolding three
 fit-of w g = grown-fit three three-words w g
 
@@ -236,11 +236,14 @@ to-third : (afterEither (call (run 5)) without ≡ third) × (eitherStepsOf (cal
 unfolding afterEither eitherStepsOf
 to-third = after-run without (fit-of without grown-without) 5 (omega arith) (some 2 (unfold reckoning in refl))
 
-grown-third : Grown three third
+pub grown-third : Grown three third
 grown-third = grown-on (call (run 5)) without third grown-without (to-third .0)
 
+pub third-left : third .house .left ≡ 1
+third-left = unfold reckoning in refl
+
 to-ended : (afterEither (unshadowedRun 3) third ≡ ended) × (eitherStepsOf (unshadowedRun 3) third ≡ 3)
-to-ended = after-bare third (fit-of third grown-third) 3 (omega arith) (some 0 (unfold reckoning in refl))
+to-ended = after-bare third (fit-of third grown-third) 3 (omega arith) (some 0 third-left)
 
 pub mixed-ends : eitherHistory mixed begun ≡ ended
 unfolding eitherHistory
