@@ -1,5 +1,5 @@
 // audit FILE: reads a house file, or standard input where no file is named, boots its house over a memory of 16 zero frames, runs it, audits it
-// and prints how many shadow entries of each partition are stale, or `refused N D`.
+// and prints how many shadow entries of each partition are stale, or `refused N D`. Of a saved file it audits the house that was saved, and runs nothing.
 ghost use mathlib.Core.Path.{_≡_};
 ghost use mathlib.Core.List.{List, [], _∷_, _++_};
 ghost use Prim.Native.Nat.{ℕ, _≤_};
@@ -10,7 +10,7 @@ ghost use Rattle.house.specs.Turns.{world};
 ghost use Rattle.house.specs.Calls.{answered};
 ghost use Rattle.report.specs.Put.{Counts, put};
 ghost use Rattle.report.specs.Report.{line};
-ghost use Rattle.night_run.specs.Ran.{Told};
+ghost use Rattle.night_run.specs.Ran.{eitherFile, Told};
 ghost use Rattle.audit.specs.Printed.{linesTo, printed};
 use command::asks_help;
 use command::fail;
@@ -20,7 +20,8 @@ use house::House;
 use libc::STDIN_FILENO;
 use libc::STDOUT_FILENO;
 use night_run::Taken;
-use night_run::run_file;
+use night_run::WORDS;
+use night_run::read_file;
 use report::put_word;
 use report::refused;
 use staleness::stale_counts;
@@ -58,13 +59,7 @@ fn lines(each: [u32; 8], n: u32, out: &mut [u8; 1024]) -> usize
 }
 
 // Puts the text for an answer at the buffer's start, and answers its length.
-fn text_of(
-    number: u32,
-    detail: u64,
-    house: House,
-    memory: &[u32; 16384],
-    out: &mut [u8; 1024],
-) -> usize
+fn text_of(number: u32, detail: u64, house: House, memory: &[u32], out: &mut [u8; 1024]) -> usize
     ensures { λ r. ⌜ (r, now (out .exit)) ≡ put (printed (answered (verdict number detail) (world house (now (memory .entry))))) (now (out .entry)) ⌝ }
     ensures { λ r. ⌜ Counts r (now (out .exit)) ⌝ }
 {
@@ -79,53 +74,42 @@ fn text_of(
     lines(each, house.count, out)
 }
 
-// What was read, and the length of the text for it.
-struct Text {
-    taken: Taken,
-    length: usize,
-}
-
-// Reads, runs and audits what is open as fd, and puts the text for it at the buffer's start; none where a read failed.
-fn text_for(fd: i32, out: &mut [u8; 1024]) -> Text
-    ensures { λ x. ⌜ ((text : List ℕ) × Told printed (x .taken) text × ((x .length, now (out .exit)) ≡ put text (now (out .entry)))) ⌝ }
-    ensures { λ x. ⌜ Counts (x .length) (now (out .exit)) ⌝ }
-{
-    let x = run_file(fd);
-    let taken = x.taken;
-    if taken.failed() {
-        return Text { taken, length: 0 };
-    }
-    let house = x.house;
-    let memory = x.memory;
-    let length = text_of(x.number, x.detail, house, &memory, out);
-    Text { taken, length }
-}
-
 // Prints a text: the one for the file that was read.
 fn show(t: Taken, text: &[u8])
-    requires { ⌜ Told printed t (now text) ⌝ }
+    requires { ⌜ Told eitherFile printed t (now text) ⌝ }
 {
     if !io::write_all(STDOUT_FILENO, text) {
         fail(b"standard output");
     }
 }
 
-// Reads, runs and audits what is open as fd, and prints. A read that fails prints nothing and says why.
-fn audit(fd: i32, name: &[u8]) {
+// Prints the text for the answer.
+fn tell(t: Taken, number: u32, detail: u64, house: House, memory: &[u32])
+    requires { ⌜ Told eitherFile printed t (printed (answered (verdict number detail) (world house (now memory)))) ⌝ }
+{
     let mut out = [0u8; 1024];
-    let x = text_for(fd, &mut out);
-    if x.taken.failed() {
+    let n = text_of(number, detail, house, memory, &mut out);
+    show(t, &out[..n]);
+}
+
+// Reads what is open as fd, runs it where it is a house file, audits it, and prints. A read that fails prints nothing and says why.
+fn audit(fd: i32, name: &[u8]) {
+    let mut memory = [0u32; WORDS];
+    let x = read_file(fd, &mut memory);
+    let taken = x.taken;
+    if taken.failed() {
         fail(name);
         return;
     }
-    let n = x.length;
-    show(x.taken, &out[..n]);
+    let house = x.house;
+    let n = x.words;
+    tell(taken, x.number, x.detail, house, &memory[..n]);
 }
 
 fn help() {
     io::write_all(
         STDOUT_FILENO,
-        b"audit [FILE]: reads a house file (standard input where none is named, or where it is -), boots, runs and audits its house, and prints\n",
+        b"audit [FILE]: reads a house file (standard input where none is named, or where it is -), boots and runs its house, or reads a saved file, audits the house and prints\n",
     );
     io::write_all(
         STDOUT_FILENO,

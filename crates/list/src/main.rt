@@ -1,5 +1,5 @@
-// list FILE: reads raw words, four bytes each, the lowest first, and prints each as a line of its listing. list FILE FRAME: reads a house file, and prints the
-// words of one frame of the memory that it holds so; it boots and runs nothing.
+// list FILE: reads raw words, four bytes each, the lowest first, and prints each as a line of its listing. list FILE FRAME: reads a house file or a saved one, and
+// prints the words of one frame of the memory that it holds so; it boots and runs nothing.
 mod frame;
 mod words;
 
@@ -86,7 +86,7 @@ fn help() {
     );
     io::write_all(
         STDOUT_FILENO,
-        b"list FILE FRAME: reads a house file, and prints the words of one frame, 0 to 15, of the memory that it holds so; nothing is run\n",
+        b"list FILE FRAME: reads a house file or a saved one, and prints the words of one frame, from 0 on, of the memory that it holds so; nothing is run\n",
     );
 }
 
@@ -94,12 +94,12 @@ fn help() {
 fn frame_of(fd: i32, name: &[u8]) {
     let mut word = io::buffer();
     let length = os::arg(2, &mut word);
-    let n = number_in(&word[..length], 15);
+    let n = number_in(&word[..length], 1023);
     if !n.said {
-        wrong(b"FRAME, a decimal below 16", &word[..length]);
+        wrong(b"FRAME, a decimal below 1024", &word[..length]);
         return;
     }
-    list_frame(fd, name, n.value as usize);
+    list_frame(fd, name, n.value as usize, &word[..length]);
 }
 
 // What is open as fd, with so many words.

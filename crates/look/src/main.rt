@@ -1,5 +1,5 @@
 // look FILE: reads a house file, or standard input where no file is named, boots and runs its house as night does, and prints each partition's registers, and why
-// it was interrupted last. Or `refused N D`.
+// it was interrupted last. Of a saved file it prints the same, and runs nothing. Or `refused N D`.
 mod lines;
 
 ghost use mathlib.Core.Path.{_≡_};
@@ -9,7 +9,7 @@ ghost use Rattle.house.specs.Boot.{verdict};
 ghost use Rattle.house.specs.Turns.{world};
 ghost use Rattle.house.specs.Calls.{answered};
 ghost use Rattle.report.specs.Put.{Counts, put};
-ghost use Rattle.night_run.specs.Ran.{Told};
+ghost use Rattle.night_run.specs.Ran.{noFrames, eitherFile, Told};
 ghost use Rattle.look.specs.Look.{printed};
 use command::asks_help;
 use command::fail;
@@ -21,7 +21,8 @@ use libc::STDOUT_FILENO;
 use lines::ROOM;
 use lines::put_house;
 use night_run::Taken;
-use night_run::run_file;
+use night_run::WORDS;
+use night_run::read_file;
 use report::put_refused;
 
 // Puts the text for an answer at the buffer's start, and answers its length.
@@ -41,12 +42,13 @@ struct Text {
     length: usize,
 }
 
-// Reads and runs what is open as fd, and puts the text for it at the buffer's start; none where a read failed.
-fn text_for(fd: i32, out: &mut [u8; ROOM]) -> Text
-    ensures { λ x. ⌜ ((text : List ℕ) × Told printed (x .taken) text × ((x .length, now (out .exit)) ≡ put text (now (out .entry)))) ⌝ }
+// Reads what is open as fd, runs it where it is a house file, and puts the text for it at the buffer's start; none where a read failed.
+fn text_for(fd: i32, memory: &mut [u32; WORDS], out: &mut [u8; ROOM]) -> Text
+    requires { ⌜ now memory ≡ noFrames ⌝ }
+    ensures { λ x. ⌜ ((text : List ℕ) × Told eitherFile printed (x .taken) text × ((x .length, now (out .exit)) ≡ put text (now (out .entry)))) ⌝ }
     ensures { λ x. ⌜ Counts (x .length) (now (out .exit)) ⌝ }
 {
-    let x = run_file(fd);
+    let x = read_file(fd, memory);
     let taken = x.taken;
     if taken.failed() {
         return Text { taken, length: 0 };
@@ -58,17 +60,18 @@ fn text_for(fd: i32, out: &mut [u8; ROOM]) -> Text
 
 // Prints a text: the one for the file that was read.
 fn show(t: Taken, text: &[u8])
-    requires { ⌜ Told printed t (now text) ⌝ }
+    requires { ⌜ Told eitherFile printed t (now text) ⌝ }
 {
     if !io::write_all(STDOUT_FILENO, text) {
         fail(b"standard output");
     }
 }
 
-// Reads and runs what is open as fd, and prints. A read that fails prints nothing and says why.
+// Reads what is open as fd, runs it where it is a house file, and prints. A read that fails prints nothing and says why.
 fn look(fd: i32, name: &[u8]) {
+    let mut memory = [0u32; WORDS];
     let mut out = [0u8; ROOM];
-    let x = text_for(fd, &mut out);
+    let x = text_for(fd, &mut memory, &mut out);
     if x.taken.failed() {
         fail(name);
         return;
@@ -80,7 +83,7 @@ fn look(fd: i32, name: &[u8]) {
 fn help() {
     io::write_all(
         STDOUT_FILENO,
-        b"look [FILE]: reads a house file (standard input where none is named, or where it is -), boots and runs its house, and prints each\n",
+        b"look [FILE]: reads a house file (standard input where none is named, or where it is -), boots and runs its house, or reads a saved file, and prints each\n",
     );
     io::write_all(
         STDOUT_FILENO,

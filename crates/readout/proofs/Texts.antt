@@ -1,14 +1,15 @@
 -- Which text an answer gives.
 use mathlib.Core.Path.{_≡_, refl, sym, ap, subst, _∙_}
-use mathlib.Core.Bool.{true, false, not, _||_}
-use mathlib.Core.List.{List, [], _∷_}
-use Prim.Native.Nat.{ℕ, _+_, _*_, _/_, _%_, _^_, _<_, _≤_}
+use mathlib.Core.Bool.{Bool, true, false, not, _&&_, _||_}
+use mathlib.Core.List.{List, [], _∷_, _++_, append-nil, append-assoc}
+use Prim.Native.Nat.{ℕ, zero, suc, _+_, _-_, _*_, _/_, _%_, _^_, _<_, _≤_}
 use native.Mathlib.Omega.{arith}
 use borrow.Author.Tests.{eq-eqb, ne-eqb, ltb-true, ltb-false, leb-false}
 use lib.Dec.{eqb, ltb, leb}
 use lib.ListN.{length, getD, replicate}
 use Rattle.dlx.specs.Choice.{if_then_else_}
 use Rattle.dlx.proofs.Kept.{either}
+use Rattle.dlx.proofs.Tests.{and-left}
 use Rattle.house.specs.House.{pagesOf}
 use Rattle.house.specs.Damage.{damaged}
 use Rattle.house.specs.Boot.{Verdict, verdict, firstOf}
@@ -21,11 +22,57 @@ use Rattle.housefile.specs.Records.{number}
 use Rattle.decimal.specs.Raw.{lowFirst}
 use Rattle.report.specs.Put.{put}
 use Rattle.report.specs.Report.{refusedText}
-use Rattle.readout.specs.Printed.{wordsText, readText, noWords, printed}
+use Rattle.readout.specs.Printed.{wordText, wordsText, wordsFrom, readText, noWords, printed, ToldBehind}
+use Rattle.night_run.specs.Ran.{eitherFile, Told}
+use Rattle.night_run.specs.declared.input.Taken.{Taken}
+use Rattle.decimal.specs.Texts.{joined}
 use Rattle.readout.specs.declared.Want.{Want}
 
 pub put-same : (t t′ out : List ℕ) (g : ℕ × List ℕ) → g ≡ put t out → t ≡ t′ → g ≡ put t′ out
 put-same t t′ out g h e = h ∙ ap (λ (x : List ℕ). put x out) e
+
+-- ---- a text in pieces
+
+joined-from : (f : ℕ → List ℕ) (a n : ℕ) → joined f (a + n) ≡ joined f a ++ joined (λ i. f (a + i)) n
+unfolding joined
+joined-from f a zero = let e : a + 0 ≡ a = omega arith in rw e (sym (append-nil (joined f a)))
+joined-from f a (suc n) =
+    let e : a + suc n ≡ suc (a + n) = omega arith in
+    rw e (ap (λ (l : List ℕ). l ++ f (a + n)) (joined-from f a n) ∙ append-assoc (joined f a) (joined (λ i. f (a + i)) n) (f (a + n)))
+
+pub pieces-are : (raw : Bool) (words : List ℕ) (from n rest : ℕ)
+    → wordsText raw words (from + n + rest) ≡ wordsText raw words from ++ (wordsFrom raw words from n ++ wordsFrom raw words (from + n) rest)
+unfolding wordsText wordsFrom
+pieces-are raw words from n rest =
+    let f : ℕ → List ℕ = λ i. wordText raw (getD words i 0) in
+    joined-from f (from + n) rest
+    ∙ ap (λ (l : List ℕ). l ++ joined (λ i. f (from + n + i)) rest) (joined-from f from n)
+    ∙ append-assoc (joined f from) (joined (λ i. f (from + i)) n) (joined (λ i. f (from + n + i)) rest)
+
+-- n words behind so many that are printed
+pub behind-told : (want : Want) (t : Taken) (words : List ℕ) (from at n count : ℕ) (piece : List ℕ) → at ≡ from → from + n ≤ count → count ≤ 262144
+    → Told eitherFile (printed want) t (wordsText (want .raw) words count) → piece ≡ wordsFrom (want .raw) words at n → ToldBehind want t from n piece
+behind-told want t words from at n count piece e l m h p = record {
+  words = words;
+  count = count;
+  fits = l;
+  most = m;
+  text = h;
+  part = p ∙ ap (λ (k : ℕ). wordsFrom (want .raw) words k n) e;
+}
+
+-- while a piece is to come, and where none is
+pub goes-on : (k count : ℕ) (failed r : Bool) → r ≡ (ltb k count && not failed) → r ≡ true → k < count
+goes-on k count failed r e t = ltb-true k count (and-left (ltb k count) (not failed) (sym e ∙ t))
+
+pub all-shown : (k count : ℕ) (failed r : Bool) → r ≡ (ltb k count && not failed) → r ≡ false → failed ≡ false → count ≤ k
+all-shown k count failed r e t f =
+    let w : ltb k count ≡ false = with-true (ltb k count) (ap (λ (b : Bool). ltb k count && not b) (sym f) ∙ sym e ∙ t) in
+    ltb-false k count w
+  where
+    with-true : (a : Bool) → (a && true) ≡ false → a ≡ false
+    with-true true e = e
+    with-true false e = refl
 
 -- ---- the read-out
 

@@ -1,7 +1,8 @@
--- What readout prints for what a house file comes to: words of one partition, or the first refusal of the file, of boot, of run, or of the read-out.
-use mathlib.Core.Bool.{Bool}
+-- What readout prints for what a file comes to: words of one partition, or the first refusal of the file, of boot, of run, or of the read-out.
+use mathlib.Core.Path.{_≡_}
+use mathlib.Core.Bool.{Bool, false}
 use mathlib.Core.List.{List}
-use Prim.Native.Nat.{ℕ}
+use Prim.Native.Nat.{ℕ, _+_, _≤_}
 use lib.Dec.{eqb}
 use lib.ListN.{getD, replicate}
 use Rattle.dlx.specs.Choice.{if_then_else_}
@@ -10,7 +11,10 @@ use Rattle.house.specs.Calls.{Answered, readCall}
 use Rattle.decimal.specs.Raw.{lowFirst}
 use Rattle.decimal.specs.Texts.{joined}
 use Rattle.report.specs.Report.{field, refusal}
+use Rattle.night_run.specs.Ran.{eitherFile, Told}
+use Rattle.night_run.specs.declared.input.Taken.{Taken}
 use Rattle.readout.specs.declared.Want.{Want}
+use Rattle.readout.specs.declared.shown.Shown.{Shown}
 
 -- ---- words as text
 
@@ -21,6 +25,10 @@ wordText raw w = if raw then lowFirst w else field w 10
 -- the first so many of the words
 unfoldable pub wordsText : Bool → List ℕ → ℕ → List ℕ
 wordsText raw words count = joined (λ i. wordText raw (getD words i 0)) count
+
+-- n of them, from this one on
+unfoldable pub wordsFrom : Bool → List ℕ → ℕ → ℕ → List ℕ
+wordsFrom raw words from n = joined (λ i. wordText raw (getD words (from + i) 0)) n
 
 -- ---- what is printed
 
@@ -36,3 +44,16 @@ noWords = replicate 262144 0
 
 unfoldable pub printed : Want → Answered → List ℕ
 printed want a = if eqb (a .verdict .number) 0 then readText want (a .world) noWords else refusal (a .verdict)
+
+-- n words of the text for every file that was read like this: those behind the first so many
+pub record ToldBehind (want : Want) (t : Taken) (from n : ℕ) (piece : List ℕ) : Type 0 where
+  pub words : List ℕ
+  pub count : ℕ
+  pub fits : from + n ≤ count
+  pub most : count ≤ 262144
+  pub text : Told eitherFile (printed want) t (wordsText (want .raw) words count)
+  pub part : piece ≡ wordsFrom (want .raw) words from n
+
+-- no word is printed yet
+abbrev pub noneShown : Shown
+noneShown = record { words = 0; failed = false }

@@ -1,17 +1,18 @@
 // readout FILE PARTITION ADDRESS COUNT [raw]: reads a house file, boots and runs its house as night does, and prints COUNT words of one partition's pages, from
-// the untranslated guest byte address ADDRESS on: in decimals, one to a line, or raw, four bytes each, the lowest first. Or `refused N D`.
+// the untranslated guest byte address ADDRESS on: in decimals, one to a line, or raw, four bytes each, the lowest first. Or `refused N D`. Of a saved file it
+// prints the words that were saved, and runs nothing.
+mod shown;
 mod words;
 
 ghost use mathlib.Core.Path.{_≡_};
-ghost use mathlib.Core.List.{List};
-ghost use Prim.Native.Nat.{ℕ, _≤_};
+ghost use mathlib.Core.Bool.{false};
+ghost use Prim.Native.Nat.{_+_, _<_, _≤_};
 ghost use Rattle.house.specs.Boot.{verdict};
 ghost use Rattle.house.specs.Turns.{world};
 ghost use Rattle.house.specs.Calls.{answered};
-ghost use Rattle.report.specs.Put.{Counts, put};
 ghost use Rattle.report.specs.Report.{refusedText};
-ghost use Rattle.night_run.specs.Ran.{Told};
-ghost use Rattle.readout.specs.Printed.{readText, printed};
+ghost use Rattle.night_run.specs.Ran.{noFrames, eitherFile, Told};
+ghost use Rattle.readout.specs.Printed.{wordsText, readText, printed};
 use command::Number;
 use command::asks_help;
 use command::fail;
@@ -24,8 +25,11 @@ use hypervisor::calls::read_out;
 use libc::STDERR_FILENO;
 use libc::STDOUT_FILENO;
 use night_run::Taken;
-use night_run::run_file;
-use report::put_refused;
+use night_run::read_file;
+use report::refused;
+use shown::Shown;
+use shown::show;
+use words::PIECE;
 use words::ROOM;
 use words::WORDS;
 use words::put_words;
@@ -38,7 +42,10 @@ pub struct Want {
     pub raw: bool,
 }
 
-// ---- what is printed: each function puts its text at the buffer's start, and answers its length
+// The memory that is lent to a file.
+const LENT: usize = night_run::WORDS;
+
+// ---- what is printed
 
 // Says a refusal on standard error too: raw words are told from one by it.
 fn say(number: u32, detail: u64) {
@@ -49,96 +56,96 @@ fn say(number: u32, detail: u64) {
     io::write_all(STDERR_FILENO, b"\n");
 }
 
-// A refusal.
-fn refusal(number: u32, detail: u64, raw: bool, out: &mut [u8; ROOM]) -> usize
-    ensures { λ r. ⌜ (r, now (out .exit)) ≡ put (refusedText number detail) (now (out .entry)) ⌝ }
-    ensures { λ r. ⌜ Counts r (now (out .exit)) ⌝ }
-{
-    if raw {
-        say(number, detail);
-        return put_refused(out, 0, number, detail);
-    }
-    put_refused(out, 0, number, detail)
-}
-
-// The words of a house that has run, which are read out over these zeros.
-fn after_run(
-    house: House,
-    memory: &[u32; 16384],
-    w: Want,
-    words: &mut [u32; WORDS],
-    out: &mut [u8; ROOM],
-) -> usize
-    ensures { λ r. ⌜ (r, now (out .exit)) ≡ put (readText w (world house (now (memory .entry))) (now (words .entry))) (now (out .entry)) ⌝ }
-    ensures { λ r. ⌜ Counts r (now (out .exit)) ⌝ }
-{
-    let a = read_out(house, memory, w.partition, w.address, w.count, words);
-    if a.number != 0 {
-        return refusal(a.number, a.detail, w.raw, out);
-    }
-    put_words(words, w.count, w.raw, out)
-}
-
-// The text for an answer.
-fn text_of(
-    number: u32,
-    detail: u64,
-    house: House,
-    memory: &[u32; 16384],
-    w: Want,
-    out: &mut [u8; ROOM],
-) -> usize
-    ensures { λ r. ⌜ (r, now (out .exit)) ≡ put (printed w (answered (verdict number detail) (world house (now (memory .entry))))) (now (out .entry)) ⌝ }
-    ensures { λ r. ⌜ Counts r (now (out .exit)) ⌝ }
-{
-    if number != 0 {
-        return refusal(number, detail, w.raw, out);
-    }
-    let mut words = [0u32; WORDS];
-    after_run(house, memory, w, &mut words, out)
-}
-
-// What was read, and the length of the text for it.
-struct Text {
-    taken: Taken,
-    length: usize,
-}
-
-// Reads and runs what is open as fd, and puts the text for it at the buffer's start; none where a read failed.
-fn text_for(fd: i32, w: Want, out: &mut [u8; ROOM]) -> Text
-    ensures { λ x. ⌜ ((text : List ℕ) × Told (printed w) (x .taken) text × ((x .length, now (out .exit)) ≡ put text (now (out .entry)))) ⌝ }
-    ensures { λ x. ⌜ Counts (x .length) (now (out .exit)) ⌝ }
-{
-    let x = run_file(fd);
-    let taken = x.taken;
-    if taken.failed() {
-        return Text { taken, length: 0 };
-    }
-    let house = x.house;
-    let memory = x.memory;
-    let length = text_of(x.number, x.detail, house, &memory, w, out);
-    Text { taken, length }
-}
-
-// Prints a text: the one for the file that was read.
-fn show(t: Taken, w: Want, text: &[u8])
-    requires { ⌜ Told (printed w) t (now text) ⌝ }
+// Prints a refusal: the text for the file that was read.
+fn show_refusal(t: Taken, w: Want, text: &[u8])
+    requires { ⌜ Told eitherFile (printed w) t (now text) ⌝ }
 {
     if !io::write_all(STDOUT_FILENO, text) {
         fail(b"standard output");
     }
 }
 
-// Reads and runs what is open as fd, and prints. A read that fails prints nothing and says why.
-fn readout(fd: i32, name: &[u8], w: Want) {
+// Prints a refusal.
+fn tell_refusal(t: Taken, w: Want, number: u32, detail: u64)
+    requires { ⌜ Told eitherFile (printed w) t (refusedText number detail) ⌝ }
+{
+    if w.raw {
+        say(number, detail);
+    }
+    let mut out = [0u8; 1024];
+    let n = refused(number, detail, &mut out);
+    show_refusal(t, w, &out[..n]);
+}
+
+// Prints n of the words, those behind the ones that are printed.
+fn show_words(t: Taken, w: Want, words: &[u32; WORDS], s: Shown, n: usize, count: usize) -> Shown
+    requires { ⌜ s .words + n ≤ count ⌝ ∗ ⌜ n ≤ 4096 ⌝ ∗ ⌜ count ≤ 262144 ⌝ ∗ ⌜ Told eitherFile (printed w) t (wordsText (w .raw) (now words) count) ⌝ }
+    ensures { λ r. ⌜ r .words ≡ s .words + n ⌝ }
+{
     let mut out = [0u8; ROOM];
-    let x = text_for(fd, w, &mut out);
-    if x.taken.failed() {
+    let k = put_words(words, s.words(), n, w.raw, &mut out);
+    show(s, t, w, n, &out[..k])
+}
+
+fn least(a: usize, b: usize) -> usize
+    ensures { λ r. ⌜ (r ≤ a) × (r ≤ b) ⌝ }
+    ensures { λ r. ⌜ (0 < a → 0 < b → 0 < r) ⌝ }
+{
+    if a < b {
+        return a;
+    }
+    b
+}
+
+// Prints the words, piece by piece: all of them, but where a write fails.
+fn tell_words(t: Taken, w: Want, words: &[u32; WORDS], count: usize) -> Shown
+    requires { ⌜ count ≤ 262144 ⌝ ∗ ⌜ Told eitherFile (printed w) t (wordsText (w .raw) (now words) count) ⌝ }
+    ensures { λ r. ⌜ (r .failed ≡ false → r .words ≡ count) ⌝ }
+{
+    let mut s = Shown::none();
+    while s.more(count) {
+        let n = least(count - s.words(), PIECE);
+        s = show_words(t, w, words, s, n, count);
+    }
+    s
+}
+
+// Reads the words of the house out over these zeros, and prints them.
+fn tell_read(t: Taken, w: Want, house: House, memory: &[u32], words: &mut [u32; WORDS])
+    requires { ⌜ Told eitherFile (printed w) t (readText w (world house (now memory)) (now words)) ⌝ }
+{
+    let a = read_out(house, memory, w.partition, w.address, w.count, words);
+    if a.number != 0 {
+        tell_refusal(t, w, a.number, a.detail);
+        return;
+    }
+    tell_words(t, w, words, w.count as usize);
+}
+
+// Prints the text for an answer.
+fn tell(t: Taken, w: Want, number: u32, detail: u64, house: House, memory: &[u32])
+    requires { ⌜ Told eitherFile (printed w) t (printed w (answered (verdict number detail) (world house (now memory)))) ⌝ }
+{
+    if number != 0 {
+        tell_refusal(t, w, number, detail);
+        return;
+    }
+    let mut words = [0u32; WORDS];
+    tell_read(t, w, house, memory, &mut words);
+}
+
+// Reads what is open as fd, runs it where it is a house file, and prints. A read that fails prints nothing and says why.
+fn readout(fd: i32, name: &[u8], w: Want) {
+    let mut memory = [0u32; LENT];
+    let x = read_file(fd, &mut memory);
+    let taken = x.taken;
+    if taken.failed() {
         fail(name);
         return;
     }
-    let n = x.length;
-    show(x.taken, w, &out[..n]);
+    let house = x.house;
+    let n = x.words;
+    tell(taken, w, x.number, x.detail, house, &memory[..n]);
 }
 
 // ---- the command
@@ -146,7 +153,7 @@ fn readout(fd: i32, name: &[u8], w: Want) {
 fn help() {
     io::write_all(
         STDOUT_FILENO,
-        b"readout FILE PARTITION ADDRESS COUNT [raw]: reads a house file (- for standard input), boots and runs its house, and prints COUNT words of a\n",
+        b"readout FILE PARTITION ADDRESS COUNT [raw]: reads a house file (- for standard input), boots and runs its house, or reads a saved file, and prints COUNT words of a\n",
     );
     io::write_all(
         STDOUT_FILENO,

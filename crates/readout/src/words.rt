@@ -1,17 +1,19 @@
 // Words as text: in decimals, one to a line, or raw, four bytes each, the lowest first.
 ghost use mathlib.Core.Path.{_≡_};
-ghost use Prim.Native.Nat.{_≤_, _*_};
-ghost use lib.ListN.{getD};
-ghost use Rattle.decimal.specs.Texts.{Puts, joined};
+ghost use Prim.Native.Nat.{_+_, _*_, _≤_};
+ghost use Rattle.decimal.specs.Texts.{Puts};
 ghost use Rattle.report.specs.Put.{Counts, put};
-ghost use Rattle.readout.specs.Printed.{wordText, wordsText};
+ghost use Rattle.readout.specs.Printed.{wordText, wordsFrom};
 use decimal::put_raw;
 use report::put_word;
 
-// The words of the largest partition, and what they take in decimals: 11 bytes each, a newline among them.
+// The words of the largest partition.
 pub const WORDS: usize = 262144;
 
-pub const ROOM: usize = 2883584;
+// A piece of the text has at most 4,096 words, of 11 bytes each in decimals, a newline among them.
+pub const PIECE: usize = 4096;
+
+pub const ROOM: usize = 45056;
 
 // A word.
 fn put_one(out: &mut [u8], at: usize, w: u32, raw: bool) -> usize
@@ -23,25 +25,31 @@ fn put_one(out: &mut [u8], at: usize, w: u32, raw: bool) -> usize
     put_word(out, at, w, b'\n')
 }
 
-// So many of the words.
-fn put_each(words: &[u32; WORDS], n: usize, raw: bool, out: &mut [u8]) -> usize
-    requires { ⌜ n ≤ 262144 ⌝ }
-    ensures { λ r. ⌜ Puts (now (out .entry)) 0 (now (out .exit)) r (joined (λ i. wordText raw (getD (now (words .entry)) i 0)) n) (11 * n) ⌝ }
+// n of the words, from this one on.
+fn put_each(words: &[u32; WORDS], from: usize, n: usize, raw: bool, out: &mut [u8]) -> usize
+    requires { ⌜ from + n ≤ 262144 ⌝ }
+    ensures { λ r. ⌜ Puts (now (out .entry)) 0 (now (out .exit)) r (wordsFrom raw (now (words .entry)) from n) (11 * n) ⌝ }
 {
     let mut end = 0;
     let mut i = 0;
     while i < n {
-        end = put_one(out, end, words[i], raw);
+        end = put_one(out, end, words[from + i], raw);
         i += 1;
     }
     end
 }
 
 // The same as a whole text. Answers its length.
-pub fn put_words(words: &[u32; WORDS], count: u64, raw: bool, out: &mut [u8; ROOM]) -> usize
-    requires { ⌜ count ≤ 262144 ⌝ }
-    ensures { λ r. ⌜ (r, now (out .exit)) ≡ put (wordsText raw (now (words .entry)) count) (now (out .entry)) ⌝ }
+pub fn put_words(
+    words: &[u32; WORDS],
+    from: usize,
+    n: usize,
+    raw: bool,
+    out: &mut [u8; ROOM],
+) -> usize
+    requires { ⌜ from + n ≤ 262144 ⌝ ∗ ⌜ n ≤ 4096 ⌝ }
+    ensures { λ r. ⌜ (r, now (out .exit)) ≡ put (wordsFrom raw (now (words .entry)) from n) (now (out .entry)) ⌝ }
     ensures { λ r. ⌜ Counts r (now (out .exit)) ⌝ }
 {
-    put_each(words, count as usize, raw, out)
+    put_each(words, from, n, raw, out)
 }

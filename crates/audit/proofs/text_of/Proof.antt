@@ -19,7 +19,7 @@ refused-requires-2 c κs = search needs
 returns-2 : tie.Need-returns-2
 returns-2 c = (
   put-as _ _ _ _ _ (c .refused2 .ensures .0 .0) (c .refused2 .ensures .0 .1)
-      (text-unaudited _ _ _ (c .before .before .before .before .before .before .if1 .left) _ (c .before .before .before .before .stale-counts .ensures) (c .before .before .if2 .taken)),
+      (text-unaudited _ _ _ (c .before .before .before .before .before .if1 .left) _ (c .before .before .before .before .stale-counts .ensures) (c .before .before .if2 .taken)),
   c .refused2 .ensures .1,
 )
 
@@ -29,7 +29,7 @@ lines-requires c κs = few _ _ (c .before .before .before .before .stale-counts 
 returns-3 : tie.Need-returns-3
 returns-3 c = (
   put-as _ _ _ _ _ (c .lines .ensures .0 .0) (c .lines .ensures .0 .1)
-      (text-audited _ _ _ (c .before .before .before .before .before .before .before .if1 .left) _ (c .before .before .before .before .before .stale-counts .ensures) (c .before .before .before .if2 .left)),
+      (text-audited _ _ _ (c .before .before .before .before .before .before .if1 .left) _ (c .before .before .before .before .before .stale-counts .ensures) (c .before .before .before .if2 .left)),
   c .lines .ensures .1,
 )
 

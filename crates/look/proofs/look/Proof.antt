@@ -1,13 +1,14 @@
-use mathlib.Core.Path.{sym, subst}
+use mathlib.Core.Path.{refl, sym, subst}
 use Rattle.report.proofs.Texts.{put-there}
-use Rattle.night_run.specs.Ran.{Told}
+use Rattle.night_run.specs.Ran.{noFrames, eitherFile, Told}
 use Rattle.look.specs.Look.{printed}
 use borrow.Author.Needs.{needs}
 use Rattle.look.proofs.look.Statement.{statement}
 use Rattle.look.proofs.look.Tie as tie
 
 text-for-requires : tie.Need-text-for-requires
-text-for-requires c κs = tt
+unfolding noFrames
+text-for-requires c κs = refl
 
 failed-requires : tie.Need-failed-requires
 failed-requires c κs = tt
@@ -25,7 +26,7 @@ slice-aggregate-show : tie.Need-slice-aggregate-show
 slice-aggregate-show c = search needs
 
 show-requires : tie.Need-show-requires
-show-requires c κs = let e = c .before .before .before .text-for .ensures .0 in subst (Told printed (c .before .before .before .text-for .result .taken)) (sym (put-there _ _ _ _ (e .2))) (e .1)
+show-requires c κs = let e = c .before .before .before .text-for .ensures .0 in subst (Told eitherFile printed (c .before .before .before .text-for .result .taken)) (sym (put-there _ _ _ _ (e .2))) (e .1)
 
 returns-2 : tie.Need-returns-2
 returns-2 c = search needs

@@ -1,44 +1,46 @@
-use mathlib.Core.Path.{sym, subst}
-use Rattle.report.proofs.Texts.{put-there}
-use Rattle.night_run.specs.Ran.{Told}
+use mathlib.Core.Path.{refl, sym, _∙_}
 use Rattle.readout.specs.Printed.{printed}
+use lib.Seq.{length-take-le}
+use Rattle.night_run.specs.Ran.{eitherFile, noFrames}
+use Rattle.night_run.proofs.Files.{told-answer}
 use borrow.Author.Needs.{needs}
 use Rattle.readout.proofs.readout.Statement.{statement}
 use Rattle.readout.proofs.readout.Tie as tie
 
-text-for-requires : tie.Need-text-for-requires
-text-for-requires c κs = search needs
+read-file-requires : tie.Need-read-file-requires
+unfolding noFrames
+read-file-requires c κs = refl
 
 failed-requires : tie.Need-failed-requires
-failed-requires c κs = search needs
+failed-requires c κs = tt
 
 fail-requires : tie.Need-fail-requires
-fail-requires c κs = search needs
+fail-requires c κs = tt
 
 returns : tie.Need-returns
-returns c = search needs
+returns c = tt
 
-array-share-prefix-out : tie.Need-array-share-prefix-out
-array-share-prefix-out c = search needs
+array-share-prefix-memory : tie.Need-array-share-prefix-memory
+array-share-prefix-memory c = c .before .before .before .before .read-file .ensures .1
 
-slice-aggregate-show : tie.Need-slice-aggregate-show
-slice-aggregate-show c = search needs
+slice-aggregate-tell : tie.Need-slice-aggregate-tell
+slice-aggregate-tell c = sym (length-take-le _ _ (c .before .before .before .before .before .read-file .ensures .1))
 
-show-requires : tie.Need-show-requires
-show-requires c κs = let e = c .before .before .before .text-for .ensures .0 in subst (Told (printed (c .before .before .before .before .before .before .args .w)) (c .before .before .before .text-for .result .taken)) (sym (put-there _ _ _ _ (e .2))) (e .1)
+tell-requires : tie.Need-tell-requires
+tell-requires c κs = told-answer eitherFile (printed (c .before .before .before .before .before .before .before .before .args .w)) (c .before .before .before .before .before .read-file .result) _ (c .before .before .before .before .before .read-file .ensures .0) (sym (c .before .before .before .failed .ensures) ∙ c .before .before .if1 .left)
 
 returns-2 : tie.Need-returns-2
-returns-2 c = search needs
+returns-2 c = tt
 
 pub readout-spec : {M : Type 1} → statement M
 readout-spec =
     tie.close
     (tie.spec
-    text-for-requires
+    read-file-requires
     failed-requires
     fail-requires
     returns
-    array-share-prefix-out
-    slice-aggregate-show
-    show-requires
+    array-share-prefix-memory
+    slice-aggregate-tell
+    tell-requires
     returns-2)

@@ -1,13 +1,15 @@
-use mathlib.Core.Path.{sym, subst}
-use Rattle.report.proofs.Texts.{put-there}
-use Rattle.night_run.specs.Ran.{ToldHeld}
+use mathlib.Core.Path.{refl, sym, _∙_}
+use lib.Seq.{length-take-le}
+use Rattle.night_run.specs.Ran.{noFrames, eitherHeld}
+use Rattle.night_run.proofs.Files.{told-answer}
 use Rattle.list.specs.Frame.{frameText}
 use borrow.Author.Needs.{needs}
 use Rattle.list.proofs.frame.list_frame.Statement.{statement}
 use Rattle.list.proofs.frame.list_frame.Tie as tie
 
-text-for-requires : tie.Need-text-for-requires
-text-for-requires c κs = search needs
+hold-file-requires : tie.Need-hold-file-requires
+unfolding noFrames
+hold-file-requires c κs = refl
 
 failed-requires : tie.Need-failed-requires
 failed-requires c κs = search needs
@@ -18,14 +20,14 @@ fail-requires c κs = search needs
 returns : tie.Need-returns
 returns c = search needs
 
-array-share-prefix-out : tie.Need-array-share-prefix-out
-array-share-prefix-out c = search needs
+array-share-prefix-memory : tie.Need-array-share-prefix-memory
+array-share-prefix-memory c = c .before .before .before .hold-file .ensures .1
 
-slice-aggregate-show : tie.Need-slice-aggregate-show
-slice-aggregate-show c = search needs
+slice-aggregate-tell : tie.Need-slice-aggregate-tell
+slice-aggregate-tell c = sym (length-take-le _ _ (c .before .before .before .before .hold-file .ensures .1))
 
-show-requires : tie.Need-show-requires
-show-requires c κs = let e = c .before .before .before .text-for .ensures .0 in subst (ToldHeld (frameText (c .before .before .before .before .before .before .args .frame)) (c .before .before .before .text-for .result .taken)) (sym (put-there _ _ _ _ (e .2))) (e .1)
+tell-requires : tie.Need-tell-requires
+tell-requires c κs = (c .before .before .before .before .before .before .before .before .pre, (_, told-answer eitherHeld (frameText (c .before .before .before .before .before .before .before .before .args .frame)) (c .before .before .before .before .hold-file .result) _ (c .before .before .before .before .hold-file .ensures .0) (sym (c .before .before .failed .ensures) ∙ c .before .if1 .left)))
 
 returns-2 : tie.Need-returns-2
 returns-2 c = search needs
@@ -34,11 +36,11 @@ pub list-frame-spec : {M : Type 1} → statement M
 list-frame-spec =
     tie.close
     (tie.spec
-    text-for-requires
+    hold-file-requires
     failed-requires
     fail-requires
     returns
-    array-share-prefix-out
-    slice-aggregate-show
-    show-requires
+    array-share-prefix-memory
+    slice-aggregate-tell
+    tell-requires
     returns-2)

@@ -12,7 +12,7 @@ same-length : tie.Need-same-length
 same-length c = search needs
 
 returns : tie.Need-returns
-returns c = let e = whole-is (c .before .before .put-refused .ensures) (omega (arith, c .before .before .before .before .before .before .before .pre .1 .1)) in (λ h. put-as _ _ _ _ _ (e .0 .0) (e .0 .1) (frame-refused _ _ _ h _ (c .before .before .before .before .if1 .taken)), e .1)
+returns c = let e = whole-is (c .before .before .put-refused .ensures) (omega (arith, c .before .before .before .before .before .before .before .pre .1)) in (λ h. put-as _ _ _ _ _ (e .0 .0) (e .0 .1) (frame-refused _ _ _ h _ (c .before .before .before .before .if1 .taken)), e .1)
 
 put-frame-requires : tie.Need-put-frame-requires
 put-frame-requires c κs = search needs

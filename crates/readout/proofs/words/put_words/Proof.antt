@@ -1,22 +1,21 @@
 use mathlib.Core.Path.{_≡_, refl}
 use lib.ListN.{length}
 use native.Mathlib.Omega.{arith}
-use Rattle.report.proofs.Texts.{whole-is, put-as}
-use Rattle.readout.specs.Printed.{wordsText}
 use borrow.Author.Needs.{needs}
+use Rattle.report.proofs.Texts.{whole-is, put-as}
+use Rattle.readout.specs.Printed.{wordsFrom}
 use Rattle.readout.proofs.words.put_words.Statement.{statement}
 use Rattle.readout.proofs.words.put_words.Tie as tie
 
 put-each-requires : tie.Need-put-each-requires
-put-each-requires c κs = c .before .pre
+put-each-requires c κs = c .before .pre .0
 
 returns : tie.Need-returns
-unfolding wordsText
-returns c =
-    let n : length (c .before .before .args .out .now) ≡ 2883584 = search (needs, c .before .put-each-arg) in
-    let e = whole-is (c .put-each .ensures) (omega (arith, n, c .before .before .pre)) in
-    let t = wordsText (c .before .before .args .raw) (c .before .before .args .words .now) (c .before .before .args .count) in
-    (put-as t t _ _ _ (e .0 .0) (e .0 .1) refl, e .1)
+returns c = let a = c .before .before .args in let n : length (a .out .now) ≡ 45056 = search (needs, c .before .put-each-arg) in let e = whole-is (c .put-each .ensures) (omega (arith, n, c .before .before .pre .1)) in let t = wordsFrom (a .raw) (a .words .now) (a .from) (a .n) in (put-as t t _ _ _ (e .0 .0) (e .0 .1) refl, e .1)
 
 pub put-words-spec : {M : Type 1} → statement M
-put-words-spec = tie.close (tie.spec put-each-requires returns)
+put-words-spec =
+    tie.close
+    (tie.spec
+    put-each-requires
+    returns)
