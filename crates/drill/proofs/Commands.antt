@@ -14,7 +14,7 @@ use Rattle.house.specs.declared.House.{House}
 use Rattle.house.specs.Turns.{World, world}
 use Rattle.drill_script.specs.declared.commands.Command.{Command}
 use Rattle.drill_script.specs.Words.{wordAt}
-use Rattle.drill_script.specs.Commands.{sizeOf, commandOf}
+use Rattle.drill_script.specs.Commands.{savingSizeOf, sizeOf, commandOf}
 use Rattle.drill.specs.declared.reading.Reading.{Reading}
 use Rattle.drill.specs.Fit.{Stands, Plays, Boots}
 use Rattle.drill.specs.Player.{Player, player, changesNothing, lentOf, moreOf, playedOf}
@@ -46,12 +46,22 @@ lent-within c lent words l = either (λ x. x ≤ words) (eqb (c .op) 8) (λ _. o
 
 -- ---- what the size of a right command says
 
+saving-sixteen : (op a c : ℕ) → 0 < savingSizeOf op a c → 16 ≤ savingSizeOf op a c
+unfolding savingSizeOf
+saving-sixteen op a c =
+    either P (ltb 16 op) (λ _ l. absurd (omega arith)) λ _.
+    either P (eqb op 14) (λ _. either P (ltb 70000 c) (λ _ l. absurd (omega arith)) (λ _ l. omega arith)) λ _.
+    either P (eqb op 15) (λ _. either P (ltb 16384 a) (λ _ l. absurd (omega arith)) (λ _ l. omega arith)) (λ _ l. omega arith)
+  where
+    P : ℕ → Type 0
+    P n = 0 < n → 16 ≤ n
+
 pub sized-sixteen : (op a c : ℕ) → 0 < sizeOf op a c → 16 ≤ sizeOf op a c
 unfolding sizeOf
 sized-sixteen op a c =
     either P (eqb op 0) (λ _ l. absurd (omega arith)) λ _.
     either P (eqb op 17) (λ _ l. omega arith) λ _.
-    either P (ltb 13 op) (λ _ l. absurd (omega arith)) λ _.
+    either P (ltb 13 op) (λ _. saving-sixteen op a c) λ _.
     either P (eqb op 6) (λ _. either P (ltb 4096 c) (λ _ l. absurd (omega arith)) (λ _ l. omega arith)) λ _.
     either P (eqb op 1)
     (λ _. either P (ltb 16 a) (λ _ l. absurd (omega arith)) λ _.
@@ -77,6 +87,14 @@ sized-boot a c =
     Q : ℕ → Type 0
     Q n = 0 < n → (a ≤ 16) × (c ≤ 4096) × (n ≡ 16 + 4 * (a + c))
 
+pub sized-save : (a c : ℕ) → 0 < sizeOf 14 a c → c ≤ 70000
+unfolding sizeOf savingSizeOf
+sized-save a c = either (λ (n : ℕ). 0 < n → c ≤ 70000) (ltb 70000 c) (λ _ l. absurd (omega arith)) (λ t l. ltb-false 70000 c t)
+
+pub sized-piece : (a c : ℕ) → 0 < sizeOf 15 a c → a ≤ sizeOf 15 a c - 16
+unfolding sizeOf savingSizeOf
+sized-piece a c = either (λ (n : ℕ). 0 < n → a ≤ n - 16) (ltb 16384 a) (λ _ l. absurd (omega arith)) (λ t l. omega arith)
+
 -- ---- of a command that is played
 
 module _ {r : Reading} {b w : ℕ} (p : Plays r b w) where
@@ -91,6 +109,16 @@ module _ {r : Reading} {b w : ℕ} (p : Plays r b w) where
       let s : r .command .size ≡ sizeOf 6 (r .command .a) (r .command .c) = p .stands .sized ∙ ap (λ (x : ℕ). sizeOf x (r .command .a) (r .command .c)) e in
       let q = sized-read (r .command .a) (r .command .c) (rw s at (p .right)) in
       (q .0, s ∙ q .1)
+
+  pub plays-save : r .command .op ≡ 14 → r .command .c ≤ 70000
+  plays-save e =
+      let s : r .command .size ≡ sizeOf 14 (r .command .a) (r .command .c) = p .stands .sized ∙ ap (λ (x : ℕ). sizeOf x (r .command .a) (r .command .c)) e in
+      sized-save (r .command .a) (r .command .c) (rw s at (p .right))
+
+  pub plays-piece : (more : ℕ) → more ≡ r .command .size - 16 → r .command .op ≡ 15 → r .command .a ≤ more
+  plays-piece more m e =
+      let s : r .command .size ≡ sizeOf 15 (r .command .a) (r .command .c) = p .stands .sized ∙ ap (λ (x : ℕ). sizeOf x (r .command .a) (r .command .c)) e in
+      omega (arith, s, m, sized-piece (r .command .a) (r .command .c) (rw s at (p .right)))
 
   pub plays-boot : (more : ℕ) → more ≡ r .command .size - 16 → r .command .op ≡ 1 → Boots (r .command) more
   plays-boot more m e =

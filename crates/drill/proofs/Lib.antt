@@ -1,3 +1,4 @@
 pub mod Commands
+pub mod Keeps
 pub mod Shown
 pub mod Taken

@@ -1,4 +1,5 @@
 pub mod Fit
 pub mod Goes
 pub mod Player
+pub mod Saving
 pub mod Told

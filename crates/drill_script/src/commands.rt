@@ -1,6 +1,6 @@
 // Commands of a script.
 ghost use mathlib.Core.Path.{_≡_};
-ghost use Rattle.drill_script.specs.Commands.{sizeOf, commandOf};
+ghost use Rattle.drill_script.specs.Commands.{savingSizeOf, sizeOf, commandOf};
 use crate::words::word;
 use dlx::words::wide;
 
@@ -11,6 +11,28 @@ pub struct Command {
     pub b: u32,
     pub c: u32,
     pub size: usize,
+}
+
+// Of a save, a piece or a reading's end.
+fn saving_size(op: u32, a: u32, c: u32) -> usize
+    ensures { λ r. ⌜ r ≡ savingSizeOf op a c ⌝ }
+{
+    if op > 16 {
+        return 0;
+    }
+    if op == 14 {
+        if c > 70000 {
+            return 0;
+        }
+        return 16;
+    }
+    if op != 15 {
+        return 16;
+    }
+    if a > 16384 {
+        return 0;
+    }
+    16 + 4 * ((wide(a) + 3) / 4)
 }
 
 // The size by the op and the two words that can say more: 0 where the op or one of them is wrong.
@@ -24,7 +46,7 @@ fn size(op: u32, a: u32, c: u32) -> usize
         return 16;
     }
     if op > 13 {
-        return 0;
+        return saving_size(op, a, c);
     }
     if op == 6 {
         if c > 4096 {

@@ -1,4 +1,4 @@
--- The lines that tell of the answer, the house's own numbers, the memory, a read-out's output and what an audit found.
+-- The lines that tell of the answer, the house's own numbers, the memory, the outputs of a read-out and a save, and what an audit found.
 use mathlib.Core.Bool.{Bool, false}
 use mathlib.Core.List.{List, [], _∷_, _++_}
 use Prim.Native.Nat.{ℕ}
@@ -35,6 +35,9 @@ nameOf op =
     else if eqb op 5 then ascii "empty"
     else if eqb op 12 then ascii "audit"
     else if eqb op 13 then ascii "mend"
+    else if eqb op 14 then ascii "save"
+    else if eqb op 15 then ascii "piece"
+    else if eqb op 16 then ascii "finish"
     else if eqb op 17 then ascii "unshadowed"
     else ascii "read"
 
@@ -47,6 +50,10 @@ memoryOf words = ascii "memory" ++ (numberOf (length words) ++ (numberOf (digest
 -- the whole output's digest, and so many of its words
 unfoldable pub outputOf : List ℕ → ℕ → List ℕ
 outputOf words shown = ascii "output" ++ (numberOf (digestOf words) ++ rowOf [] (take shown words))
+
+-- how many bytes were written, and the whole output's digest, each byte a word
+unfoldable pub writtenOf : ℕ → List ℕ → List ℕ
+writtenOf count bytes = ascii "written" ++ (numberOf count ++ (numberOf (digestOf bytes) ++ ascii "\n"))
 
 -- the first stale entry, by partition and page, where there is one
 unfoldable pub staleOf : Bool → ℕ → ℕ → List ℕ

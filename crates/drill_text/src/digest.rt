@@ -17,6 +17,25 @@ fn mixed(d: u64, w: u32) -> u64
     std::num::wrapping_add_u64(low * LOW + w as u64 + 1, middle * 0x1_0000_0000)
 }
 
+fn broad(b: u8) -> u32
+    ensures { λ r. ⌜ r ≡ b ⌝ }
+{
+    b as u32
+}
+
+// Of bytes, each a word.
+pub fn digest_bytes(bytes: &[u8]) -> u64
+    ensures { λ r. ⌜ r ≡ digestOf (now (bytes .entry)) ⌝ }
+{
+    let mut d = 0;
+    let mut i = 0;
+    while i < bytes.len() {
+        d = mixed(d, broad(bytes[i]));
+        i += 1;
+    }
+    d
+}
+
 pub fn digest(words: &[u32]) -> u64
     ensures { λ r. ⌜ r ≡ digestOf (now (words .entry)) ⌝ }
 {

@@ -1,13 +1,14 @@
-// The lines that tell of the answer, the house's own numbers, the memory, a read-out's output and what an audit found.
+// The lines that tell of the answer, the house's own numbers, the memory, the outputs of a read-out and a save, and what an audit found.
 ghost use mathlib.Core.List.{[], _++_};
 ghost use mathlib.Core.Path.{_≡_};
 ghost use Prim.Native.Nat.{_+_, _*_, _-_, _≤_};
 ghost use lib.ListN.{length, take, drop};
 ghost use Rattle.decimal.specs.Texts.{ascii, Puts};
 ghost use Rattle.drill_text.specs.Numbers.{numberOf, numbersOf};
-ghost use Rattle.drill_text.specs.Lines.{rowOf, flagsOf, houseOf, nameOf, callOf, memoryOf, outputOf, staleOf};
+ghost use Rattle.drill_text.specs.Lines.{rowOf, flagsOf, houseOf, nameOf, callOf, memoryOf, outputOf, writtenOf, staleOf};
 use crate::ROOM;
 use crate::digest::digest;
+use crate::digest::digest_bytes;
 use crate::numbers::number;
 use crate::numbers::numbers;
 use decimal::put_byte;
@@ -77,7 +78,7 @@ struct Span {
 
 // Where the name of a call stands among the names, by its command's number.
 fn among(op: u32) -> Span
-    ensures { λ s. ⌜ (s .from ≤ s .to) × (s .to ≤ s .from + 10) × (s .to ≤ 44) × (take (s .to - s .from) (drop (s .from) (ascii "bootrunstartstopemptyauditmendreadunshadowed")) ≡ nameOf op) ⌝ }
+    ensures { λ s. ⌜ (s .from ≤ s .to) × (s .to ≤ s .from + 10) × (s .to ≤ 59) × (take (s .to - s .from) (drop (s .from) (ascii "bootrunstartstopemptyauditmendreadunshadowedsavepiecefinish")) ≡ nameOf op) ⌝ }
 {
     match op {
         1 => Span { from: 0, to: 4 },
@@ -87,6 +88,9 @@ fn among(op: u32) -> Span
         5 => Span { from: 16, to: 21 },
         12 => Span { from: 21, to: 26 },
         13 => Span { from: 26, to: 30 },
+        14 => Span { from: 44, to: 48 },
+        15 => Span { from: 48, to: 53 },
+        16 => Span { from: 53, to: 59 },
         17 => Span { from: 34, to: 44 },
         _ => Span { from: 30, to: 34 },
     }
@@ -95,7 +99,7 @@ fn among(op: u32) -> Span
 fn name(text: &mut [u8; ROOM], used: usize, op: u32) -> usize
     ensures { λ r. ⌜ Puts (now (text .entry)) used (now (text .exit)) r (nameOf op) 10 ⌝ }
 {
-    let names = *b"bootrunstartstopemptyauditmendreadunshadowed";
+    let names = *b"bootrunstartstopemptyauditmendreadunshadowedsavepiecefinish";
     let s = among(op);
     let from = s.from;
     let to = s.to;
@@ -128,6 +132,15 @@ pub fn output(text: &mut [u8; ROOM], used: usize, words: &[u32], shown: usize) -
     let named = put_text(text, used, b"output");
     let digested = number(text, named, d);
     rest(text, digested, &words[..shown])
+}
+
+// How many bytes were written, and the whole output's digest.
+pub fn written(text: &mut [u8; ROOM], used: usize, count: usize, bytes: &[u8]) -> usize
+    ensures { λ r. ⌜ Puts (now (text .entry)) used (now (text .exit)) r (writtenOf count (now (bytes .entry))) 50 ⌝ }
+{
+    let d = digest_bytes(bytes);
+    let named = put_text(text, used, b"written");
+    pair(text, named, count as u64, d)
 }
 
 // The first stale entry, by partition and page, where one was found.

@@ -1,25 +1,12 @@
 use mathlib.Core.Path.{_≡_}
 use native.Mathlib.Omega.{arith}
 use lib.ListN.{length}
-use Rattle.decimal.proofs.Texts.{within}
-use Rattle.drill.proofs.Commands.{played-within}
 use borrow.Author.Needs.{needs}
 use Rattle.drill.proofs.turn.Statement.{statement}
 use Rattle.drill.proofs.turn.Tie as tie
 
-flushed-requires : tie.Need-flushed-requires
-flushed-requires c κs =
-    let n : length (c .before .before .before .before .args .text .now) ≡ 524288 = search (needs, c .flushed-arg2, c .before .flushed-arg) in
-    omega (arith, n, c .before .before .before .before .pre .0 .used)
-
-play-requires : tie.Need-play-requires
-play-requires c κs = record { stands = c .before .before .before .before .before .before .before .before .before .before .before .pre .0 .stands; right = c .before .before .before .before .before .before .before .before .before .before .before .pre .1; lent = c .before .before .before .before .before .before .before .before .before .before .before .pre .0 .lent }
-
-settle-requires : tie.Need-settle-requires
-settle-requires c κs =
-    let g = c .before .before .before .before .before .before .before .before .before .before .before .before .before .before .before .before .pre .0 in
-    let l = played-within _ _ _ _ (length (c .before .before .before .before .before .before .before .before .before .before .before .before .before .before .before .before .args .memory .now)) (c .before .before .before .before .play .ensures .0) (g .lent) in
-    (g .stands, omega (arith, l, c .before .before .before .before .play .kept))
+save-turn-requires : tie.Need-save-turn-requires
+save-turn-requires c κs = let n : length (c .before .before .before .before .before .before .before .before .before .before .before .before .args .output .now) ≡ 70000 = search (needs, c .save-turn-arg5, c .before .save-turn-arg4, c .before .before .save-turn-arg3, c .before .before .before .save-turn-arg2, c .before .before .before .before .save-turn-arg) in (c .before .before .before .before .before .before .before .before .before .before .before .before .pre .0, (c .before .before .before .before .before .before .before .before .before .before .before .before .pre .1, omega (arith, n)))
 
 same-length : tie.Need-same-length
 same-length c = search needs
@@ -28,9 +15,19 @@ same-length-2 : tie.Need-same-length-2
 same-length-2 c = search needs
 
 returns : tie.Need-returns
-returns c =
-    let z = c .before .before .before .before .before .settle .ensures in
-    record { stands = z .0; lent = omega (arith, z .1, c .before .before .before .before .before .before .before .before .before .before .play .kept); used = omega (arith, within (c .before .before .before .before .before .before .before .before .before .before .play .ensures .1), c .before .before .before .before .before .before .before .before .before .before .before .before .before .before .before .before .before .flushed .ensures) }
+returns c = c .before .before .before .before .save-turn .ensures
+
+call-turn-requires : tie.Need-call-turn-requires
+call-turn-requires c κs = c .before .before .before .before .before .before .before .before .before .before .before .before .pre
+
+same-length-3 : tie.Need-same-length-3
+same-length-3 c = search needs
+
+same-length-4 : tie.Need-same-length-4
+same-length-4 c = search needs
+
+returns-2 : tie.Need-returns-2
+returns-2 c = c .before .before .before .before .call-turn .ensures
 
 pub turn-spec : {M : Type 1} → statement M
-turn-spec = tie.close (tie.spec flushed-requires play-requires settle-requires same-length same-length-2 returns)
+turn-spec = tie.close (tie.spec save-turn-requires same-length same-length-2 returns call-turn-requires same-length-3 same-length-4 returns-2)

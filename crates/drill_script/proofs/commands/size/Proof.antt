@@ -12,9 +12,12 @@ returns-2 : tie.Need-returns-2
 unfolding sizeOf
 returns-2 c = simp (eq-eqb _ _ (c .if2 .taken), ne-eqb _ _ (c .before .if1 .left))
 
+saving-size-requires : tie.Need-saving-size-requires
+saving-size-requires c κs = search needs
+
 returns-3 : tie.Need-returns-3
 unfolding sizeOf
-returns-3 c = simp (lt-ltb _ _ (c .if3 .taken), lt-leb _ _ (c .if3 .taken), ne-eqb _ _ (c .before .if2 .left), ne-eqb _ _ (c .before .before .if1 .left))
+returns-3 c = simp (c .saving-size .ensures, lt-ltb _ _ (c .before .if3 .taken), lt-leb _ _ (c .before .if3 .taken), ne-eqb _ _ (c .before .before .if2 .left), ne-eqb _ _ (c .before .before .before .if1 .left))
 
 returns-4 : tie.Need-returns-4
 unfolding sizeOf
@@ -61,6 +64,7 @@ size-spec =
     (tie.spec
     returns
     returns-2
+    saving-size-requires
     returns-3
     returns-4
     returns-5

@@ -39,9 +39,35 @@ returns-8 c = (omega arith, omega arith, omega arith, rw (c .match .keys8))
 
 returns-9 : tie.Need-returns-9
 unfolding nameOf ascii
-returns-9 c =
+returns-9 c = (omega arith, omega arith, omega arith, rw (c .match .keys9))
+
+returns-10 : tie.Need-returns-10
+unfolding nameOf ascii
+returns-10 c = (omega arith, omega arith, omega arith, rw (c .match .keys10))
+
+returns-11 : tie.Need-returns-11
+unfolding nameOf ascii
+returns-11 c = (omega arith, omega arith, omega arith, rw (c .match .keys11))
+
+returns-12 : tie.Need-returns-12
+unfolding nameOf ascii
+returns-12 c =
     let r = c .match .rest in
-    (omega arith, omega arith, omega arith, rw (ne-eqb _ _ (r .1), ne-eqb _ _ (r .0 .1), ne-eqb _ _ (r .0 .0 .1), ne-eqb _ _ (r .0 .0 .0 .1), ne-eqb _ _ (r .0 .0 .0 .0 .1), ne-eqb _ _ (r .0 .0 .0 .0 .0 .1), ne-eqb _ _ (r .0 .0 .0 .0 .0 .0 .1), ne-eqb _ _ (r .0 .0 .0 .0 .0 .0 .0 .1)))
+    (omega arith, omega arith, omega arith, rw (ne-eqb _ _ (r .1), ne-eqb _ _ (r .0 .1), ne-eqb _ _ (r .0 .0 .1), ne-eqb _ _ (r .0 .0 .0 .1), ne-eqb _ _ (r .0 .0 .0 .0 .1), ne-eqb _ _ (r .0 .0 .0 .0 .0 .1), ne-eqb _ _ (r .0 .0 .0 .0 .0 .0 .1), ne-eqb _ _ (r .0 .0 .0 .0 .0 .0 .0 .1), ne-eqb _ _ (r .0 .0 .0 .0 .0 .0 .0 .0 .1), ne-eqb _ _ (r .0 .0 .0 .0 .0 .0 .0 .0 .0 .1), ne-eqb _ _ (r .0 .0 .0 .0 .0 .0 .0 .0 .0 .0 .1)))
 
 pub among-spec : {M : Type 1} → statement M
-among-spec = tie.close (tie.spec returns returns-2 returns-3 returns-4 returns-5 returns-6 returns-7 returns-8 returns-9)
+among-spec =
+    tie.close
+    (tie.spec
+    returns
+    returns-2
+    returns-3
+    returns-4
+    returns-5
+    returns-6
+    returns-7
+    returns-8
+    returns-9
+    returns-10
+    returns-11
+    returns-12)

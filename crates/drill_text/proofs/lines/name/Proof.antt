@@ -27,7 +27,7 @@ unfolding ascii
 returns c =
     let s = c .before .before .before .before .among .result in
     let e = c .before .before .before .before .among .ensures in
-    puts (rw (e .3) at (c .put-text .ensures)) (omega (arith, ap length (e .3), length-take (s .to - s .from) (drop (s .from) (ascii "bootrunstartstopemptyauditmendreadunshadowed")), e .0, e .1))
+    puts (rw (e .3) at (c .put-text .ensures)) (omega (arith, ap length (e .3), length-take (s .to - s .from) (drop (s .from) (ascii "bootrunstartstopemptyauditmendreadunshadowedsavepiecefinish")), e .0, e .1))
 
 pub name-spec : {M : Type 1} → statement M
 name-spec = tie.close (tie.spec among-requires sub-put-text part-put-text-start part-put-text-end put-text-requires returns)
