@@ -1,7 +1,9 @@
-//! Compares another program with this emulator, on scripts, on house files and on listings.
+//! Compares another program with this emulator, on scripts, on house files, on saved files and on
+//! listings.
 
-mod by_name;
 mod listings;
+mod reads;
+mod saves;
 
 use std::fmt::Write;
 use std::sync::atomic::{AtomicUsize, Ordering};
@@ -13,14 +15,12 @@ use crate::generate::{self, File, Script};
 use crate::housefile::{self, PIECE};
 use crate::named;
 use crate::process::{Program, Reply};
+use crate::reads::audit;
 use crate::script::{self, Command, Player};
 use crate::shrink::{shrink, Stretch};
 
 /// About how many bytes of scripts one start of the program gets.
 const BATCH_BYTES: usize = 1 << 20;
-
-/// One in so many of the damaged house files is run without shadows, and as many whole ones.
-const UNSHADOWED_SHARE: usize = 20;
 
 /// What to tell of a difference that does not come back.
 const NOT_TWICE: &str = "a second time it agrees: the program does not answer the same twice\n";
@@ -32,20 +32,32 @@ pub struct Options {
     pub drill: Option<Program>,
     /// Reads a house file on standard input and prints the report.
     pub night: Option<Program>,
-    /// Reads a house file on standard input and prints the stale entries.
+    /// Reads a house file or a saved one on standard input and prints the stale entries.
     pub audit: Option<Program>,
-    /// Lists the words on standard input.
+    /// Lists the words on standard input; with the number of a frame, those of a file there.
     pub list: Option<Program>,
     /// Assembles the lines on standard input.
     pub assemble: Option<Program>,
+    /// Runs the house file named by its first word and saves, for `save OUT`.
+    pub save: Option<Program>,
+    /// Goes on with the saved file named by its first word, for so many steps, and saves.
+    pub resume: Option<Program>,
     /// Runs the house file named by its first word, for `unshadowed`, by the engine without shadows.
     pub unshadowed: Option<Program>,
+    /// Reads a house file or a saved one on standard input and tells what each partition came to.
+    pub look: Option<Program>,
+    /// Reads such a file, too, and prints the words that `PARTITION ADDRESS COUNT [raw]` ask for.
+    pub readout: Option<Program>,
     /// Start of the random numbers.
     pub seed: u64,
     /// Guest steps of the random scripts, at least.
     pub steps: u64,
     /// Random house files that are damaged or cut.
     pub files: usize,
+    /// Random saved files; half as many house files are saved.
+    pub saved: usize,
+    /// Random house files and saved ones for the programs that take either.
+    pub reads: usize,
     /// Random words that are listed, and assembled from their lines.
     pub words: usize,
     /// Damaged lines.
@@ -74,9 +86,8 @@ pub fn compare(options: &Options) -> Result<Outcome, String> {
         compare_drill(drill, options, &mut outcome)?;
     }
     listings::compare_listings(options, &mut outcome)?;
-    if let Some(program) = &options.unshadowed {
-        compare_unshadowed(program, options, &mut outcome)?;
-    }
+    saves::compare_saves(options, &mut outcome)?;
+    reads::compare_reads(options, &mut outcome)?;
     if options.night.is_none() && options.audit.is_none() {
         return Ok(outcome);
     }
@@ -86,11 +97,11 @@ pub fn compare(options: &Options) -> Result<Outcome, String> {
     let random = files.len() - named;
     add(&mut outcome.report, &format!("named files: {named}, random files: {random}"));
     if let Some(program) = &options.night {
-        let night = Reader { name: "night", program, word: None, ours: housefile::night };
+        let night = Reader { name: "night", program, ours: housefile::night };
         compare_reader(&night, &files, options.jobs, &mut outcome)?;
     }
     if let Some(program) = &options.audit {
-        let audit = Reader { name: "audit", program, word: None, ours: housefile::audit };
+        let audit = Reader { name: "audit", program, ours: audit };
         compare_reader(&audit, &files, options.jobs, &mut outcome)?;
     }
     Ok(outcome)
@@ -100,23 +111,7 @@ pub fn compare(options: &Options) -> Result<Outcome, String> {
 struct Reader<'a> {
     name: &'static str,
     program: &'a Program,
-    /// The word behind the file's name; without one the file is given on standard input.
-    word: Option<&'static str>,
     ours: fn(&[u8], &mut Counts) -> String,
-}
-
-fn compare_unshadowed(
-    program: &Program,
-    options: &Options,
-    outcome: &mut Outcome,
-) -> Result<(), String> {
-    let some = options.files / UNSHADOWED_SHARE;
-    let mut files = named::files();
-    files.extend(generate::files(options.seed, some));
-    files.extend(generate::whole_files(options.seed, some));
-    let name = "unshadowed";
-    let unshadowed = Reader { name, program, word: Some(name), ours: housefile::night_unshadowed };
-    compare_reader(&unshadowed, &files, options.jobs, outcome)
 }
 
 fn compare_drill(drill: &Program, options: &Options, outcome: &mut Outcome) -> Result<(), String> {
@@ -448,7 +443,7 @@ fn compare_files(
     let results = in_parallel(files.len(), jobs, |at| {
         let mut counts = Counts::default();
         let ours = (reader.ours)(&files[at].bytes, &mut counts);
-        told(reader, &files[at].bytes).map(|theirs| (counts, ours, theirs))
+        told(reader.program, &files[at].bytes).map(|theirs| (counts, ours, theirs))
     });
     let mut total = Counts::default();
     let mut differences = Vec::new();
@@ -462,13 +457,9 @@ fn compare_files(
     Ok((total, differences))
 }
 
-/// What the program says of a file. One on standard input that takes more than a piece is also given
-/// slowly, and what is then said counts too where it is something else.
-fn told(reader: &Reader<'_>, bytes: &[u8]) -> Result<String, String> {
-    let program = reader.program;
-    if let Some(word) = reader.word {
-        return Ok(file_text(by_name::run(program, bytes, word)?));
-    }
+/// What the program says of a file. One that takes more than a piece is also given slowly, and what
+/// is then said counts too where it is something else.
+fn told(program: &Program, bytes: &[u8]) -> Result<String, String> {
     let text = file_text(program.run(bytes)?);
     if bytes.len() <= PIECE {
         return Ok(text);
@@ -487,7 +478,7 @@ fn file_text(reply: Reply) -> String {
 
 fn file_differs(reader: &Reader<'_>, bytes: &[u8]) -> bool {
     let ours = (reader.ours)(bytes, &mut Counts::default());
-    told(reader, bytes).is_ok_and(|theirs| theirs != ours)
+    told(reader.program, bytes).is_ok_and(|theirs| theirs != ours)
 }
 
 fn explain_file(reader: &Reader<'_>, file: &File, first: &FileDifference) -> String {

@@ -8,8 +8,10 @@ use crate::dlx::special::{PTL, PTO};
 use crate::dlx::Cause;
 use crate::engines::Engines;
 use crate::fields::{self, FRAMES, QUEUES, SHADOWS};
-use crate::house::House;
+use crate::house::{House, Refusal};
+use crate::housefile::HEAD;
 use crate::memory::{Width, ENTRIES};
+use crate::saved;
 use crate::script::Command;
 use crate::timer::Kind;
 
@@ -107,12 +109,15 @@ pub struct Edited {
 }
 
 impl Edited {
+    /// Notes that the memory is written, other than by a guest.
+    pub fn write(&mut self, house: &House) {
+        self.memory = self.memory || some_valid(house);
+    }
+
     /// Notes a command before it is played.
     pub fn note(&mut self, command: &Command, house: &House, memory: &[u32]) {
         match *command {
-            Command::Poke { .. } | Command::Fill { .. } if !self.memory => {
-                self.memory = some_valid(house);
-            }
+            Command::Poke { .. } | Command::Fill { .. } => self.write(house),
             Command::Field { index, value } if !self.house => {
                 self.house = match index {
                     SHADOWS..QUEUES => value != 0 && !right(house, memory, index - SHADOWS, value),
@@ -249,6 +254,115 @@ impl AddAssign<&Audits> for Audits {
     }
 }
 
+/// Saves, and readings of saved files.
+#[derive(Clone, Debug, Default, PartialEq, Eq)]
+pub struct Saves {
+    /// Saves that wrote up to the file's end, that stopped before it, that began behind it, and that
+    /// were refused by 8 and by 9.
+    pub saves: [u64; 5],
+    /// Bytes that they wrote.
+    pub written: u64,
+    /// Pieces by the reading's answer so far: none, 9, 17.
+    pub pieces: [u64; 3],
+    /// Those of them that had no bytes.
+    pub empty: u64,
+    /// Those of them that ended between records, in a head and in a body.
+    pub cuts: [u64; 3],
+    /// Readings that were finished, by answer: done, 9, 17.
+    pub finished: [u64; 3],
+    /// Refused readings by the reason.
+    pub whys: [u64; saved::Why::COUNT],
+    /// Runs of a house that was read from a file.
+    pub went_on: u64,
+}
+
+/// The place of a reading's answer: done, 9, 17.
+fn reading_answer(refused: Option<Refusal>) -> usize {
+    match refused {
+        None => 0,
+        Some(Refusal::Length) => 1,
+        Some(_) => 2,
+    }
+}
+
+impl Saves {
+    /// A save was asked for.
+    pub fn asked(&mut self, sound: Result<(), Refusal>) {
+        match sound {
+            Ok(()) => {}
+            Err(Refusal::Damaged) => self.saves[3] += 1,
+            Err(_) => self.saves[4] += 1,
+        }
+    }
+
+    /// A save wrote so many of the bytes that were left.
+    pub fn saved(&mut self, written: usize, left: usize) {
+        let place = match left {
+            0 => 2,
+            _ if written < left => 1,
+            _ => 0,
+        };
+        self.saves[place] += 1;
+        self.written += written as u64;
+    }
+
+    /// A piece was read, and left so many bytes of a record in hand.
+    pub fn read(&mut self, refused: Option<Refusal>, in_hand: usize, bytes: usize) {
+        self.pieces[reading_answer(refused)] += 1;
+        self.empty += u64::from(bytes == 0);
+        if refused.is_none() {
+            let place = match in_hand {
+                0 => 0,
+                1..HEAD => 1,
+                _ => 2,
+            };
+            self.cuts[place] += 1;
+        }
+    }
+
+    /// A reading was finished.
+    pub fn finished(&mut self, refused: Option<Refusal>) {
+        self.finished[reading_answer(refused)] += 1;
+    }
+
+    /// What must be met often, by name.
+    pub fn kinds(&self) -> Vec<(&'static str, u64)> {
+        let saves =
+            ["saves to the end", "saves of a part", "saves of nothing", "saves refused by 8"];
+        let pieces = ["pieces", "pieces after 9", "pieces after 17"];
+        let cuts = ["pieces up to a record's end", "cuts in a head", "cuts in a body"];
+        let finished = ["readings done", "readings refused by 9", "readings refused by 17"];
+        let others = [
+            ("saves refused by 9", self.saves[4]),
+            ("pieces of no bytes", self.empty),
+            ("runs after a reading", self.went_on),
+        ];
+        let whys = saved::Why::NAMES.into_iter().zip(self.whys);
+        saves
+            .into_iter()
+            .zip(self.saves)
+            .chain(pieces.into_iter().zip(self.pieces))
+            .chain(cuts.into_iter().zip(self.cuts))
+            .chain(finished.into_iter().zip(self.finished))
+            .chain(others)
+            .chain(whys)
+            .collect()
+    }
+}
+
+impl AddAssign<&Saves> for Saves {
+    fn add_assign(&mut self, other: &Saves) {
+        add_all(&mut self.saves, &other.saves);
+        add_all(&mut self.pieces, &other.pieces);
+        add_all(&mut self.cuts, &other.cuts);
+        add_all(&mut self.finished, &other.finished);
+        add_all(&mut self.whys, &other.whys);
+        self.written += other.written;
+        self.empty += other.empty;
+        self.went_on += other.went_on;
+    }
+}
+
 /// Counts of steps, interrupts, loads and stores, shadow changes, tickets and answers.
 #[derive(Clone, Debug, Default, PartialEq, Eq)]
 pub struct Counts {
@@ -298,10 +412,12 @@ pub struct Counts {
     pub timers: Timers,
     /// Shadow audits.
     pub audits: Audits,
+    /// Saves and readings.
+    pub saves: Saves,
     /// Runs by the engine without shadows.
     pub engines: Engines,
     /// Answers, by house number.
-    pub answers: [u64; 17],
+    pub answers: [u64; 18],
 }
 
 impl Counts {
@@ -464,6 +580,14 @@ impl fmt::Display for Counts {
         let (found, emptied) = (self.audits.found[0], self.audits.emptied);
         writeln!(f, "stale without edits:{found} entries emptied by mends:{emptied}")?;
         let kinds: Vec<String> =
+            self.saves.kinds().iter().map(|(name, count)| format!("{name}:{count}")).collect();
+        writeln!(
+            f,
+            "saves and readings: {}; bytes saved:{}",
+            kinds.join("; "),
+            self.saves.written
+        )?;
+        let kinds: Vec<String> =
             self.engines.kinds().iter().map(|(name, count)| format!("{name}:{count}")).collect();
         writeln!(f, "runs without shadows: {}", kinds.join("; "))?;
         writeln!(
@@ -500,6 +624,7 @@ impl AddAssign<&Counts> for Counts {
         self.user_tickets += other.user_tickets;
         self.timers += &other.timers;
         self.audits += &other.audits;
+        self.saves += &other.saves;
         self.engines += &other.engines;
     }
 }

@@ -6,7 +6,9 @@ mod engines;
 mod files;
 pub mod listings;
 mod programs;
+mod reads;
 mod runs;
+mod saves;
 mod states;
 mod tickets;
 mod timers;
@@ -53,11 +55,18 @@ pub const TIMERS_EACH: u64 = 200;
 pub const BESIDE_EACH: u64 = 50;
 /// How often stale entries and audits of each kind must be met in a million steps.
 pub const AUDITS_EACH: u64 = 100;
+/// How often each kind of save and reading must be met in a million steps.
+pub const SAVES_EACH: u64 = 5;
+/// How many scripts save and read houses in a million steps.
+pub const SAVES: u64 = 60;
 /// How often each kind of run by the engine without shadows must be met in a million steps.
 pub const ENGINES_EACH: u64 = 10;
 /// How many scripts run by both engines in a million steps.
 pub const ENGINES: u64 = 60;
-/// The numbers that scripts give: all but 15, which is the house file's.
+/// How many random files the programs get that take a house file or a saved one.
+pub const READS: usize = 400;
+/// The numbers that scripts give: all but 15, which is the house file's, and 17, which is the saved
+/// file's.
 pub const SCRIPT_NUMBERS: [usize; 16] = [0, 1, 2, 3, 4, 5, 6, 7, 8, 9, 10, 11, 12, 13, 14, 16];
 
 /// Random scripts, until their guests have done `steps` steps, a quarter as many of them in user mode,
@@ -74,6 +83,7 @@ pub fn scripts(seed: u64, steps: u64) -> Vec<Script> {
         let name = format!("{kind} {number} of seed {seed}");
         scripts.push(Script { name, commands: draft.commands });
     }
+    scripts.extend(saves(seed, share(steps, SAVES)));
     scripts.extend(engines(seed, share(steps, ENGINES)));
     scripts
 }
@@ -81,6 +91,15 @@ pub fn scripts(seed: u64, steps: u64) -> Vec<Script> {
 /// How many of something that comes so often in a million steps; at least one.
 fn share(steps: u64, each: u64) -> u64 {
     (steps * each).div_ceil(1_000_000)
+}
+
+/// Random scripts in which houses are saved and read back.
+fn saves(seed: u64, count: u64) -> impl Iterator<Item = Script> {
+    (0..count).map(move |number| {
+        let mut draft = Draft::new(Rng::new(!seed ^ number << 32 ^ 6));
+        saves::compose(&mut draft);
+        Script { name: format!("saves {number} of seed {seed}"), commands: draft.commands }
+    })
 }
 
 fn too_few(counts: &Counts, steps: u64) -> bool {
@@ -147,18 +166,66 @@ pub fn files(seed: u64, count: usize) -> Vec<File> {
         .collect()
 }
 
-/// Random house files that are whole; every tenth is longer than a piece.
+/// Random house files that are whole.
 pub fn whole_files(seed: u64, count: usize) -> Vec<File> {
     (0..count)
         .map(|number| {
             let mut rng = Rng::new(!seed ^ (number as u64) << 32 ^ 8);
             let (kind, bytes) = files::compose(&mut rng, false, number.is_multiple_of(10));
-            File {
-                name: format!("{kind} file {number} of seed {seed}, to be run without shadows"),
-                bytes,
-            }
+            File { name: format!("{kind} file {number} of seed {seed}, to be saved"), bytes }
         })
         .collect()
+}
+
+/// A saved file, and the steps that its house is to go on.
+#[derive(Clone, Debug)]
+pub struct Saved {
+    /// The file.
+    pub file: File,
+    /// The steps.
+    pub steps: u64,
+}
+
+/// Random saved files, some of them damaged.
+pub fn saved_files(seed: u64, count: usize) -> Vec<Saved> {
+    let file = |number: u64| {
+        let mut rng = Rng::new(!seed ^ number << 32 ^ 7);
+        let (kind, bytes) = saves::saved_file(&mut rng);
+        let steps = rng.pick(&[0, 1, 2, 100, 1_000, 20_000]);
+        let file = File { name: format!("{kind} saved file {number} of seed {seed}"), bytes };
+        Saved { file, steps }
+    };
+    (0..count as u64).map(file).collect()
+}
+
+/// A house file or a saved file, and what programs are asked of it.
+#[derive(Clone, Debug)]
+pub struct Read {
+    /// The file.
+    pub file: File,
+    /// The words behind `readout FILE`.
+    pub words: Vec<String>,
+    /// The word behind `list FILE`.
+    pub frame: String,
+}
+
+/// Random house files and saved files for the programs that take either, some of them wrong.
+pub fn reads(seed: u64, count: usize) -> Vec<Read> {
+    (0..count)
+        .map(|number| {
+            let mut rng = Rng::new(!seed ^ (number as u64) << 32 ^ 9);
+            let (kind, bytes) = reads::file(&mut rng, number);
+            let name = format!("{kind} {number} of seed {seed}, to be read");
+            reads::read(&mut rng, File { name, bytes })
+        })
+        .collect()
+}
+
+/// The same of named files: the first words of partition 0, and frame 1.
+pub fn named_reads(files: Vec<File>) -> Vec<Read> {
+    let read =
+        |file| Read { file, words: ["0", "0", "9"].map(String::from).to_vec(), frame: "1".into() };
+    files.into_iter().map(read).collect()
 }
 
 /// The frames below `count` that a partition may have, in random order.
@@ -221,8 +288,14 @@ impl Draft {
 
     /// Boots partitions with the given page counts on shuffled frames, with some frames to spare.
     fn boot(&mut self, pages: &[u32]) {
+        let spare = self.rng.below(4);
+        self.boot_with(pages, spare);
+    }
+
+    /// The same with so many frames to spare.
+    fn boot_with(&mut self, pages: &[u32], spare: u32) {
         let used: u32 = pages.iter().sum();
-        let frames = (1 + used + self.rng.below(4)).min(MOST_FRAMES);
+        let frames = (1 + used + spare).min(MOST_FRAMES);
         let mut list = guest_frames(&mut self.rng, frames);
         list.truncate(used as usize);
         let q = self.turn_length();

@@ -52,6 +52,8 @@ pub enum Refusal {
     Output,
     /// Run longer than 1,000,000 steps.
     TooLong,
+    /// A saved file is wrong, or its house damaged: the byte offset of the record.
+    Saved(u64),
 }
 
 impl Refusal {
@@ -73,6 +75,7 @@ impl Refusal {
             Refusal::Output => 13,
             Refusal::TooLong => 14,
             Refusal::HouseFrame(_) => 16,
+            Refusal::Saved(_) => 17,
         }
     }
 
@@ -83,6 +86,7 @@ impl Refusal {
             | Refusal::Frame(at)
             | Refusal::HouseFrame(at)
             | Refusal::Twice(at) => at as u64,
+            Refusal::Saved(at) => at,
             _ => 0,
         }
     }

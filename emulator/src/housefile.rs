@@ -6,6 +6,7 @@ use crate::counts::Counts;
 use crate::dlx::special::MODE;
 use crate::house::{numbers, House};
 use crate::memory::{Engine, FRAME_WORDS};
+use crate::saved;
 
 /// Frames of the program's memory.
 pub const FRAMES: usize = 16;
@@ -18,7 +19,7 @@ const TURN_BODY: usize = 8;
 /// The most bytes of a kind 2 body.
 const MOST_LIST_BODY: usize = 1_024;
 /// Bytes of a kind 3 body: frame number and the frame's bytes.
-const FRAME_BODY: usize = 4 + 4 * FRAME_WORDS;
+pub(crate) const FRAME_BODY: usize = 4 + 4 * FRAME_WORDS;
 /// The most kind 2 records.
 const MOST_LISTS: usize = 8;
 /// The number of a wrong house file.
@@ -77,7 +78,8 @@ fn record(bytes: &[u8]) -> Option<(u16, &[u8])> {
     Some((kind, body))
 }
 
-fn words(bytes: &[u8]) -> Vec<u32> {
+/// The words of bytes, little-endian.
+pub(crate) fn words(bytes: &[u8]) -> Vec<u32> {
     let word = |four: &[u8]| u32::from_le_bytes([four[0], four[1], four[2], four[3]]);
     bytes.chunks_exact(4).map(word).collect()
 }
@@ -129,45 +131,59 @@ impl HouseFile {
 
 /// The program: reads a house file, boots, runs; its whole output.
 pub fn night(bytes: &[u8], counts: &mut Counts) -> String {
-    night_by(bytes, Engine::Shadowed, counts)
+    night_saved(bytes, Engine::Shadowed, counts).text
 }
 
 /// The same by the engine without shadows.
 pub fn night_unshadowed(bytes: &[u8], counts: &mut Counts) -> String {
-    night_by(bytes, Engine::Walking, counts)
+    night_saved(bytes, Engine::Walking, counts).text
 }
 
-fn night_by(bytes: &[u8], engine: Engine, counts: &mut Counts) -> String {
-    output(attempt(bytes, engine, counts).map(|(house, _)| report(&house)), counts)
+/// What a program that saves leaves behind.
+#[derive(Clone, Debug, PartialEq, Eq)]
+pub struct Left {
+    /// Its output: the report, or the refusal.
+    pub text: String,
+    /// The saved file; none where it refuses.
+    pub saved: Option<Vec<u8>>,
 }
 
-/// The audit's program: the same, but it tells the stale entries of each partition.
-pub fn audit(bytes: &[u8], counts: &mut Counts) -> String {
-    let audited = attempt(bytes, Engine::Shadowed, counts).and_then(|(house, memory)| {
-        let stale = house.stale_counts(&memory);
-        stale.map_err(|refusal| numbers(Err(refusal)))
-    });
-    let lines = |stale: Vec<usize>| {
-        let line = |(partition, count)| format!("{partition} {count}\n");
-        stale.into_iter().enumerate().map(line).collect()
-    };
-    output(audited.map(lines), counts)
+impl Left {
+    /// The report of a house, and its file; or the refusal.
+    pub(crate) fn of(ran: Ran, counts: &mut Counts) -> Left {
+        let saved = ran.as_ref().ok().map(|(house, memory)| saved::file(house, memory));
+        Left { text: output(ran.map(|(house, _)| report(&house)), counts), saved }
+    }
+}
+
+/// The same by either engine, with the house saved at the end.
+pub fn night_saved(bytes: &[u8], engine: Engine, counts: &mut Counts) -> Left {
+    Left::of(attempt(bytes, engine, counts), counts)
 }
 
 /// What a program prints: its text, or the refusal.
-fn output(text: Result<String, (u32, u64)>, counts: &mut Counts) -> String {
+pub(crate) fn output(text: Result<String, (u32, u64)>, counts: &mut Counts) -> String {
     let number = text.as_ref().map_or_else(|&(number, _)| number, |_| 0);
     counts.answers[number as usize] += 1;
     text.unwrap_or_else(|(number, detail)| format!("refused {number} {detail}\n"))
 }
 
+/// A house and its memory, or a refusal's number and detail.
+pub type Ran = Result<(House, Vec<u32>), (u32, u64)>;
+
+/// The file, or the refusal.
+fn taken(bytes: &[u8]) -> Result<HouseFile, (u32, u64)> {
+    read(bytes).map_err(|Wrong(at)| (WRONG_FILE, at))
+}
+
+/// The memory that a file holds.
+pub(crate) fn held(bytes: &[u8]) -> Result<Vec<u32>, (u32, u64)> {
+    taken(bytes).map(|file| file.memory)
+}
+
 /// The house and its memory after the run.
-fn attempt(
-    bytes: &[u8],
-    engine: Engine,
-    counts: &mut Counts,
-) -> Result<(House, Vec<u32>), (u32, u64)> {
-    let mut file = read(bytes).map_err(|Wrong(at)| (WRONG_FILE, at))?;
+pub(crate) fn attempt(bytes: &[u8], engine: Engine, counts: &mut Counts) -> Ran {
+    let mut file = taken(bytes)?;
     let pages: Vec<u32> = file.lists.iter().map(|list| list.len() as u32).collect();
     let (mut house, answer) = House::boot(&pages, file.q, &file.lists.concat(), file.memory.len());
     answer.map_err(|refusal| numbers(Err(refusal)))?;

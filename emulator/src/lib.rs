@@ -1,8 +1,9 @@
 //! A second emulator of the house of partitions.
 //!
-//! It is written from document 01 and requests 1, 2, 4, 5, 7 to 11 and 13 of document 02 alone, shares no
-//! line with the proved house, and exists to be compared with it: the same script of calls, the same house
-//! file or the same listing must give the same answer.
+//! It is written from document 01 and requests 1, 2, 4 to 11 and 13 of document 02 alone and, for the lines
+//! that programs print, from docs/FILES.md; it shares no line with the proved house, and exists to be
+//! compared with it: the same script of calls, the same house file, the same saved file or the same listing
+//! must give the same answer.
 
 pub mod assemble;
 pub mod audit;
@@ -16,12 +17,16 @@ pub mod house;
 pub mod housefile;
 pub mod instructions;
 pub mod listing;
+pub mod look;
 pub mod memory;
 pub mod named;
 pub mod process;
+pub mod reads;
 pub mod rng;
+pub mod saved;
 pub mod script;
 pub mod shrink;
 pub mod source;
+pub mod tally;
 pub mod tickets;
 pub mod timer;

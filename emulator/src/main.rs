@@ -5,29 +5,36 @@ use std::os::unix::fs::MetadataExt;
 use std::path::Path;
 use std::process::ExitCode;
 use std::time::Duration;
-use std::{env, fs, slice};
+use std::{env, fs};
 
 use emulator::compare::{compare, shrink_script, Options};
 use emulator::counts::Counts;
+use emulator::housefile::Left;
+use emulator::memory::Engine;
 use emulator::process::Program;
-use emulator::{generate, housefile, listing, named, script, source};
+use emulator::reads::Said;
+use emulator::{generate, housefile, listing, named, reads, saved, script, source};
 
 const HELP: &str = "\
 emulator: a second emulator of the house of partitions, to be compared with the proved one
 
-emulator compare --drill CMD --night CMD --audit CMD --list CMD --assemble CMD --unshadowed CMD
-                 [--seed N] [--steps N] [--files N] [--words N] [--lines N] [--alone N] [--jobs N]
-                 [--limit N]
+emulator compare --drill CMD --night CMD --audit CMD --list CMD --assemble CMD --save CMD --resume CMD
+                 --unshadowed CMD --look CMD --readout CMD [--seed N] [--steps N] [--files N] [--saved N]
+                 [--reads N] [--words N] [--lines N] [--alone N] [--jobs N] [--limit N]
     Plays named and random scripts with CMD of --drill, gives named and random house files to CMD
     of --night and to CMD of --audit, words to CMD of --list, and right and damaged lines to CMD of
-    --assemble, all on standard input; runs `CMD FILE unshadowed` of --unshadowed on house files; and
-    compares every answer with its own. Some of the six CMD may be left out. Shows the smallest
-    script, file or text that differs. Status 0 and a last line `emulator: N compared, 0 differ` only
-    when all agree.
+    --assemble, all on standard input; runs `CMD FILE save OUT` of --save on house files and
+    `CMD SAVED STEPS save OUT` of --resume on saved files, right and damaged, and
+    `CMD FILE unshadowed [save OUT]` of --unshadowed on house files; gives house files and saved files,
+    right and damaged, to CMD of --look, to CMD of --audit, to `CMD PARTITION ADDRESS COUNT [raw]` of
+    --readout and to `CMD FRAME` of --list, on standard input; and compares every answer and every OUT with
+    its own. Some of the CMD may be left out. Shows the smallest script, file or text that
+    differs. Status 0 and a last line `emulator: N compared, 0 differ` only when all agree.
     --seed   start of the random numbers (1)
     --steps  guest steps of the random scripts, at least (1000000)
-    --files  random house files that are damaged or cut (2000); for --unshadowed a twentieth of them,
-             and as many whole ones
+    --files  random house files that are damaged or cut (2000)
+    --saved  random saved files; half as many house files are saved (120)
+    --reads  random house files and saved ones for the programs that take either; 0: nothing of these (400)
     --words  random words that are listed and assembled again (4194304)
     --lines  damaged lines (100000)
     --alone  those of them that are wrong and are assembled in a text of their own, at most (4000)
@@ -35,14 +42,21 @@ emulator compare --drill CMD --night CMD --audit CMD --list CMD --assemble CMD -
     --limit  seconds that a program may take (600)
 emulator play [SCRIPT]
     Plays a script (FORMAT.md) and prints what it sees after each call.
-emulator night [FILE [unshadowed]]
+emulator night [FILE [unshadowed] [save OUT]]
     Reads a house file, boots, runs, with the word by the engine without shadows, and prints the
-    report.
+    report; OUT is then the house and its memory. A refusal writes no OUT.
+emulator resume SAVED STEPS [save OUT]
+    Reads a saved file, runs so many host steps, and prints the report; OUT as for night.
 emulator audit [FILE]
-    The same, but prints the number of each partition and how many of its shadow entries are
-    stale.
-emulator list [FILE]
-    Writes a line for each word of the file, little-endian.
+    Reads a house file, boots and runs, or reads a saved file, and prints the number of each partition
+    and how many of its shadow entries are stale.
+emulator look [FILE]
+    The same, but tells what each partition came to.
+emulator readout FILE PARTITION ADDRESS COUNT [raw]
+    The same, but prints words of one partition's pages, in decimals or as bytes.
+emulator list [FILE [FRAME]]
+    Writes a line for each word of the file, little-endian; or of one frame of the memory that a house
+    file or a saved one holds.
 emulator assemble [FILE]
     Writes the words of a listing's lines; or nothing, and `refused: 18 LINE` on standard error with
     the number of the first wrong line, and ends with status 1.
@@ -52,8 +66,8 @@ emulator show [FILE]
     standard input, what begins with the head of a kind 1 record is a house file.
 emulator shrink --drill CMD [SCRIPT]
     Makes a script on which CMD differs as small as it goes.
-emulator generate --out DIR [--seed N] [--steps N] [--files N]
-    Writes the named and random scripts and house files into DIR.
+emulator generate --out DIR [--seed N] [--steps N] [--files N] [--saved N]
+    Writes the named and random scripts, house files and saved files into DIR.
 emulator make [SOURCE] --out FILE
     Makes a house file from a readable source.
 emulator form
@@ -84,21 +98,39 @@ fn command(arguments: &[String]) -> Result<ExitCode, String> {
         "compare" => run_compare(&Arguments::parse(rest)?),
         "play" => print(&script::play(&input(&Arguments::parse(rest)?)?, &mut Counts::default())),
         "night" => {
-            let (night, rest): (fn(&[u8], &mut Counts) -> String, _) = match rest {
-                [file, word] if word == "unshadowed" => {
-                    (housefile::night_unshadowed, slice::from_ref(file))
-                }
-                _ => (housefile::night, rest),
+            let (file, rest) = rest.split_first().map_or(("-", rest), |(file, rest)| (&file[..], rest));
+            let (engine, rest) = match rest {
+                [word, rest @ ..] if word == "unshadowed" => (Engine::Walking, rest),
+                _ => (Engine::Shadowed, rest),
             };
-            print(&night(&input(&Arguments::parse(rest)?)?, &mut Counts::default()))
+            let bytes = input_of(file)?;
+            leave(rest, |counts| housefile::night_saved(&bytes, engine, counts))
+        }
+        "resume" => {
+            let [file, steps, rest @ ..] = rest else {
+                return Err("expected SAVED STEPS [save OUT]".into());
+            };
+            let steps = number("for STEPS", steps)?;
+            let bytes = input_of(file)?;
+            leave(rest, |counts| saved::resume(&bytes, steps, Engine::Shadowed, counts))
         }
         "audit" => {
-            print(&housefile::audit(&input(&Arguments::parse(rest)?)?, &mut Counts::default()))
+            print(&reads::audit(&input(&Arguments::parse(rest)?)?, &mut Counts::default()))
         }
-        "list" => {
-            let words = listing::words(&input(&Arguments::parse(rest)?)?);
-            print(&listing::list(&words.ok_or("expected words of 4 bytes")?))
+        "look" => print(&reads::look(&input(&Arguments::parse(rest)?)?, &mut Counts::default())),
+        "readout" => {
+            let (file, words) = rest.split_first().ok_or("expected FILE PARTITION ADDRESS COUNT")?;
+            say(reads::readout(&input_of(file)?, words, &mut Counts::default()))
         }
+        "list" => match rest {
+            [file, frame] => {
+                say(reads::list_frame(&input_of(file)?, frame, &mut Counts::default()))
+            }
+            _ => {
+                let words = listing::words(&input(&Arguments::parse(rest)?)?);
+                print(&listing::list(&words.ok_or("expected words of 4 bytes")?))
+            }
+        },
         "assemble" => match listing::assembled(&input(&Arguments::parse(rest)?)?) {
             Ok(bytes) => write(&bytes),
             Err(refused) => {
@@ -113,7 +145,7 @@ fn command(arguments: &[String]) -> Result<ExitCode, String> {
         "form" => print(&source::form()),
         "help" | "--help" | "-h" => print(HELP),
         other => Err(format!(
-            "expected compare, play, night, audit, list, assemble, show, shrink, generate, make, form or help, was given {other}"
+            "expected compare, play, night, resume, audit, look, readout, list, assemble, show, shrink, generate, make, form or help, was given {other}"
         )),
     }
 }
@@ -127,16 +159,22 @@ struct Arguments {
 
 impl Arguments {
     fn parse(arguments: &[String]) -> Result<Arguments, String> {
-        const NAMES: [&str; 15] = [
+        const NAMES: [&str; 21] = [
             "--drill",
             "--night",
             "--audit",
             "--list",
             "--assemble",
+            "--save",
+            "--resume",
             "--unshadowed",
+            "--look",
+            "--readout",
             "--seed",
             "--steps",
             "--files",
+            "--saved",
+            "--reads",
             "--words",
             "--lines",
             "--alone",
@@ -167,12 +205,7 @@ impl Arguments {
     fn number(&self, name: &str, otherwise: u64) -> Result<u64, String> {
         match self.text(name) {
             None => Ok(otherwise),
-            Some(text) => {
-                let plain: String = text.chars().filter(|&letter| letter != '_').collect();
-                plain
-                    .parse()
-                    .map_err(|_| format!("expected a number after {name}, was given {text}"))
-            }
+            Some(text) => number(&format!("after {name}"), text),
         }
     }
 
@@ -189,9 +222,43 @@ impl Arguments {
         self.number("--steps", 1_000_000)
     }
 
+    fn saved(&self) -> Result<usize, String> {
+        Ok(self.number("--saved", 120)? as usize)
+    }
+
     fn files(&self) -> Result<usize, String> {
         Ok(self.number("--files", 2_000)? as usize)
     }
+}
+
+/// A number, with underscores or without.
+fn number(place: &str, text: &str) -> Result<u64, String> {
+    let plain: String = text.chars().filter(|&letter| letter != '_').collect();
+    plain.parse().map_err(|_| format!("expected a number {place}, was given {text}"))
+}
+
+/// Prints what a program that saves leaves, and writes OUT where the words ask for it.
+fn leave(words: &[String], run: impl FnOnce(&mut Counts) -> Left) -> Result<ExitCode, String> {
+    let out = match words {
+        [] => None,
+        [save, out] if save == "save" => Some(out),
+        _ => return Err(format!("expected [save OUT], was given {}", words.join(" "))),
+    };
+    let left = run(&mut Counts::default());
+    if let (Some(out), Some(bytes)) = (out, &left.saved) {
+        fs::write(out, bytes).map_err(|error| format!("{out}: {error}"))?;
+    }
+    print(&left.text)
+}
+
+/// Writes what a program says, on both outputs.
+fn say(said: Said) -> Result<ExitCode, String> {
+    write(&said.bytes)?;
+    let Some(line) = said.line else {
+        return Ok(ExitCode::SUCCESS);
+    };
+    eprintln!("{line}");
+    Ok(ExitCode::FAILURE)
 }
 
 fn run_compare(arguments: &Arguments) -> Result<ExitCode, String> {
@@ -201,10 +268,16 @@ fn run_compare(arguments: &Arguments) -> Result<ExitCode, String> {
         audit: arguments.program("--audit")?,
         list: arguments.program("--list")?,
         assemble: arguments.program("--assemble")?,
+        save: arguments.program("--save")?,
+        resume: arguments.program("--resume")?,
         unshadowed: arguments.program("--unshadowed")?,
+        look: arguments.program("--look")?,
+        readout: arguments.program("--readout")?,
         seed: arguments.seed()?,
         steps: arguments.steps()?,
         files: arguments.files()?,
+        saved: arguments.saved()?,
+        reads: arguments.number("--reads", generate::READS as u64)? as usize,
         words: arguments.number("--words", 1 << 22)? as usize,
         lines: arguments.number("--lines", 100_000)? as usize,
         alone: arguments.number("--alone", 4_000)? as usize,
@@ -216,10 +289,14 @@ fn run_compare(arguments: &Arguments) -> Result<ExitCode, String> {
         &options.audit,
         &options.list,
         &options.assemble,
+        &options.save,
+        &options.resume,
         &options.unshadowed,
+        &options.look,
+        &options.readout,
     ];
     if programs.iter().all(|program| program.is_none()) {
-        return Err("expected CMD of --drill, --night, --audit, --list, --assemble or --unshadowed, was given none".into());
+        return Err("expected CMD of --drill, --night, --audit, --list, --assemble, --save, --resume, --unshadowed, --look or --readout, was given none".into());
     }
     let outcome = compare(&options)?;
     let end = format!("emulator: {} compared, {} differ\n", outcome.compared, outcome.differ);
@@ -273,6 +350,10 @@ fn run_generate(arguments: &Arguments) -> Result<ExitCode, String> {
     for file in named::files().into_iter().chain(generate::files(seed, arguments.files()?)) {
         save(directory, &file.name, "house", &file.bytes)?;
     }
+    let saved = generate::saved_files(seed, arguments.saved()?);
+    for one in named::saved_files().into_iter().chain(saved) {
+        save(directory, &one.file.name, "saved", &one.file.bytes)?;
+    }
     Ok(ExitCode::SUCCESS)
 }
 
@@ -317,13 +398,17 @@ fn spare(input: &str, out: &str) -> Result<(), String> {
 
 /// The bytes of the file, or of standard input.
 fn input(arguments: &Arguments) -> Result<Vec<u8>, String> {
-    match arguments.file.as_deref() {
-        None | Some("-") => {
+    input_of(arguments.file.as_deref().unwrap_or("-"))
+}
+
+fn input_of(name: &str) -> Result<Vec<u8>, String> {
+    match name {
+        "-" => {
             let mut bytes = Vec::new();
             io::stdin().read_to_end(&mut bytes).map_err(|error| error.to_string())?;
             Ok(bytes)
         }
-        Some(path) => fs::read(path).map_err(|error| format!("{path}: {error}")),
+        path => fs::read(path).map_err(|error| format!("{path}: {error}")),
     }
 }
 

@@ -9,10 +9,12 @@ mod faults;
 mod house_frame;
 mod listings;
 mod pairs;
+mod saves;
 mod tickets;
 mod timers;
 
 pub use listings::texts;
+pub use saves::files as saved_files;
 
 use crate::assemble::{
     addi, function, i_type, j_type, jr, lhu, lw, movi2s, movs2i, nop, opcode, r_type, rfe, sb,
@@ -155,6 +157,19 @@ impl Story {
         self.then(Command::Mend)
     }
 
+    fn save(self, offset: u64, output: u32) -> Self {
+        self.then(Command::Save { offset, output })
+    }
+
+    /// A piece of a saved file; the first one begins a new reading.
+    fn piece(self, new: bool, bytes: &[u8]) -> Self {
+        self.then(Command::Piece { bytes: bytes.to_vec(), new })
+    }
+
+    fn finish(self) -> Self {
+        self.then(Command::Finish)
+    }
+
     fn read(self, partition: u32, address: u32, count: u64, output: u32) -> Self {
         self.then(Command::Read { partition, address, count, output })
     }
@@ -187,7 +202,7 @@ pub fn scripts() -> Vec<Script> {
     let named = |(name, story): (&str, Story)| Script { name: name.into(), commands: story.0 };
     let scripts: Vec<Script> = groups.into_iter().flatten().map(named).collect();
     let unshadowed = engines::unshadowed(&scripts);
-    [scripts, unshadowed].concat()
+    [scripts, unshadowed, saves::scripts()].concat()
 }
 
 type Group = Vec<(&'static str, Story)>;

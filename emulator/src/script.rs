@@ -9,6 +9,7 @@ use crate::dlx::{decode, Guest};
 use crate::engines::Before;
 use crate::fields;
 use crate::house::{numbers, Answer, House};
+use crate::saved::Reading;
 use crate::tickets::Queue;
 
 /// The most words of lent memory: 257 frames, so that frame 0 and 256 pages have room.
@@ -19,10 +20,21 @@ pub const MOST_PARTITIONS: usize = 16;
 pub const MOST_LIST: usize = 4_096;
 /// The longest output of a read-out.
 pub const MOST_OUTPUT: usize = 4_096;
+/// The longest output of a save, in bytes.
+pub const MOST_SAVED: usize = 70_000;
+/// The longest piece of a saved file, in bytes.
+pub const MOST_PIECE: usize = 16_384;
+/// Byte i of a save's output is i modulo this number before the call.
+pub const SAVED_PATTERN: u32 = 251;
 /// Word i of a read-out's output is this number plus i before the call.
 pub const PATTERN: u32 = 3_405_691_582;
 /// The most words that the text shows of a read-out.
 const SHOWN: u64 = 8;
+/// The most bytes that are shown of a piece, for people.
+const SHOWN_BYTES: usize = 64;
+
+/// The mark of a piece that begins a new reading; with any other the reading goes on.
+const NEW: u32 = 1;
 
 /// Words of a command before its payload.
 const HEAD: usize = 4;
@@ -41,6 +53,9 @@ mod op {
     pub const CLEAR: u32 = 11;
     pub const AUDIT: u32 = 12;
     pub const MEND: u32 = 13;
+    pub const SAVE: u32 = 14;
+    pub const PIECE: u32 = 15;
+    pub const FINISH: u32 = 16;
     pub const UNSHADOWED: u32 = 17;
 }
 
@@ -61,6 +76,9 @@ pub enum Command {
     Clear,
     Audit,
     Mend,
+    Save { offset: u64, output: u32 },
+    Piece { bytes: Vec<u8>, new: bool },
+    Finish,
     Unshadowed { steps: u32 },
 }
 
@@ -76,6 +94,9 @@ impl Command {
             Command::Read { .. } => Some("read"),
             Command::Audit => Some("audit"),
             Command::Mend => Some("mend"),
+            Command::Save { .. } => Some("save"),
+            Command::Piece { .. } => Some("piece"),
+            Command::Finish => Some("finish"),
             Command::Unshadowed { .. } => Some("unshadowed"),
             _ => None,
         }
@@ -103,6 +124,20 @@ impl Command {
             Command::Clear => vec![op::CLEAR, 0, 0, 0],
             Command::Audit => vec![op::AUDIT, 0, 0, 0],
             Command::Mend => vec![op::MEND, 0, 0, 0],
+            Command::Save { offset, output } => {
+                vec![op::SAVE, *offset as u32, (*offset >> 32) as u32, *output]
+            }
+            Command::Piece { bytes, new } => {
+                let mark = if *new { NEW } else { 2 * bytes.len() as u32 };
+                let head = [op::PIECE, bytes.len() as u32, mark, 0];
+                let four = |some: &[u8]| {
+                    let mut word = [0; 4];
+                    word[..some.len()].copy_from_slice(some);
+                    u32::from_le_bytes(word)
+                };
+                head.into_iter().chain(bytes.chunks(4).map(four)).collect()
+            }
+            Command::Finish => vec![op::FINISH, 0, 0, 0],
             Command::Unshadowed { steps } => vec![op::UNSHADOWED, *steps, 0, 0],
         }
     }
@@ -126,6 +161,11 @@ impl Command {
             op::CLEAR => plain(Command::Clear),
             op::AUDIT => plain(Command::Audit),
             op::MEND => plain(Command::Mend),
+            op::SAVE if c as usize <= MOST_SAVED => {
+                plain(Command::Save { offset: u64::from(b) << 32 | u64::from(a), output: c })
+            }
+            op::PIECE => parse_piece(rest, a as usize, b == NEW),
+            op::FINISH => plain(Command::Finish),
             op::UNSHADOWED => plain(Command::Unshadowed { steps: a }),
             _ => None,
         }
@@ -148,6 +188,16 @@ fn parse_read(rest: &[u32], partition: u32, address: u32, output: u32) -> Option
     }
     let count = u64::from(high) << 32 | u64::from(low);
     Some((Command::Read { partition, address, count, output }, HEAD + 2))
+}
+
+fn parse_piece(rest: &[u32], length: usize, new: bool) -> Option<(Command, usize)> {
+    if length > MOST_PIECE {
+        return None;
+    }
+    let words = rest.get(..length.div_ceil(4))?;
+    let mut bytes: Vec<u8> = words.iter().flat_map(|word| word.to_le_bytes()).collect();
+    bytes.truncate(length);
+    Some((Command::Piece { bytes, new }, HEAD + words.len()))
 }
 
 /// The bytes of a script.
@@ -209,8 +259,23 @@ pub struct Player {
     /// The whole store; the house is lent the first `length` words of it.
     memory: Vec<u32>,
     length: usize,
+    /// The reading of a saved file.
+    reading: Reading,
     /// What was edited since the boot. It makes no difference but to the counts.
     edited: Edited,
+    /// Whether the house was read from a file. It makes no difference but to the counts.
+    restored: bool,
+}
+
+/// What a call tells besides its answer.
+#[derive(Default)]
+struct Told {
+    /// The output of a read-out, or of a save, each byte a word.
+    output: Vec<u32>,
+    /// How many bytes a save wrote.
+    written: usize,
+    /// The first stale entry.
+    stale: Option<Stale>,
 }
 
 impl Default for Player {
@@ -222,8 +287,14 @@ impl Default for Player {
 impl Player {
     /// The house of no partitions, memory zero and of no words.
     pub fn new() -> Self {
-        let edited = Edited::default();
-        Player { house: House::NONE, memory: vec![0; MOST_WORDS], length: 0, edited }
+        Player {
+            house: House::NONE,
+            memory: vec![0; MOST_WORDS],
+            length: 0,
+            reading: Reading::new(),
+            edited: Edited::default(),
+            restored: false,
+        }
     }
 
     /// The lent memory.
@@ -248,7 +319,7 @@ impl Player {
     }
 
     /// Commands that make this player like another with the same length, but for words that are not
-    /// lent.
+    /// lent and for the reading.
     pub fn changes(&self, to: &Player) -> Vec<Command> {
         let words = (0..).zip(self.lent().iter().zip(to.lent()));
         let pokes = words.filter(|(_, (from, to))| from != to);
@@ -271,24 +342,19 @@ impl Player {
             return None;
         };
         counts.audits.edited = self.edited;
-        let mut output = Vec::new();
-        let mut first = None;
-        let answer = match command {
-            Command::Audit => self.house.audit(self.lent(), counts).map(|stale| {
-                first = stale;
-                0
-            }),
-            _ => self.call(command, &mut output, counts),
-        };
+        let mut told = Told::default();
+        let answer = self.call(command, &mut told, counts);
         let (number, detail) = numbers(answer);
         counts.answers[number as usize] += 1;
         line(text, format_args!("call {name} -> {number} {detail}"));
         self.describe(text);
-        if matches!(command, Command::Read { .. }) {
-            describe_output(text, &output, answer);
-        }
-        if *command == Command::Audit && answer.is_ok() {
-            describe_stale(text, first);
+        match command {
+            Command::Read { .. } => describe_output(text, &told.output, answer),
+            Command::Audit if answer.is_ok() => describe_stale(text, told.stale),
+            Command::Save { .. } => {
+                line(text, format_args!("written {} {}", told.written, digest(&told.output)));
+            }
+            _ => {}
         }
         Some(answer)
     }
@@ -313,12 +379,16 @@ impl Player {
         lent[start..end].fill(value);
     }
 
-    fn call(&mut self, command: &Command, output: &mut Vec<u32>, counts: &mut Counts) -> Answer {
+    fn call(&mut self, command: &Command, told: &mut Told, counts: &mut Counts) -> Answer {
         match *command {
+            Command::Audit => {
+                told.stale = self.house.audit(self.lent(), counts)?;
+                Ok(0)
+            }
             Command::Boot { ref pages, q, ref frames } => {
                 let (house, answer) = House::boot(pages, q, frames, self.length);
                 self.house = house;
-                self.edited = Edited::default();
+                (self.edited, self.restored) = (Edited::default(), false);
                 answer
             }
             Command::Mend => {
@@ -332,21 +402,45 @@ impl Player {
             Command::Stop { partition } => self.house.stop(partition),
             Command::Empty { partition } => self.house.empty(partition, counts),
             Command::Read { partition, address, count, output: length } => {
-                *output = (0..length).map(|at| PATTERN + at).collect();
-                self.house.read_out(self.lent(), partition, address, count, output)
+                told.output = (0..length).map(|at| PATTERN + at).collect();
+                self.house.read_out(self.lent(), partition, address, count, &mut told.output)
             }
             Command::Run { steps } => {
                 let lent = &mut self.memory[..self.length];
-                self.house.run(lent, steps, counts)
+                let answer = self.house.run(lent, steps, counts);
+                counts.saves.went_on += u64::from(self.restored && steps > 0 && answer.is_ok());
+                answer
             }
             Command::Unshadowed { steps } => {
                 let lent = &mut self.memory[..self.length];
                 let before = Before::new(&self.house, lent);
                 let answer = self.house.run_unshadowed(lent, steps, counts);
                 counts.engines.ran(before, steps, answer, &self.house, lent);
+                counts.saves.went_on += u64::from(self.restored && steps > 0 && answer.is_ok());
                 if answer.is_ok() {
                     self.edited = Edited::default();
                 }
+                answer
+            }
+            Command::Save { offset, output } => {
+                let mut bytes: Vec<u8> = (0..output).map(|at| (at % SAVED_PATTERN) as u8).collect();
+                let answer = self.house.save(self.lent(), offset, &mut bytes, counts);
+                told.output = bytes.into_iter().map(u32::from).collect();
+                told.written = answer?;
+                Ok(0)
+            }
+            Command::Piece { ref bytes, new } => {
+                if new {
+                    self.reading = Reading::new();
+                }
+                self.edited.write(&self.house);
+                self.reading.piece(&mut self.memory[..self.length], bytes, counts).map(|()| 0)
+            }
+            Command::Finish => {
+                let read = std::mem::take(&mut self.reading).finish(counts);
+                (self.edited, self.restored) = (Edited::default(), read.is_ok());
+                let answer = read.as_ref().map_or_else(|&refusal| Err(refusal), |_| Ok(0));
+                self.house = read.unwrap_or(House::NONE);
                 answer
             }
             _ => unreachable!("not a call"),
@@ -461,6 +555,14 @@ impl fmt::Display for Command {
             Command::Clear => write!(f, "clear"),
             Command::Audit => write!(f, "audit"),
             Command::Mend => write!(f, "mend"),
+            Command::Save { offset, output } => write!(f, "save from {offset} output {output}"),
+            Command::Piece { bytes, new } => {
+                let new = if *new { " of a new reading" } else { "" };
+                write!(f, "piece{new}, {} bytes:", bytes.len())?;
+                bytes.iter().take(SHOWN_BYTES).try_for_each(|byte| write!(f, " {byte}"))?;
+                write!(f, "{}", if bytes.len() > SHOWN_BYTES { " .." } else { "" })
+            }
+            Command::Finish => write!(f, "finish"),
             Command::Unshadowed { steps } => write!(f, "unshadowed {steps}"),
         }
     }

@@ -111,6 +111,11 @@ impl Piece for Command {
                 .into_iter()
                 .map(|count| Command::Fill { index: *index, count, value: *value })
                 .collect(),
+            Command::Save { offset, output } => smaller(*output)
+                .into_iter()
+                .map(|output| Command::Save { offset: *offset, output })
+                .collect(),
+            Command::Piece { bytes, new } => simpler_pieces(bytes, *new),
             _ => Vec::new(),
         }
     }
@@ -138,6 +143,16 @@ fn simpler_boots(pages: &[u32], q: u32, frames: &[u32]) -> Vec<Command> {
     }
     boots.extend(smaller(q).into_iter().map(|q| boot(pages, q, frames)));
     boots
+}
+
+/// Pieces with fewer bytes, the last or the first ones away, or with a part of them zero.
+fn simpler_pieces(bytes: &[u8], new: bool) -> Vec<Command> {
+    let shorter = smaller(bytes.len() as u32);
+    let first = shorter.iter().map(|&length| bytes[..length as usize].to_vec());
+    let last = shorter.iter().map(|&length| bytes[bytes.len() - length as usize..].to_vec());
+    let zeroed = Stretch(bytes.to_vec()).zeroed_parts(0).into_iter().map(|stretch| stretch.0);
+    let simpler: Vec<Vec<u8>> = first.chain(last).chain(zeroed).collect();
+    simpler.into_iter().map(|bytes| Command::Piece { bytes, new }).collect()
 }
 
 /// A stretch of a house file: a record, or what is left of one.
@@ -170,7 +185,14 @@ impl Stretch {
 impl Piece for Stretch {
     /// The same record with a part of its body zero.
     fn simpler(&self) -> Vec<Self> {
-        let body = 10.min(self.0.len())..self.0.len();
+        self.zeroed_parts(10)
+    }
+}
+
+impl Stretch {
+    /// The same bytes with a part of them zero, from a place on.
+    fn zeroed_parts(&self, from: usize) -> Vec<Self> {
+        let body = from.min(self.0.len())..self.0.len();
         let size = body.len();
         let parts = [size, size / 2, size / 4, size / 16, size / 64, 4];
         let starts = |part: usize| body.clone().step_by(part.max(1)).map(move |at| (at, part));
@@ -182,9 +204,7 @@ impl Piece for Stretch {
             .take(2 * TOGETHER)
             .collect()
     }
-}
 
-impl Stretch {
     /// The record with some bytes zero, none if they were.
     fn zeroed(&self, start: usize, part: usize) -> Option<Stretch> {
         let mut bytes = self.0.clone();
@@ -218,6 +238,21 @@ mod tests {
         let commands = vec![Command::Run { steps: 900 }, Command::Clear];
         let small = shrink(commands, &mut |attempts| attempts.iter().position(long));
         assert_eq!(small, [Command::Run { steps: 37 }]);
+    }
+
+    #[test]
+    fn makes_pieces_small() {
+        let piece = |bytes: Vec<u8>| Command::Piece { bytes, new: true };
+        let needed = |attempt: &Vec<Command>| {
+            attempt
+                .iter()
+                .any(|one| matches!(one, Command::Piece { bytes, .. } if bytes.contains(&7)))
+        };
+        let mut bytes = vec![1; 1_000];
+        bytes[300] = 7;
+        let commands = vec![Command::Finish, piece(bytes), Command::Finish];
+        let small = shrink(commands, &mut |attempts| attempts.iter().position(needed));
+        assert_eq!(small, [piece(vec![7])]);
     }
 
     #[test]

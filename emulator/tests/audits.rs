@@ -4,9 +4,10 @@ mod common;
 
 use common::{last, play, After};
 use emulator::counts::Counts;
-use emulator::housefile::{audit, night};
+use emulator::housefile::night;
 use emulator::memory::shadow_entry;
 use emulator::named;
+use emulator::reads::audit;
 
 /// The call's answer and the stale entry that an audit told, if any.
 fn told(after: &After) -> ((u32, u64), Option<&str>) {

@@ -95,15 +95,38 @@ fn it_compares_audits_where_it_is_asked_to() {
 }
 
 #[test]
+fn it_compares_saved_files_where_it_is_asked_to() {
+    let run =
+        |option: &str, program: &str| emulator(&["compare", option, program, "--saved", "12"], b"");
+    for (option, program) in [("--save", "night"), ("--resume", "resume")] {
+        let output = run(option, &format!("'{EMULATOR}' {program}"));
+        let told = text(&output);
+        assert_eq!(output.status.code(), Some(0), "{told}");
+        assert!(told.contains(", of them saved ") && told.ends_with(" 0 differ\n"), "{told}");
+    }
+    // An offset that is wrong, and a file with a byte too many.
+    let shell = |line: &str| format!("sh -c \"{line}\" sh");
+    let wrong = shell(&format!("'{EMULATOR}' resume $@ | sed 's/^refused 17 22$/refused 17 23/'"));
+    let told = text(&run("--resume", &wrong));
+    assert!(told.contains("  expected: refused 17 22\n  given:    refused 17 23\n"), "{told}");
+    assert!(told.contains("smallest file, 1 records:\n  kind 5, 22 bytes"), "{told}");
+    let told = text(&run("--save", &shell(&format!("'{EMULATOR}' night $@; printf x >> $3"))));
+    assert!(told.contains("  expected: a saved file of 65"), "{told}");
+}
+
+#[test]
 fn it_compares_runs_without_shadows_where_it_is_asked_to() {
     let shell = |line: &str| format!("sh -c \"{line}\" sh");
-    let run =
-        |program: &str| emulator(&["compare", "--unshadowed", program, "--files", "240"], b"");
+    let run = |program: &str| emulator(&["compare", "--unshadowed", program, "--saved", "12"], b"");
     let output =
-        run(&shell(&format!("[ $# = 2 ] && [ $2 = unshadowed ] && '{EMULATOR}' night $@")));
+        run(&shell(&format!("[ $# != 3 ] && [ $2 = unshadowed ] && '{EMULATOR}' night $@")));
     let told = text(&output);
     assert_eq!(output.status.code(), Some(0), "{told}");
     assert!(told.contains("files of unshadowed by number: 0:"), "{told}");
+    assert!(told.contains(", of them saved ") && !told.contains(", of them saved 0\n"), "{told}");
+    let output = run(&shell(&format!("'{EMULATOR}' night $@; [ $# = 2 ] || printf x >> $4")));
+    let told = text(&output);
+    assert!(told.contains("  given:    a saved file of 1 bytes\n"), "{told}");
     let output =
         run(&shell(&format!("'{EMULATOR}' night $@ | sed 's/^refused 3 0$/refused 2 0/'")));
     let told = text(&output);
@@ -112,20 +135,58 @@ fn it_compares_runs_without_shadows_where_it_is_asked_to() {
 }
 
 #[test]
-fn night_runs_without_shadows_where_it_is_asked_to() {
-    let path = std::path::Path::new(env!("CARGO_TARGET_TMPDIR")).join("unshadowed.house");
-    let file = path.to_string_lossy();
+fn it_compares_what_programs_tell_of_either_file() {
+    let run = |options: &[&str]| {
+        let output = emulator(&[&["compare", "--reads", "60"], options].concat(), b"");
+        (output.status.code(), text(&output))
+    };
+    let program = |name: &str| format!("'{EMULATOR}' {name}");
+    let (look, readout, audit) = (program("look -"), program("readout -"), program("audit -"));
+    let all = ["--look", &look, "--readout", &readout, "--audit", &audit, "--files", "1"];
+    let (code, told) = run(&all);
+    assert_eq!(code, Some(0), "{told}");
+    for kinds in ["kinds of look: ", "kinds of readout: ", "kinds of audit of either: "] {
+        assert!(told.contains(kinds), "{told}");
+    }
+    let list = program("list -");
+    let (code, told) = run(&["--list", &list, "--words", "1"]);
+    assert_eq!(code, Some(0), "{told}");
+    assert!(told.contains("kinds of list with a frame: "), "{told}");
+    // PC for DPC, one word of many, and what standard error tells.
+    let (code, told) = run(&["--look", &spoilt("look -", "s/ESR \\([0-9]*\\)7,/ESR \\18,/")]);
+    assert_eq!(code, Some(1), "{told}");
+    assert!(told.contains(" differs in look:\n") && told.contains("smallest file, "), "{told}");
+    let shell = |line: &str| format!("sh -c \"{line}\" sh");
+    let wrong = shell(&format!("'{EMULATOR}' readout - $@ | sed 's/^refused 12/refused 13/'"));
+    let (code, told) = run(&["--readout", &wrong]);
+    assert_eq!(code, Some(1), "{told}");
+    assert!(told.contains("  readout FILE ") && told.contains("differs in readout:"), "{told}");
+    let quiet = shell(&format!("'{EMULATOR}' readout - $@ 2>&-"));
+    assert_eq!(run(&["--readout", &quiet]).0, Some(1));
+}
+
+#[test]
+fn it_resumes_what_it_saved() {
+    let folder = std::path::Path::new(env!("CARGO_TARGET_TMPDIR"));
+    let path = |name: &str| folder.join(name).to_string_lossy().into_owned();
+    let (house, one, two) = (path("resume.house"), path("resume.one"), path("resume.two"));
     let bytes = emulator::named::files().swap_remove(0).bytes;
-    std::fs::write(&path, &bytes).expect("a file");
-    let report = "partition pages steps mode dpc pc fault\n0 1 3 0 0 4 0\n";
-    assert_eq!(text(&emulator(&["night", &file], b"")), report);
-    assert_eq!(text(&emulator(&["night", &file, "unshadowed"], b"")), report);
-    assert_eq!(text(&emulator(&["night", "-", "unshadowed"], &bytes)), report);
+    std::fs::write(&house, bytes).expect("a file");
+    let head = "partition pages steps mode dpc pc fault\n";
+    let output = emulator(&["night", &house, "save", &one], b"");
+    assert_eq!(text(&output), format!("{head}0 1 3 0 0 4 0\n"));
+    let output = emulator(&["resume", &one, "1_000", "save", &two], b"");
+    assert!(text(&output).starts_with(&format!("{head}0 1 1003 0 ")), "{}", text(&output));
+    let output = emulator(&["resume", &house, "5", "save", &one], b"");
+    assert_eq!(text(&output), "refused 17 0\n");
+    // What was refused has written nothing.
+    assert_eq!(text(&emulator(&["resume", &one, "0"], b"")), format!("{head}0 1 3 0 0 4 0\n"));
+    assert_ne!(std::fs::read(&one).expect("a file"), std::fs::read(&two).expect("a file"));
 }
 
 #[test]
 fn it_compares_listings_where_it_is_asked_to() {
-    let sizes = ["--words", "70000", "--lines", "2700", "--alone", "60"];
+    let sizes = ["--words", "70000", "--lines", "2700", "--alone", "60", "--reads", "0"];
     let run = |list: &str, assemble: &str| {
         let alone = ["compare", "--list", list, "--assemble", assemble];
         emulator(&[&alone[..], &sizes].concat(), b"")
@@ -170,9 +231,14 @@ fn lists_and_assembles() {
 
 #[test]
 fn wrong_use_is_told() {
-    let cases: [&[&str]; 9] = [
-        &["night", "/dev/null", "shadowed"],
-        &["night", "/dev/null", "unshadowed", "unshadowed"],
+    let cases: [&[&str]; 14] = [
+        &["resume", "/dev/null", "1", "unshadowed"],
+        &["readout"],
+        &["night", "/dev/null", "save", "out", "unshadowed"],
+        &["resume", "one"],
+        &["resume", "one", "x"],
+        &["resume", "/dev/null", "1", "save"],
+        &["night", "/dev/null", "save"],
         &[],
         &["frob"],
         &["compare"],
@@ -193,8 +259,8 @@ fn wrong_use_is_told() {
 fn help_names_every_command() {
     let help = text(&emulator(&["help"], b""));
     for command in [
-        "compare", "play", "night", "audit", "list", "assemble", "show", "shrink", "generate",
-        "make", "form",
+        "compare", "play", "night", "resume", "audit", "look", "readout", "list", "assemble",
+        "show", "shrink", "generate", "make", "form",
     ] {
         assert!(help.contains(&format!("emulator {command}")), "{command}");
     }

@@ -82,10 +82,10 @@ fn wrong_commands_end_the_script() {
     let run = [2, 0, 0, 0];
     let cases: [&[u32]; 9] = [
         &[0, 0, 0, 0],
-        &[14, 0, 0, 0],
-        &[15, 0, 0, 0],
-        &[16, 0, 0, 0],
         &[18, 0, 0, 0],
+        &[14, 0, 0, 70_001],
+        &[15, 16_385, 0, 0],
+        &[15, 5, 0, 0, 0],
         &[1, 17, 1, 0],
         &[1, 1, 1, 4_097],
         &[6, 0, 0, 4_097, 0, 0],
@@ -175,6 +175,45 @@ fn audits_and_mends_are_calls() {
     assert!(stale.contains("\nshadow 3:6144\nmemory 2048 "), "{stale}");
     assert!(stale.contains("\nstale 0 3\ncall mend -> 0 1\n"), "{stale}");
     assert!(!text(&words(&[12, 0, 0, 0])).contains("stale"));
+}
+
+#[test]
+fn saves_and_readings_are_calls() {
+    let boot = [8, 2_048, 0, 0, 1, 1, 2, 1, 1, 1];
+    let of = |commands: &[u32]| text(&words(&[&boot[..], commands].concat()));
+    let after = |commands: &[u32]| of(commands).rsplit_once("\ncall ").unwrap().1.to_string();
+    let house = of(&[]).split_once('\n').unwrap().1.to_string();
+    // The first record: q 2, 2,048 words, partition 0, 2 left.
+    let turn = [16, 0, 0, 0, 5, 0, 2, 0, 0, 0, 0, 8, 0, 0, 0, 0, 0, 0, 2, 0, 0, 0];
+    let written = digest(&turn);
+    assert_eq!(after(&[14, 0, 0, 22]), format!("save -> 0 0\n{house}written 22 {written}\n"));
+    let length = 22 + 210 + 6 + 2 * 4_106 + 6;
+    let end = [0, 0, 0, 0, 4, 0].into_iter().chain((6..253).map(|at| at % 251));
+    let end = digest(&end.collect::<Vec<u32>>());
+    let end = format!("save -> 0 0\n{house}written 6 {end}\n");
+    assert_eq!(after(&[14, length - 6, 0, 253]), end);
+    let nothing = digest(&[0, 1]);
+    let behind = format!("save -> 0 0\n{house}written 0 {nothing}\n");
+    assert_eq!(after(&[14, 0, 1, 2]), behind);
+    assert!(text(&words(&[14, 0, 0, 2])).ends_with(&format!("\nwritten 0 {nothing}\n")));
+    // The same record as pieces; the words behind them count for nothing, and only 1 is a new reading.
+    let first = [15, 21, 1, 9, 16, 0x0002_0005, 0x0800_0000, 0, 0x0002_0000, 0xFFFF_FF00];
+    assert_eq!(after(&first), format!("piece -> 0 0\n{house}"));
+    let rest = |mark| [&first[..], &[15, 1, mark, 0, 0, 16, 0, 0, 0]].concat();
+    let none = "house 0 0 0 0 0 0 0 0 0 0 0 0 0\n";
+    assert!(
+        after(&rest(2)).starts_with(&format!("finish -> 17 22\n{none}")),
+        "{}",
+        after(&rest(2))
+    );
+    assert!(after(&rest(0)).starts_with("finish -> 17 22\n"));
+    assert!(after(&rest(u32::MAX)).starts_with("finish -> 17 22\n"));
+    assert!(after(&rest(1)).starts_with("finish -> 17 0\n"));
+    // Another size; and a wrong head, as soon as it is there.
+    let longer = [&first[..], &[8, 2_049, 0, 0, 15, 1, 0, 0, 0]].concat();
+    assert!(after(&longer).starts_with("piece -> 9 0\nhouse 1 "), "{}", after(&longer));
+    assert!(after(&[15, 5, 1, 0, 16, 6]).starts_with("piece -> 0 0\n"));
+    assert!(after(&[15, 6, 1, 0, 16, 6]).starts_with("piece -> 17 0\n"));
 }
 
 #[test]

@@ -9,7 +9,7 @@ use emulator::dlx::{decode, Cause, Guest, Instruction};
 use emulator::fields;
 use emulator::generate::{
     files, scripts, Script, ANSWERS_EACH, AUDITS_EACH, BESIDE_EACH, ENGINES_EACH, FAULTS_EACH,
-    PARTS_EACH, SCRIPT_NUMBERS, TIMERS_EACH,
+    PARTS_EACH, SAVES_EACH, SCRIPT_NUMBERS, TIMERS_EACH,
 };
 
 use emulator::house::{numbers, House, HOUSE_FRAME};
@@ -156,6 +156,17 @@ fn the_default_run_has_audits() {
 }
 
 #[test]
+fn the_default_run_saves_and_reads() {
+    let saves = &default_counts().saves;
+    for (name, met) in saves.kinds() {
+        assert!(met >= SAVES_EACH, "{name}: {saves:?}");
+    }
+    assert!(saves.finished[0] >= 60 && saves.went_on >= 100, "{saves:?}");
+    assert!(saves.saves[..3].iter().all(|&met| met >= 30), "{saves:?}");
+    assert!(saves.cuts.iter().all(|&met| met >= 100), "{saves:?}");
+}
+
+#[test]
 fn the_default_run_has_both_engines() {
     let engines = &default_counts().engines;
     for (name, met) in engines.kinds() {
@@ -258,8 +269,12 @@ fn refusals_change_nothing_and_done_calls_leave_no_damage() {
             let answer = player.play(command, &mut String::new(), &mut Counts::default());
             match answer {
                 None => continue,
+                // A piece writes right frames, and finish gives up the house.
+                Some(_) if matches!(command, Command::Piece { .. }) => {
+                    assert_eq!(player.house, house);
+                }
                 Some(Ok(_)) => assert!(!player.house.damaged(), "{}: {command}", one.name),
-                Some(Err(_)) if matches!(command, Command::Boot { .. }) => {
+                Some(Err(_)) if matches!(command, Command::Boot { .. } | Command::Finish) => {
                     assert_eq!(player.house, House::NONE);
                     assert_eq!(player.lent(), memory);
                 }

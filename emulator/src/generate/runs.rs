@@ -27,7 +27,8 @@ pub fn compose(draft: &mut Draft) {
     }
 }
 
-fn load_programs(draft: &mut Draft, pages: &[u32]) -> Vec<Program> {
+/// Gives every partition a program.
+pub fn load_programs(draft: &mut Draft, pages: &[u32]) -> Vec<Program> {
     let programs: Vec<Program> =
         (0..pages.len()).map(|own| program(&mut draft.rng, pages, own)).collect();
     for (partition, program) in programs.iter().enumerate() {
