@@ -11,8 +11,8 @@ use Rattle.decimal.specs.Texts.{ascii, same, joined}
 use Rattle.decimal.specs.Examples.{all}
 use Rattle.report.specs.Report.{field, line, refusedText}
 use Rattle.look.specs.Look.{named, causeOf, faultOf, stateOf, modeOf, headOf, interruptOf, faultLineOf, savedOf, specialsOf, registerOf, registersFrom, blockOf, turnOf, lookOf, printed}
-use Rattle.look.specs.Examples.{interrupts, lines}
+use Rattle.look.specs.Examples.{interrupts, guest, pair, lines}
 
 pub checked : all (interrupts ++ lines) ≡ true
-unfolding all same interrupts lines ascii joined decimalIn decimal field line refusedText levelOf trailingZeros bootedHouse laid offset listFrom named causeOf faultOf stateOf modeOf headOf interruptOf faultLineOf savedOf specialsOf registerOf registersFrom blockOf turnOf lookOf printed
+unfolding all same interrupts guest pair lines ascii joined decimalIn decimal field line refusedText levelOf trailingZeros bootedHouse laid offset listFrom named causeOf faultOf stateOf modeOf headOf interruptOf faultLineOf savedOf specialsOf registerOf registersFrom blockOf turnOf lookOf printed
 checked = refl

@@ -1,11 +1,14 @@
 -- Worked examples: each some bytes, and the text that they are. proofs/Checked.antt checks them by a single claim.
 use mathlib.Core.Bool.{true, false}
 use mathlib.Core.List.{List, [], _∷_, _++_}
-use Prim.Native.Nat.{ℕ, _-_, _^_}
+use Prim.Native.Nat.{ℕ, _+_, _-_, _^_}
 use Prim.Native.String.{String}
 use lib.ListN.{replicate}
 use Rattle.dlx.specs.Processor.{freshOf}
-use Rattle.house.specs.House.{noHouse}
+use Rattle.dlx.specs.declared.partition.Partition.{Partition}
+use Rattle.house.specs.Lists.{listFrom}
+use Rattle.house.specs.House.{noHouse, layout, guests, turn, withLayout, withTurn, withGuests}
+use Rattle.house.specs.declared.House.{House}
 use Rattle.house.specs.Boot.{verdict, bootedHouse}
 use Rattle.house.specs.Turns.{World, world}
 use Rattle.house.specs.Calls.{answered}
@@ -29,9 +32,43 @@ interrupts =
     ∷ (interruptOf (2 ^ 31) 0, "  latest interrupt: no cause, since ECA was written, EDATA 0\n")
     ∷ []
 
+-- a partition in which every number is another, from this one on
+unfoldable pub guest : ℕ → ℕ → ℕ → ℕ → ℕ → Partition
+guest from pages eca mode fault = record {
+  pages = pages;
+  processor = record {
+    dpc = from + 1;
+    pc = from + 2;
+    sr = from + 3;
+    esr = from + 4;
+    eca = eca;
+    epc = from + 6;
+    edpc = from + 7;
+    edata = from + 8;
+    mode = mode;
+    emode = from + 10;
+  };
+  table = record { pto = from + 11; ptl = from + 12 };
+  timer = record { tcount = from + 13; tload = from + 14 };
+  fault = fault;
+  counter = from + 15;
+}
+
+-- two of them: 0 is stopped, in user mode; 1 runs, in system mode. Their registers count from 300 on.
+unfoldable pub pair : House
+pair =
+    withGuests (withTurn (withLayout noHouse (layout 2 9 2048 [])) (false ∷ true ∷ []) (turn 1 5))
+    (guests (guest 100 3 64 1 5 ∷ guest 200 4 16 0 1 ∷ []) (listFrom (λ j. 300 + j) 0 64) [])
+
 unfoldable pub lines : List (List ℕ × String)
 lines =
-    (faultLineOf 0, "  latest translation fault: none\n")
+    (lookOf pair, "house: partitions 2, turn length 9, current 1, steps left 5\npartition 0: stopped, user mode, pages 3, steps 115\n  latest interrupt: ovf, an overflow, EDATA 108\n  latest translation fault: 5, a page that the guest does not have\n  DPC 101, PC 102, SR 103, ESR 104, ECA 64, EPC 106, EDPC 107\n  EDATA 108, MODE 1, PTO 111, PTL 112, EMODE 110, TCOUNT 113, TLOAD 114\n  r0: 300 301 302 303 304 305 306 307\n  r8: 308 309 310 311 312 313 314 315\n  r16: 316 317 318 319 320 321 322 323\n  r24: 324 325 326 327 328 329 330 331\npartition 1: running, system mode, pages 4, steps 215\n  latest interrupt: pfls, a page fault of a load or store, EDATA 208\n  latest translation fault: 1, a page not below PTL\n  DPC 201, PC 202, SR 203, ESR 204, ECA 16, EPC 206, EDPC 207\n  EDATA 208, MODE 0, PTO 211, PTL 212, EMODE 210, TCOUNT 213, TLOAD 214\n  r0: 332 333 334 335 336 337 338 339\n  r8: 340 341 342 343 344 345 346 347\n  r16: 348 349 350 351 352 353 354 355\n  r24: 356 357 358 359 360 361 362 363\n")
+    ∷ (faultLineOf 0, "  latest translation fault: none\n")
+    ∷ (faultLineOf 1, "  latest translation fault: 1, a page not below PTL\n")
+    ∷ (faultLineOf 2, "  latest translation fault: 2, a page above 1023\n")
+    ∷ (faultLineOf 3, "  latest translation fault: 3, a table entry outside the pages\n")
+    ∷ (faultLineOf 4, "  latest translation fault: 4, a table entry that is not valid\n")
+    ∷ (faultLineOf 5, "  latest translation fault: 5, a page that the guest does not have\n")
     ∷ (faultLineOf 6, "  latest translation fault: 6, a store to a protected page\n")
     ∷ (faultLineOf 7, "  latest translation fault: 7, an address beyond the pages in system mode\n")
     ∷ (headOf 7 false (freshOf 3), "partition 7: stopped, system mode, pages 3, steps 0\n")
