@@ -7,8 +7,10 @@ use Prim.Native.Nat.{ℕ, zero, suc, _+_, _-_, _*_, _%_, _^_, _<_, _≤_}
 use native.Mathlib.Omega.{arith}
 use borrow.Author.Tests.{eq-eqb}
 use lib.Count.{trailingZeros}
+use lib.Dec.{eqb}
 use lib.ListN.{length, getD, set, replicate, length-set}
 use lib.Seq.{getD-set-other}
+use Rattle.dlx.specs.Choice.{if_then_else_}
 use Rattle.dlx.specs.Words.{extendedBy, readIn, holds}
 use Rattle.dlx.specs.Instructions.{registerType, partType, instructionOf}
 use Rattle.dlx.specs.Fields.{field, put, width, brought, placed}
@@ -305,8 +307,8 @@ differ = (λ e. theirs (ap (λ (m : List ℕ). getD m 3072 0) e), λ e. none's (
     none's : getD (full .memory) 2048 0 ≡ getD (elsewhere 2048) 2048 0 → ⊥
     none's = unfold computing in λ e. omega (arith, e)
 
-apart-in-frame-0 : ApartInFrame0 (full .house) (full .memory) (elsewhere 5) 4
-apart-in-frame-0 = frame-0-demand (full .house) (full .memory) (elsewhere 5) 4 (fit-full .typed .shaped) (sym (length-set (full .memory) 5 7)) (λ x l. sym (getD-set-other (full .memory) 5 x 7 0 (λ e. omega arith)))
+apart-in-frame-0 : ApartInFrame0 (full .house) (full .memory) (elsewhere 1023) 4
+apart-in-frame-0 = frame-0-demand (full .house) (full .memory) (elsewhere 1023) 4 (fit-full .typed .shaped) (sym (length-set (full .memory) 1023 7)) (λ x l. sym (getD-set-other (full .memory) 1023 x 7 0 (λ e. omega arith)))
 
 -- a property of both frames of partition 0, and of partition 1's
 both : (P : ℕ → Type 0) → P 4 → P 1 → (k : ℕ) → k < pagesOf (full .house) 0 → P (getD (framesOf (full .house) 0) k 0)
@@ -407,15 +409,20 @@ agree-all (suc (suc i)) n k j l m = absurd (omega (arith, fit-full .count))
 pub run-isolated : runCall full 4 .world .house ≡ runCall (world (full .house) (elsewhere 2048)) 4 .world .house
 run-isolated = run-isolation (full .house) (full .memory) (elsewhere 2048) 4 (fit-full .typed .shaped) (sym (length-set (full .memory) 2048 7)) agree-all .1
 
--- word 5 is the house's own: a run of the same calls neither reads it nor changes it
-pub frame-0-unread : runCall full 4 .world .house ≡ runCall (world (full .house) (elsewhere 5)) 4 .world .house
+-- word 1,023 is the house's own, the last: a run of the same calls neither reads it nor changes it
+pub frame-0-verdict : runCall (world (full .house) (elsewhere 1023)) 4 .verdict ≡ verdict 0 4
+unfolding runCall
+frame-0-verdict = sym (apart-in-frame-0 .0) ∙ run-verdict full fit-full 4 (omega arith) (some 2 full-left)
+
+pub frame-0-unread : runCall full 4 .world .house ≡ runCall (world (full .house) (elsewhere 1023)) 4 .world .house
 frame-0-unread = apart-in-frame-0 .1
 
-pub frame-0-kept : getD (runCall (world (full .house) (elsewhere 5)) 4 .world .memory) 5 0 ≡ 7
-frame-0-kept = apart-in-frame-0 .4 5 (omega arith) ∙ (unfold computing in refl)
+pub frame-0-kept : (getD (runCall full 4 .world .memory) 1023 0 ≡ 0) × (getD (runCall (world (full .house) (elsewhere 1023)) 4 .world .memory) 1023 0 ≡ 7)
+frame-0-kept = (apart-in-frame-0 .3 1023 (omega arith) ∙ (unfold computing in refl), apart-in-frame-0 .4 1023 (omega arith) ∙ (unfold computing in refl))
 
-pub frames-agree : getD (runCall full 4 .world .memory) 1025 0 ≡ getD (runCall (world (full .house) (elsewhere 5)) 4 .world .memory) 1025 0
-frames-agree = apart-in-frame-0 .2 1025 (omega arith)
+-- every word behind it is the same in both
+pub frames-agree : (x : ℕ) → 1024 ≤ x → getD (runCall full 4 .world .memory) x 0 ≡ getD (runCall (world (full .house) (elsewhere 1023)) 4 .world .memory) x 0
+frames-agree = apart-in-frame-0 .2
 
 -- ---- demand 2
 
@@ -435,14 +442,21 @@ stepped-own = stepped .own
 pub stepped-other : loneOf (hostStep ended) 1 ≡ loneOf ended 1
 stepped-other = stepped .others 1 (unfold computing in omega arith) (λ e. omega (arith, ended-current))
 
+abbrev counted : ℕ → ℕ
+counted j = let n = partition (ended .house) j .counter in if eqb j (ended .house .current) then (n + 1) % 2 ^ 64 else n
+
 pub stepped-counters : (partition (hostStep ended .house) 0 .counter ≡ 11) × (partition (hostStep ended .house) 1 .counter ≡ 2)
-stepped-counters = (
-  stepped .counters 0 (unfold computing in omega arith) ∙ (unfold computing in refl),
-  stepped .counters 1 (unfold computing in omega arith) ∙ (unfold computing in refl),
-)
+stepped-counters =
+    let by-rule : (counted 0 ≡ 11) × (counted 1 ≡ 2) = unfold computing in (refl, refl) in
+    (stepped .counters 0 (unfold computing in omega arith) ∙ by-rule .0, stepped .counters 1 (unfold computing in omega arith) ∙ by-rule .1)
 
 pub stepped-turn : turn (hostStep ended .house .current) (hostStep ended .house .left) ≡ turn 0 1
-stepped-turn = stepped .turns ∙ (unfold computing loneAnswer loneAsks loneOf loneRead loneFound ruled in refl)
+stepped-turn =
+    let h = ended .house in
+    let i = h .current in
+    let by-rule : turnOf (h .running) (h .count) (h .q) i (h .left) 1 (step (loneMemory (pagesOf h i)) (loneAnswer ended i) (loneOf ended i) .0 .calls) ≡ turn 0 1 =
+    unfold computing loneAnswer loneAsks loneOf loneRead loneFound ruled in refl in
+    stepped .turns ∙ by-rule
 
 pub stepped-running : hostStep ended .house .running ≡ ended .house .running
 stepped-running = stepped .running
@@ -496,8 +510,8 @@ equal-by-counter =
     equal-counters two-guests (filling ++ emptying) aside 0 l (omega (arith, ten-turns)) (omega (arith, ten-aside)) same-answers
     (histories-demand two-guests (filling ++ emptying) 0 l .1 ∙ ap (λ (n : ℕ). n % 2 ^ 64) (ten-turns ∙ sym ten-aside) ∙ sym (histories-demand two-guests aside 0 l .1))
 
--- the counters tell for as long as a house can run: a million million calls of a million steps
-pub counters-tell : (cs cs′ : List Call) → turnsMade cs begun 0 ≤ 10 ^ 18 → turnsMade cs′ begun 0 ≤ 10 ^ 18 → SameAnswers two-guests cs cs′ 0
+-- the counters tell up to the last step before they go round
+pub counters-tell : (cs cs′ : List Call) → turnsMade cs begun 0 ≤ 2 ^ 64 - 1 → turnsMade cs′ begun 0 ≤ 2 ^ 64 - 1 → SameAnswers two-guests cs cs′ 0
     → partition (history cs begun .house) 0 .counter ≡ partition (history cs′ begun .house) 0 .counter
     → loneOf (history cs begun) 0 ≡ loneOf (history cs′ begun) 0
 counters-tell cs cs′ l l′ s e = equal-counters two-guests cs cs′ 0 (below-two 0 (omega arith)) (omega arith) (omega arith) s e
