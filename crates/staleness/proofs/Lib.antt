@@ -5,5 +5,6 @@ pub mod Lent
 pub mod Mending
 pub mod Promises
 pub mod Searching
+pub mod SixStale
 pub mod SoFar
 pub mod Verdicts
