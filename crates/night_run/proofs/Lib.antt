@@ -1,3 +1,4 @@
 pub mod Pieces
 pub mod Choices
 pub mod Files
+pub mod Instances
