@@ -12,7 +12,7 @@ use Rattle.dlx.specs.Interrupts.{levelOf, interrupted}
 use Rattle.dlx.specs.Timer.{ticked, raised}
 use Rattle.dlx.specs.Execute.{written, valueOf, overflowsOf, operated, reached, loads, stores, movedTo, trapOf, effectOf}
 use Rattle.dlx.specs.Machine.{executed, fetched, loaded, stored, accessed, received, afterRead, afterWrite, left, handled, changed, settled, retabled, step, steps, asked, requestOf, stretchFrom}
-use Rattle.dlx.specs.Examples.{once, booted, r, interrupt, same, pair, is-ill, answered, goes-on, ordinary, asking, tried, leaves-timed, leaves, plain, goes, by-opcode, by-function, opcode-orders, function-orders, opcode-in, function-in, jumps, links, reaches, gets, puts, enters, refuses, each, reads, moves, becomes, counts, behind-it, overflows, wraps, stretched, ends, fed, packing, brings, lays, papers, immediates, immediate-tests, functions, function-tests, jumping, edges, ill-opcodes, ill-functions, ill-specials, specials, causes, overflowing, bytes, halves, fields, field-causes, latest, latests, tickets, counting, rings, sets, beside, calling, later, timing, ringing, joining, stretches, all}
+use Rattle.dlx.specs.Examples.{once, booted, r, interrupt, same, pair, is-ill, answered, goes-on, ordinary, asking, tried, leaves-timed, leaves, plain, goes, by-opcode, by-function, opcode-orders, function-orders, opcode-in, function-in, jumps, links, reaches, gets, puts, enters, refuses, each, reads, moves, becomes, counts, behind-it, overflows, wraps, stretched, ends, fed, packing, brings, lays, papers, immediates, immediate-tests, functions, function-tests, jumping, edges, ill-opcodes, ill-functions, ill-specials, specials, causes, overflowing, bytes, halves, fields, field-causes, latest, latests, tickets, counting, passing, sets, causing, calling, later, falling, timing, ringing, joining, stretches, all}
 
 joined : (a b : List Bool) → all a ≡ true → all b ≡ true → all (a ++ b) ≡ true
 unfolding all
@@ -22,10 +22,10 @@ joined (false ∷ a) b e f = cc
 
 -- all that the examples compute with
 computing : ℕ
-unfolding all papers immediates immediate-tests functions function-tests jumping edges ill-opcodes ill-functions ill-specials specials causes overflowing bytes halves fields field-causes latest latests packing brings lays tickets counting rings sets beside calling later timing ringing joining stretches tried leaves-timed leaves plain goes by-opcode by-function opcode-orders function-orders opcode-in function-in jumps links reaches gets puts enters refuses each reads moves becomes counts behind-it overflows wraps stretched ends fed r interrupt same pair is-ill once answered goes-on ordinary asking booted step steps asked requestOf stretchFrom fetched executed loaded stored accessed received afterRead afterWrite left handled changed settled ticked raised retabled instructionOf registerType partType field put width brought placed effectOf written valueOf overflowsOf operated reached loads stores movedTo trapOf specialOf withSpecial withCount interrupted levelOf trailingZeros extendedBy readIn holds
+unfolding all papers immediates immediate-tests functions function-tests jumping edges ill-opcodes ill-functions ill-specials specials causes overflowing bytes halves fields field-causes latest latests packing brings lays tickets counting passing sets causing calling later falling timing ringing joining stretches tried leaves-timed leaves plain goes by-opcode by-function opcode-orders function-orders opcode-in function-in jumps links reaches gets puts enters refuses each reads moves becomes counts behind-it overflows wraps stretched ends fed r interrupt same pair is-ill once answered goes-on ordinary asking booted step steps asked requestOf stretchFrom fetched executed loaded stored accessed received afterRead afterWrite left handled changed settled ticked raised retabled instructionOf registerType partType field put width brought placed effectOf written valueOf overflowsOf operated reached loads stores movedTo trapOf specialOf withSpecial withCount interrupted levelOf trailingZeros extendedBy readIn holds
 computing = 0
 
-pub checked : all (papers ++ (immediates ++ (immediate-tests ++ (functions ++ (function-tests ++ (jumping ++ (edges ++ (ill-opcodes ++ (ill-functions ++ (ill-specials ++ (specials ++ (causes ++ (overflowing ++ (bytes ++ (halves ++ (fields ++ (field-causes ++ (latests ++ (tickets ++ (timing ++ (ringing ++ (joining ++ stretches)))))))))))))))))))))) ≡ true
+pub checked : all (papers ++ (immediates ++ (immediate-tests ++ (functions ++ (function-tests ++ (jumping ++ (edges ++ (ill-opcodes ++ (ill-functions ++ (ill-specials ++ (specials ++ (causes ++ (overflowing ++ (bytes ++ (halves ++ (fields ++ (field-causes ++ (latests ++ (tickets ++ (falling ++ (timing ++ (ringing ++ (joining ++ stretches))))))))))))))))))))))) ≡ true
 checked =
     joined papers _ of-papers (joined immediates _ of-immediates (joined immediate-tests _ of-immediate-tests (joined functions _ of-functions
     (joined function-tests _ of-function-tests (joined jumping _ of-jumping (joined edges _ of-edges
@@ -33,7 +33,7 @@ checked =
     (joined causes _ of-causes (joined overflowing _ of-overflowing
     (joined bytes _ of-bytes (joined halves _ of-halves (joined fields _ of-fields (joined field-causes _ of-field-causes
     (joined latests _ of-latests (joined tickets _ of-tickets
-    (joined timing _ of-timing (joined ringing _ of-ringing (joined joining _ of-joining of-stretches)))))))))))))))))))))
+    (joined falling _ of-falling (joined timing _ of-timing (joined ringing _ of-ringing (joined joining _ of-joining of-stretches))))))))))))))))))))))
   where
     of-papers : all papers ≡ true
     of-papers = unfold computing in refl
@@ -91,6 +91,9 @@ checked =
 
     of-tickets : all tickets ≡ true
     of-tickets = unfold computing in refl
+
+    of-falling : all falling ≡ true
+    of-falling = unfold computing in refl
 
     of-timing : all timing ≡ true
     of-timing = unfold computing in refl

@@ -866,19 +866,35 @@ counting tcount tload a p rs w =
 abbrev struck : ℕ → ℕ → ℕ → ℕ → ℕ → List ℕ
 struck sr mode dpc pc edata = 0 ∷ 4 ∷ 0 ∷ sr ∷ 8192 ∷ pc ∷ dpc ∷ edata ∷ 0 ∷ mode ∷ []
 
--- a step of w from DPC 8 and PC 20 in which TCOUNT falls from 1, with TLOAD 94: the processor, the registers and the words after it
-unfoldable pub rings : ℕ → ℕ → ℕ → List ℕ → List ℕ → List ℕ → List ℕ → List ℕ → Bool
-rings sr mode w rs ps seen rs′ ws = leaves-timed 94 94 (counting 1 94 (reply 0 77) (at 8 20 sr mode) rs w) ps 97 98 0 seen rs′ ws
+-- a step of w from DPC 8 and PC 20 that takes TCOUNT to tcount′, with TLOAD 94: the processor, the registers and the words after it
+unfoldable pub passing : ℕ → ℕ → ℕ → ℕ → ℕ → List ℕ → List ℕ → List ℕ → List ℕ → List ℕ → Bool
+passing tcount tcount′ sr mode w rs ps seen rs′ ws = leaves-timed tcount′ 94 (counting tcount 94 (reply 0 77) (at 8 20 sr mode) rs w) ps 97 98 0 seen rs′ ws
+
+-- where it falls from 1
+abbrev rings : ℕ → ℕ → ℕ → List ℕ → List ℕ → List ℕ → List ℕ → List ℕ → Bool
+rings = passing 1 94
+
+-- where it falls from 5, to which nothing else happens
+abbrev falls : ℕ → ℕ → ℕ → List ℕ → List ℕ → List ℕ → List ℕ → List ℕ → Bool
+falls = passing 5 4
 
 -- movi2s of x to special n in such a step, SR being 8256: the processor after it, and the timer
 unfoldable pub sets : ℕ → ℕ → List ℕ → ℕ → ℕ → Bool
 sets n x ps tcount tload =
     leaves-timed tcount tload (counting 1 94 (reply 0 77) (at 8 20 8256 0) (given x 219) (s-word 17 n)) ps 97 98 0 (8 ∷ []) (given x 219) (around (s-word 17 n))
 
--- a cause beside the timer's, in such a step from p: ECA, EDPC, EPC and EDATA, whether the guest calls, and the accesses
-unfoldable pub beside : Processor → List ℕ → ℕ → ℕ → ℕ → ℕ → ℕ → ℕ → List ℕ → Bool
-beside p rs w eca edpc epc edata calls seen =
-    leaves-timed 94 94 (counting 1 94 (reply 0 77) p rs w) (0 ∷ 4 ∷ 0 ∷ p .sr ∷ eca ∷ epc ∷ edpc ∷ edata ∷ 0 ∷ p .mode ∷ []) 97 98 calls seen rs (around w)
+-- a cause in a step from p that takes TCOUNT to tcount′, with TLOAD 94: ECA, EDPC, EPC and EDATA, whether the guest calls, and the accesses
+unfoldable pub causing : ℕ → ℕ → Processor → List ℕ → ℕ → ℕ → ℕ → ℕ → ℕ → ℕ → List ℕ → Bool
+causing tcount tcount′ p rs w eca edpc epc edata calls seen =
+    leaves-timed tcount′ 94 (counting tcount 94 (reply 0 77) p rs w) (0 ∷ 4 ∷ 0 ∷ p .sr ∷ eca ∷ epc ∷ edpc ∷ edata ∷ 0 ∷ p .mode ∷ []) 97 98 calls seen rs (around w)
+
+-- beside the timer's
+abbrev beside : Processor → List ℕ → ℕ → ℕ → ℕ → ℕ → ℕ → ℕ → List ℕ → Bool
+beside = causing 1 94
+
+-- alone, while TCOUNT falls
+abbrev meanwhile : Processor → List ℕ → ℕ → ℕ → ℕ → ℕ → ℕ → ℕ → List ℕ → Bool
+meanwhile = causing 5 4
 
 -- a ticket call of w in such a step, answered a: the registers after it
 unfoldable pub calling : ℕ → Reply → List ℕ → Bool
@@ -894,18 +910,43 @@ later n sr tcount tload tcount′ tload′ ps =
     let m = steps watched (λ _. reply 0 77) n (core (at 8 12 sr 0) known 3 (record { tcount = tcount; tload = tload }), record { table = tables; words = handler; seen = [] }) in
     same (m .0 .timer .tcount ∷ m .0 .timer .tload ∷ numbers (m .0 .processor)) (tcount′ ∷ tload′ ∷ ps)
 
-unfoldable pub timing : List Bool
-timing =
+unfoldable pub falling : List Bool
+falling =
     -- [TCOUNT falls] by one in every step, and not from 0; nothing else comes of it before it reaches 0
     later 1 open-both 5 94 4 94 (numbers (at 12 16 open-both 0))
     ∷ later 3 open-both 5 94 2 94 (numbers (at 20 24 open-both 0))
-    ∷ later 1 open-both 0xFFFFFFFF 94 0xFFFFFFFE 94 (numbers (at 12 16 open-both 0))
     ∷ later 3 open-both 0 94 0 94 (numbers (at 20 24 open-both 0))
-    -- in a step with a cause too
-    ∷ leaves-timed 4 94 (counting 5 94 (reply 0 77) (at 8 20 open-both 0) known 0) (0 ∷ 4 ∷ 0 ∷ 8256 ∷ 2 ∷ 20 ∷ 8 ∷ 95 ∷ 0 ∷ 0 ∷ []) 97 98 0 (8 ∷ []) known (around 0)
-    ∷ leaves-timed 4 94 (counting 5 94 (reply 0 77) (at 10 20 open-both 0) known 0) (0 ∷ 4 ∷ 0 ∷ 8256 ∷ 4 ∷ 20 ∷ 10 ∷ 95 ∷ 0 ∷ 0 ∷ []) 97 98 0 [] known (around 0)
+    -- [TCOUNT is a whole word] whose lower bits alone are 1, or 0
+    ∷ later 1 open-both 65537 94 65536 94 (numbers (at 12 16 open-both 0))
+    ∷ later 2 open-both 65537 94 65535 94 (numbers (at 16 20 open-both 0))
+    ∷ later 1 open-both 0x80000001 94 0x80000000 94 (numbers (at 12 16 open-both 0))
+    ∷ later 2 open-both 0x80000001 94 0x7FFFFFFF 94 (numbers (at 16 20 open-both 0))
+    ∷ later 1 open-both 0xFFFFFFFF 94 0xFFFFFFFE 94 (numbers (at 12 16 open-both 0))
+    -- [TCOUNT falls with a cause] ill, mal of DPC and of data, pff, pfls of a load and a store, trap in both modes, ovf
+    ∷ meanwhile (at 8 20 open-both 0) known 0 2 8 20 95 0 (8 ∷ [])
+    ∷ meanwhile (at 10 20 open-both 0) known 0 4 10 20 95 0 []
+    ∷ meanwhile (at 8 20 open-both 0) (given 17 219) (i-word 35 4) 4 8 20 95 0 (8 ∷ [])
+    ∷ meanwhile (at 48 20 open-both 0) known 0 8 48 20 48 0 (48 ∷ [])
+    ∷ meanwhile (at 8 20 open-both 1) (given 36 219) (i-word 35 12) 16 8 20 48 0 (49 ∷ 9 ∷ [])
+    ∷ meanwhile (at 8 20 open-both 0) (given 36 219) (i-word 43 12) 16 8 20 48 0 (50 ∷ 8 ∷ [])
+    ∷ meanwhile (at 8 20 open-both 0) known (j-word 62 7) 32 20 24 7 1 (8 ∷ [])
+    ∷ meanwhile (at 8 20 open-both 1) known (j-word 62 7) 32 20 24 7 0 (9 ∷ [])
+    ∷ meanwhile (at 8 20 open-both 0) (given 0x7FFFFFFF 1) (r-word 32) 64 20 24 95 0 (8 ∷ [])
+    -- [TCOUNT falls at every kind of step] a branch, rfe, a load, a store, movi2s to SR and to PTO, a ticket sent and taken
+    ∷ falls open-both 0 (i-word 4 40) (given 0 219) (numbers (at 20 60 open-both 0)) (8 ∷ []) (given 0 219) (around (i-word 4 40))
+    ∷ falls open-both 0 (j-word 63 0) known (100 ∷ 96 ∷ 91 ∷ 91 ∷ 92 ∷ 96 ∷ 100 ∷ 95 ∷ 1 ∷ 1 ∷ []) (8 ∷ []) known (around (j-word 63 0))
+    ∷ falls open-both 1 (i-word 35 4) (given 16 219) (numbers (at 20 24 open-both 1)) (21 ∷ 9 ∷ []) (set (given 16 219) 27 305) (around (i-word 35 4))
+    ∷ falls open-both 0 (i-word 43 4) (given 16 219) (numbers (at 20 24 open-both 0)) (22 ∷ 8 ∷ []) (given 16 219) (set (around (i-word 43 4)) 5 227)
+    ∷ falls open-both 0 (s-word 17 0) (given 7 219) (numbers (at 20 24 7 0)) (8 ∷ []) (given 7 219) (around (s-word 17 0))
+    ∷ leaves-timed 4 94 (counting 5 94 (reply 0 77) (at 8 20 open-both 0) (given 7 219) (s-word 17 7)) (numbers (at 20 24 open-both 0)) 7 98 0 (1 ∷ 8 ∷ []) (given 7 219) (around (s-word 17 7))
+    ∷ falls open-both 0 (j-word 62 256) known (numbers (at 20 24 open-both 0)) (8 ∷ []) (set known 3 0) (around (j-word 62 256))
+    ∷ falls open-both 0 (j-word 62 257) known (numbers (at 20 24 open-both 0)) (8 ∷ []) (set (set known 1 77) 3 0) (around (j-word 62 257))
+    ∷ []
+
+unfoldable pub timing : List Bool
+timing =
     -- [TCOUNT reaches 0] cause 13, and TLOAD again
-    ∷ later 1 8192 1 94 94 94 (struck 8192 0 12 16 95)
+    later 1 8192 1 94 94 94 (struck 8192 0 12 16 95)
     ∷ later 2 8192 2 94 94 94 (struck 8192 0 16 20 95)
     -- [TLOAD 0] it fires once and stops
     ∷ later 1 open-both 1 0 0 0 (struck open-both 0 12 16 95)
