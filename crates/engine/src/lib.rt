@@ -2,17 +2,18 @@
 // processor's numbers go by value; the latest translation fault is lent, so that only a step that faults touches it.
 ghost use mathlib.Core.Path.{_≡_};
 ghost use mathlib.Core.List.{List};
-ghost use Prim.Native.Nat.{ℕ};
+ghost use Prim.Native.Nat.{ℕ, _<_};
+ghost use mathlib.Core.Bool.{true, false};
 ghost use lib.ListN.{length};
 ghost use Rattle.dlx.specs.declared.partition.Timer.{Timer};
-ghost use Rattle.dlx.specs.Machine.{core, fetched, Asks, accessedAt, retabled, stretchFrom};
-ghost use Rattle.dlx.specs.Spells.{plainly, passedAt, spellFrom, legAt};
+ghost use Rattle.dlx.specs.Machine.{core, fetched, Asks, accessedAt, retabled, stepAt, stretchFrom};
+ghost use Rattle.dlx.specs.Spells.{sunk, plainly, passedAt};
 ghost use Rattle.tickets.specs.Queues.{queues, desk, Seated};
 ghost use Rattle.translate.specs.Walk.{entries};
 ghost use Rattle.translate.specs.Memory.{host, hostMemory};
 ghost use Rattle.translate.specs.Premises.{Placed, Shadowed};
 ghost use Rattle.plain.specs.Plain.{pairOf};
-ghost use Rattle.engine.specs.Answers.{Fits, spellOf, legOf, roomOf, stretchOf};
+ghost use Rattle.engine.specs.Answers.{Fits, walkedOf, roomOf, stretchOf, processorAt, tableAt, timerAt, listOf, Arrived, Happened, Leads, turnedOf};
 use dlx::execute::Access;
 use dlx::execute::Change;
 use dlx::execute::Effect;
@@ -28,20 +29,11 @@ pub struct Stepped {
     pub plain: bool,
 }
 
-// What a spell leaves beside the arrays: how many steps were made, and the change that ended it.
-pub struct Spelt {
-    pub processor: Processor,
-    pub timer: Timer,
-    pub made: u32,
-    pub change: Change,
-}
-
-// What a spell and its end leave beside the arrays, and whether the guest calls the hypervisor: a trap taken in system mode.
+// What a step of any kind leaves beside the arrays, and whether the guest calls the hypervisor: a trap taken in system mode.
 pub struct Walked {
     pub processor: Processor,
     pub table: Table,
     pub timer: Timer,
-    pub made: u32,
     pub calls: bool,
 }
 
@@ -215,8 +207,8 @@ fn at(p: Processor, dpc: u32, pc: u32) -> Processor
     r
 }
 
-// Up to n plain steps of one partition on end, or up to the first that is not.
-fn spell(
+// One step of any kind: then comes emptying.
+fn general(
     p: Processor,
     t: Table,
     k: Timer,
@@ -230,83 +222,11 @@ fn spell(
     tickets: &mut [u32],
     waiting: &mut [u32],
     latest: &mut u32,
-    n: u32,
-) -> Spelt
-    requires { ⌜ length (now regs) ≡ 32 ⌝ ∗ ⌜ Placed (now frames) pages (length (now words)) ⌝ ∗ ⌜ Shadowed (now frames) pages (now shadow) ⌝ ∗ ⌜ Seated count i (queues (now tickets) (now waiting)) ⌝ ∗ ⌜ Fits k n ⌝ }
-    ensures { λ r. ⌜ spellOf r t (now (regs .exit)) (now (latest .exit)) (now (words .exit)) (now (shadow .exit)) (queues (now (tickets .exit)) (now (waiting .exit))) ≡ spellFrom (hostMemory (now (frames .entry)) pages) (desk count i) n 0 (core p (now (regs .entry)) (now (latest .entry)) k, host t (now (words .entry)) (now (shadow .entry))) (queues (now (tickets .entry)) (now (waiting .entry))) ⌝ }
-{
-    let mut processor = p;
-    let mut rest = n;
-    while rest > 0 {
-        let q = quick::plain(processor, t, pages, regs, frames, shadow, words, rest);
-        let here = at(processor, q.dpc, q.pc);
-        let left = q.rest;
-        if left == 0 {
-            return Spelt {
-                processor: here,
-                timer: processor::timer::sink(k, n),
-                made: n,
-                change: Change::Plain(0, 0, 0),
-            };
-        }
-        let timer = processor::timer::sink(k, n - left);
-        let s = step(
-            here,
-            t,
-            timer,
-            pages,
-            regs,
-            frames,
-            shadow,
-            words,
-            count,
-            i,
-            tickets,
-            waiting,
-            latest,
-        );
-        let change = s.change;
-        processor = s.processor;
-        rest = left - 1;
-        if !s.plain {
-            let made = n - rest;
-            return Spelt {
-                processor,
-                timer,
-                made,
-                change,
-            };
-        }
-    }
-    Spelt {
-        processor,
-        timer: processor::timer::sink(k, n),
-        made: n,
-        change: Change::Plain(0, 0, 0),
-    }
-}
-
-// A spell of up to n steps, and its end: then comes emptying.
-fn leg(
-    p: Processor,
-    t: Table,
-    k: Timer,
-    pages: u32,
-    regs: &mut [u32],
-    frames: &[u32],
-    shadow: &mut [u32],
-    words: &mut [u32],
-    count: u32,
-    i: u32,
-    tickets: &mut [u32],
-    waiting: &mut [u32],
-    latest: &mut u32,
-    n: u32,
 ) -> Walked
-    requires { ⌜ length (now regs) ≡ 32 ⌝ ∗ ⌜ Placed (now frames) pages (length (now words)) ⌝ ∗ ⌜ Shadowed (now frames) pages (now shadow) ⌝ ∗ ⌜ Seated count i (queues (now tickets) (now waiting)) ⌝ ∗ ⌜ Fits k n ⌝ }
-    ensures { λ r. ⌜ legOf r (now (regs .exit)) (now (latest .exit)) (now (words .exit)) (now (shadow .exit)) (queues (now (tickets .exit)) (now (waiting .exit))) ≡ legAt (hostMemory (now (frames .entry)) pages) (desk count i) n (core p (now (regs .entry)) (now (latest .entry)) k, host t (now (words .entry)) (now (shadow .entry))) (queues (now (tickets .entry)) (now (waiting .entry))) ⌝ }
+    requires { ⌜ length (now regs) ≡ 32 ⌝ ∗ ⌜ Placed (now frames) pages (length (now words)) ⌝ ∗ ⌜ Shadowed (now frames) pages (now shadow) ⌝ ∗ ⌜ Seated count i (queues (now tickets) (now waiting)) ⌝ }
+    ensures { λ r. ⌜ walkedOf r (now (regs .exit)) (now (latest .exit)) (now (words .exit)) (now (shadow .exit)) (queues (now (tickets .exit)) (now (waiting .exit))) ≡ stepAt (hostMemory (now (frames .entry)) pages) (desk count i) (core p (now (regs .entry)) (now (latest .entry)) k, host t (now (words .entry)) (now (shadow .entry))) (queues (now (tickets .entry)) (now (waiting .entry))) ⌝ }
 {
-    let s = spell(
+    let s = step(
         p,
         t,
         k,
@@ -320,11 +240,9 @@ fn leg(
         tickets,
         waiting,
         latest,
-        n,
     );
     let change = s.change;
-    let before = processor::timer::sink(k, s.made - 1);
-    let e = processor::execute::settle(s.processor, before, change);
+    let e = processor::execute::settle(s.processor, k, change);
     let table = retable(t, shadow, change);
     let processor = e.processor;
     let timer = e.timer;
@@ -332,7 +250,6 @@ fn leg(
         processor,
         table,
         timer,
-        made: s.made,
         calls: e.calls,
     }
 }
@@ -348,6 +265,264 @@ fn room(k: Timer, rest: u32) -> u32
         return rest;
     }
     k.tcount
+}
+
+// A list of 14 numbers holds what a stretch changes of a partition: the special registers by their numbers, DPC and PC.
+fn processor_of(s: &[u32]) -> Processor
+    requires { ⌜ length (now s) ≡ 14 ⌝ }
+    ensures { λ r. ⌜ r ≡ processorAt (now (s .entry)) ⌝ }
+{
+    let dpc = s[12];
+    let pc = s[13];
+    let sr = s[0];
+    let esr = s[1];
+    let eca = s[2];
+    let epc = s[3];
+    let edpc = s[4];
+    let edata = s[5];
+    let mode = s[6];
+    let emode = s[9];
+    Processor {
+        dpc,
+        pc,
+        sr,
+        esr,
+        eca,
+        epc,
+        edpc,
+        edata,
+        mode,
+        emode,
+    }
+}
+
+fn table_of(s: &[u32]) -> Table
+    requires { ⌜ length (now s) ≡ 14 ⌝ }
+    ensures { λ r. ⌜ r ≡ tableAt (now (s .entry)) ⌝ }
+{
+    let pto = s[7];
+    let ptl = s[8];
+    Table { pto, ptl }
+}
+
+fn timer_of(s: &[u32]) -> Timer
+    requires { ⌜ length (now s) ≡ 14 ⌝ }
+    ensures { λ r. ⌜ r ≡ timerAt (now (s .entry)) ⌝ }
+{
+    let tcount = s[10];
+    let tload = s[11];
+    Timer { tcount, tload }
+}
+
+fn fill(s: &mut [u32], p: Processor, t: Table, k: Timer)
+    requires { ⌜ length (now s) ≡ 14 ⌝ }
+    ensures { λ r. ⌜ now (s .exit) ≡ listOf p t k ⌝ }
+{
+    s[0] = p.sr;
+    s[1] = p.esr;
+    s[2] = p.eca;
+    s[3] = p.epc;
+    s[4] = p.edpc;
+    s[5] = p.edata;
+    s[6] = p.mode;
+    s[7] = t.pto;
+    s[8] = t.ptl;
+    s[9] = p.emode;
+    s[10] = k.tcount;
+    s[11] = k.tload;
+    s[12] = p.dpc;
+    s[13] = p.pc;
+}
+
+// Plain steps were made in which the timer reached no 0.
+fn advance(s: &mut [u32], dpc: u32, pc: u32, made: u32)
+    requires { ⌜ length (now s) ≡ 14 ⌝ }
+    ensures { λ r. ⌜ now (s .exit) ≡ listOf (pairOf (processorAt (now (s .entry))) dpc pc) (tableAt (now (s .entry))) (sunk (timerAt (now (s .entry))) made) ⌝ }
+{
+    let p = at(processor_of(s), dpc, pc);
+    let t = table_of(s);
+    let k = processor::timer::sink(timer_of(s), made);
+    fill(s, p, t, k);
+}
+
+// A leg of plain steps was made: its end.
+fn arrive(s: &mut [u32], dpc: u32, pc: u32, made: u32)
+    requires { ⌜ length (now s) ≡ 14 ⌝ ∗ ⌜ Fits (timerAt (now s)) made ⌝ }
+    ensures { λ r. ⌜ Arrived (now (s .entry)) dpc pc made (now (s .exit)) ⌝ }
+{
+    let p = at(processor_of(s), dpc, pc);
+    let t = table_of(s);
+    let k = timer_of(s);
+    if k.tcount == 0 {
+        fill(s, p, t, k);
+        return;
+    }
+    if made < k.tcount {
+        fill(s, p, t, processor::timer::sink(k, made));
+        return;
+    }
+    let mut r = k;
+    r.tcount = k.tload;
+    if p.sr / 8192 % 2 == 1 {
+        let e = processor::interrupt::interrupt(p, Partition::TIMER, 0);
+        fill(s, e, t, r);
+        return;
+    }
+    fill(s, p, t, r);
+}
+
+// The step of a word that is rfe in system mode or a trap in user mode, where the timer reaches no 0 in it.
+fn event(s: &mut [u32], w: u32) -> bool
+    requires { ⌜ length (now s) ≡ 14 ⌝ ∗ ⌜ (timerAt (now s) .tcount ≡ 1 → ⊥) ⌝ }
+    ensures { λ r. ⌜ (r ≡ true → Happened (now (s .entry)) w (now (s .exit))) × (r ≡ false → now (s .exit) ≡ now (s .entry)) ⌝ }
+{
+    let p = processor_of(s);
+    let t = table_of(s);
+    let opcode = w / 67108864;
+    if opcode == 63 {
+        if p.mode == 1 {
+            return false;
+        }
+        let k = processor::timer::sink(timer_of(s), 1);
+        let e = processor::interrupt::return_from_exception(p);
+        fill(s, e, t, k);
+        return true;
+    }
+    if opcode == 62 {
+        if p.mode == 1 {
+            let imm = processor::words::extend(0x200_0000, w);
+            let k = processor::timer::sink(timer_of(s), 1);
+            let e = processor::interrupt::interrupt(p, Partition::TRAP, imm);
+            fill(s, e, t, k);
+            return true;
+        }
+        return false;
+    }
+    false
+}
+
+// What a leap leaves beside the lists: the steps still to make, and whether it may go on.
+pub struct Leapt {
+    pub left: u32,
+    pub on: bool,
+}
+
+// Some of n steps: plain ones, and a leg's end or one of those events.
+fn leap(
+    s: &mut [u32],
+    pages: u32,
+    regs: &mut [u32],
+    frames: &[u32],
+    shadow: &[u32],
+    words: &mut [u32],
+    n: u32,
+) -> Leapt
+    requires { ⌜ length (now s) ≡ 14 ⌝ ∗ ⌜ length (now regs) ≡ 32 ⌝ ∗ ⌜ Placed (now frames) pages (length (now words)) ⌝ ∗ ⌜ Shadowed (now frames) pages (now shadow) ⌝ ∗ ⌜ 0 < n ⌝ }
+    ensures { λ r. ⌜ (Leads (now (frames .entry)) pages (now (shadow .entry)) n (r .left) (now (s .entry)) (now (regs .entry)) (now (words .entry)) (now (s .exit)) (now (regs .exit)) (now (words .exit))) × (r .on ≡ true → r .left < n) × (length (now (s .exit)) ≡ 14) × (length (now (regs .exit)) ≡ length (now (regs .entry))) × (length (now (words .exit)) ≡ length (now (words .entry))) ⌝ }
+{
+    let p = processor_of(s);
+    let t = table_of(s);
+    let most = room(timer_of(s), n);
+    let q = quick::plain(s, p, t, pages, regs, frames, shadow, words, most);
+    let rest = q.rest;
+    let left = n - (most - rest);
+    if rest == 0 {
+        arrive(s, q.dpc, q.pc, most);
+        return Leapt { left, on: true };
+    }
+    advance(s, q.dpc, q.pc, most - rest);
+    if rest == 1 {
+        return Leapt { left, on: false };
+    }
+    if !event(s, q.word) {
+        return Leapt { left, on: false };
+    }
+    Leapt {
+        left: left - 1,
+        on: true,
+    }
+}
+
+// Steps up to n, or up to one that only the general step makes: how many are still to make.
+fn ahead(
+    s: &mut [u32],
+    pages: u32,
+    regs: &mut [u32],
+    frames: &[u32],
+    shadow: &[u32],
+    words: &mut [u32],
+    n: u32,
+) -> u32
+    requires { ⌜ length (now s) ≡ 14 ⌝ ∗ ⌜ length (now regs) ≡ 32 ⌝ ∗ ⌜ Placed (now frames) pages (length (now words)) ⌝ ∗ ⌜ Shadowed (now frames) pages (now shadow) ⌝ }
+    ensures { λ r. ⌜ (Leads (now (frames .entry)) pages (now (shadow .entry)) n r (now (s .entry)) (now (regs .entry)) (now (words .entry)) (now (s .exit)) (now (regs .exit)) (now (words .exit))) × (length (now (s .exit)) ≡ 14) × (length (now (regs .exit)) ≡ length (now (regs .entry))) × (length (now (words .exit)) ≡ length (now (words .entry))) ⌝ }
+{
+    let mut left = n;
+    while left > 0 {
+        let a = leap(s, pages, regs, frames, shadow, words, left);
+        left = a.left;
+        if !a.on {
+            return left;
+        }
+    }
+    left
+}
+
+// What a stretch leaves beside the lists: how many steps were made, and whether the last one called.
+pub struct Turned {
+    pub made: u32,
+    pub called: bool,
+}
+
+// Up to n steps of one partition whose numbers are lent, ending early after one that calls the hypervisor.
+pub fn turn(
+    state: &mut [u32],
+    pages: u32,
+    regs: &mut [u32],
+    frames: &[u32],
+    shadow: &mut [u32],
+    words: &mut [u32],
+    count: u32,
+    i: u32,
+    tickets: &mut [u32],
+    waiting: &mut [u32],
+    latest: &mut u32,
+    n: u32,
+) -> Turned
+    requires { ⌜ (length (now state) ≡ 14) × (length (now regs) ≡ 32) ⌝ ∗ ⌜ Placed (now frames) pages (length (now words)) ⌝ ∗ ⌜ Shadowed (now frames) pages (now shadow) ⌝ ∗ ⌜ Seated count i (queues (now tickets) (now waiting)) ⌝ }
+    ensures { λ r. ⌜ turnedOf r (now (state .exit)) (now (regs .exit)) (now (latest .exit)) (now (words .exit)) (now (shadow .exit)) (queues (now (tickets .exit)) (now (waiting .exit))) ≡ stretchFrom (hostMemory (now (frames .entry)) pages) (desk count i) n 0 (core (processorAt (now (state .entry))) (now (regs .entry)) (now (latest .entry)) (timerAt (now (state .entry))), host (tableAt (now (state .entry))) (now (words .entry)) (now (shadow .entry))) (queues (now (tickets .entry)) (now (waiting .entry))) ⌝ ∗ ⌜ length (now (state .exit)) ≡ 14 ⌝ }
+{
+    let mut rest = ahead(state, pages, regs, frames, shadow, words, n);
+    while rest > 0 {
+        let p = processor_of(state);
+        let t = table_of(state);
+        let k = timer_of(state);
+        let s = general(
+            p,
+            t,
+            k,
+            pages,
+            regs,
+            frames,
+            shadow,
+            words,
+            count,
+            i,
+            tickets,
+            waiting,
+            latest,
+        );
+        fill(state, s.processor, s.table, s.timer);
+        rest -= 1;
+        if s.calls {
+            let made = n - rest;
+            return Turned { made, called: true };
+        }
+        rest = ahead(state, pages, regs, frames, shadow, words, rest);
+    }
+    Turned {
+        made: n,
+        called: false,
+    }
 }
 
 // Up to n steps of one partition, ending early after one that calls the hypervisor.
@@ -370,57 +545,27 @@ pub fn stretch(
     requires { ⌜ length (now regs) ≡ 32 ⌝ ∗ ⌜ Placed (now frames) pages (length (now words)) ⌝ ∗ ⌜ Shadowed (now frames) pages (now shadow) ⌝ ∗ ⌜ Seated count i (queues (now tickets) (now waiting)) ⌝ }
     ensures { λ r. ⌜ stretchOf r (now (regs .exit)) (now (latest .exit)) (now (words .exit)) (now (shadow .exit)) (queues (now (tickets .exit)) (now (waiting .exit))) ≡ stretchFrom (hostMemory (now (frames .entry)) pages) (desk count i) n 0 (core p (now (regs .entry)) (now (latest .entry)) k, host t (now (words .entry)) (now (shadow .entry))) (queues (now (tickets .entry)) (now (waiting .entry))) ⌝ }
 {
-    let mut processor = p;
-    let mut table = t;
-    let mut timer = k;
-    let mut rest = n;
-    while rest > 0 {
-        let most = room(timer, rest);
-        let s = leg(
-            processor,
-            table,
-            timer,
-            pages,
-            regs,
-            frames,
-            shadow,
-            words,
-            count,
-            i,
-            tickets,
-            waiting,
-            latest,
-            most,
-        );
-        processor = s.processor;
-        table = s.table;
-        timer = s.timer;
-        rest -= s.made;
-        if rest == 0 {
-            return Stretched {
-                processor,
-                table,
-                timer,
-                made: n,
-                called: s.calls,
-            };
-        }
-        if s.calls {
-            let made = n - rest;
-            return Stretched {
-                processor,
-                table,
-                timer,
-                made,
-                called: true,
-            };
-        }
-    }
+    let mut state = [0u32; 14];
+    fill(&mut state, p, t, k);
+    let s = turn(
+        &mut state,
+        pages,
+        regs,
+        frames,
+        shadow,
+        words,
+        count,
+        i,
+        tickets,
+        waiting,
+        latest,
+        n,
+    );
     Stretched {
-        processor,
-        table,
-        timer,
-        made: n,
-        called: false,
+        processor: processor_of(&state),
+        table: table_of(&state),
+        timer: timer_of(&state),
+        made: s.made,
+        called: s.called,
     }
 }

@@ -29,7 +29,7 @@ use Rattle.translate.specs.Walk.{direct}
 use Rattle.translate.specs.Memory.{wordIn, updated, Host, host, hosted, looked, served, hostRead, hostReads, hostWritten, hostWrites, emptied, hostMemory}
 use Rattle.translate.specs.Premises.{Placed, Shadowed}
 use Rattle.shadow.proofs.Served.{served-inside}
-use Rattle.plain.specs.Plain.{seenOf, holdsOf, pairOf, performed, Does}
+use Rattle.plain.specs.Plain.{seenOf, holdsOf, heldOf, pairOf, performed, Does}
 
 pub not-true : (b : Bool) → not b ≡ true → b ≡ false
 not-true true e = sym e
@@ -53,6 +53,14 @@ module _ (fr : List ℕ) (n : ℕ) where
       rw q (served-inside fr n (host t ws sh) (host t ws sh) u a p s (sym (seen-served t ws sh u a g)) g)
 
 -- ---- a load and a store that need no walk
+
+-- another frame than the one that holds the table
+pub not-held : (fr : List ℕ) (n : ℕ) (t : Table) (f h : ℕ) → h ≡ heldOf fr n t → (f ≡ h → ⊥) → false ≡ holdsOf fr n t f
+unfolding holdsOf heldOf
+not-held fr n t f h e d =
+    by-test (ltb (t .pto) n)
+    (λ b. let x : h ≡ getD fr (t .pto) 0 = e ∙ simp b in let y : eqb (getD fr (t .pto) 0) f ≡ false = ne-eqb _ _ (λ q. d (sym (x ∙ q))) in simp (b, y))
+    (λ b. simp b)
 
 -- a store into a frame that does not hold the table empties nothing
 emptied-none : (fr : List ℕ) (n : ℕ) (t : Table) (f off : ℕ) (sh : List ℕ) → holdsOf fr n t f ≡ false → emptied fr n t f off sh ≡ sh

@@ -4,10 +4,10 @@ use mathlib.Core.Bool.{Bool, true, false, not, _||_}
 use mathlib.Core.List.{List}
 use Prim.Native.Nat.{ℕ, _+_, _*_, _/_, _%_, _^_, _-_, _<_, _≤_}
 use lib.Dec.{ltb, leb, eqb}
-use lib.ListN.{getD}
+use lib.ListN.{length, getD}
 use Rattle.dlx.specs.Choice.{if_then_else_}
 use Rattle.dlx.specs.Words.{plus}
-use Rattle.dlx.specs.Processor.{user, wentTo}
+use Rattle.dlx.specs.Processor.{user, wentTo, noTimer, specialOf}
 use Rattle.dlx.specs.Machine.{Ops, Core, core, Desk, accessedAt}
 use Rattle.dlx.specs.Spells.{plainly, passed, sunk, spellFrom}
 use Rattle.dlx.specs.declared.partition.Table.{Table}
@@ -26,6 +26,14 @@ seenOf fr n sh user a = if user then getD sh (a / 4096) 0 else hosted fr (direct
 -- whether a frame holds the table
 unfoldable pub holdsOf : List ℕ → ℕ → Table → ℕ → Bool
 holdsOf fr n t f = if ltb (t .pto) n then eqb (getD fr (t .pto) 0) f else false
+
+-- the frame that holds the table, or a number that is no frame's
+unfoldable pub heldOf : List ℕ → ℕ → Table → ℕ
+heldOf fr n t = if ltb (t .pto) n then getD fr (t .pto) 0 else 4294967295
+
+-- a list whose first numbers are the special registers by their numbers, but TCOUNT and TLOAD
+abbrev pub Numbered : List ℕ → Processor → Table → Type 0
+Numbered s p t = (length s ≡ 14) × ((n : ℕ) → n < 10 → getD s n 0 ≡ specialOf p t noTimer n)
 
 -- a processor at another pair
 abbrev pub pairOf : Processor → ℕ → ℕ → Processor

@@ -16,10 +16,9 @@ ghost use Rattle.dlx.specs.declared.execute.Change.the-variants.{Plain};
 ghost use Rattle.dlx.specs.declared.execute.Effect.the-variants.{Done};
 ghost use Rattle.translate.specs.Walk.{entries};
 ghost use Rattle.translate.specs.Premises.{Listed, Placed, Shadowed};
-ghost use Rattle.plain.specs.Plain.{seenOf, holdsOf, Does};
+ghost use Rattle.plain.specs.Plain.{seenOf, heldOf, Numbered, Does};
 use dlx::partition::Processor;
 use dlx::partition::Table;
-use dlx::partition::Timer;
 use dlx::words::wide;
 use translate::ENTRIES;
 
@@ -41,16 +40,16 @@ pub fn seen(frames: &[u32], shadow: &[u32], pages: u32, user: bool, a: u32) -> u
     shadow::straight(frames, pages, a)
 }
 
-// Whether a frame holds the table.
-fn holds(frames: &[u32], pages: u32, t: Table, frame: u32) -> bool
+// The frame that holds the table, or a number that is no frame's.
+pub fn held(frames: &[u32], pages: u32, t: Table) -> u32
     requires { ⌜ Listed (now frames) pages ⌝ }
-    ensures { λ r. ⌜ r ≡ holdsOf (now (frames .entry)) pages t frame ⌝ }
+    ensures { λ r. ⌜ r ≡ heldOf (now (frames .entry)) pages t ⌝ }
 {
     let pto = t.pto;
     if pto >= pages {
-        return false;
+        return 0xFFFF_FFFF;
     }
-    frames[wide(pto)] == frame
+    frames[wide(pto)]
 }
 
 // Register rd becomes v.
@@ -134,6 +133,7 @@ fn load(
 fn store(
     p: Processor,
     t: Table,
+    held: u32,
     pages: u32,
     frames: &[u32],
     shadow: &[u32],
@@ -145,7 +145,7 @@ fn store(
     y: u32,
     target: &mut u32,
 ) -> bool
-    requires { ⌜ Placed (now frames) pages (length (now words)) ⌝ ∗ ⌜ Shadowed (now frames) pages (now shadow) ⌝ ∗ ⌜ storing o ≡ true ⌝ }
+    requires { ⌜ Placed (now frames) pages (length (now words)) ⌝ ∗ ⌜ Shadowed (now frames) pages (now shadow) ⌝ ∗ ⌜ storing o ≡ true ⌝ ∗ ⌜ held ≡ heldOf (now frames) pages t ⌝ }
     ensures { λ r. ⌜ (r ≡ true → (page : ℕ) (rs : List ℕ) → Does (now (frames .entry)) pages p t page y (now (target .exit)) rs rs (now (words .entry)) (now (words .exit)) (now (shadow .entry)) (λ _ _. stores o v x imm)) × (r ≡ false → now (words .exit) ≡ now (words .entry)) ⌝ }
 {
     let a = std::num::wrapping_add_u32(x, imm);
@@ -157,7 +157,7 @@ fn store(
         return false;
     }
     let frame = e / 4096;
-    if holds(frames, pages, t, frame) {
+    if frame == held {
         return false;
     }
     let i = wide(frame) * 1024 + wide(a / 4 % 1024);
@@ -214,6 +214,7 @@ fn test(k: u32, a: u32, b: u32) -> u32
 
 // A special register read in system mode, but TCOUNT and TLOAD.
 fn read_special(
+    specials: &[u32],
     p: Processor,
     t: Table,
     regs: &mut [u32],
@@ -222,7 +223,7 @@ fn read_special(
     y: u32,
     target: &mut u32,
 ) -> bool
-    requires { ⌜ rd < length (now regs) ⌝ }
+    requires { ⌜ rd < length (now regs) ⌝ ∗ ⌜ Numbered (now specials) p t ⌝ }
     ensures { λ r. ⌜ (r ≡ true → (user p ≡ false) × (n < 10) × (now (regs .exit) ≡ written (now (regs .entry)) rd (specialOf p t noTimer n)) × (now (target .exit) ≡ plus y 4)) × (r ≡ false → now (regs .exit) ≡ now (regs .entry)) ⌝ }
 {
     if p.mode == 1 {
@@ -231,21 +232,12 @@ fn read_special(
     if n >= 10 {
         return false;
     }
-    let none = Timer {
-        tcount: 0,
-        tload: 0,
-    };
-    put(
-        regs,
-        rd,
-        processor::special::special(p, t, none, n),
-        y,
-        target,
-    )
+    put(regs, rd, specials[wide(n)], y, target)
 }
 
 // The words of opcode 0.
 fn register_type(
+    specials: &[u32],
     p: Processor,
     t: Table,
     w: u32,
@@ -255,7 +247,7 @@ fn register_type(
     y: u32,
     target: &mut u32,
 ) -> bool
-    requires { ⌜ length (now regs) ≡ 32 ⌝ ∗ ⌜ rs1 ≡ rs1Of w ⌝ ∗ ⌜ rs2 ≡ rs2Of w ⌝ }
+    requires { ⌜ length (now regs) ≡ 32 ⌝ ∗ ⌜ rs1 ≡ rs1Of w ⌝ ∗ ⌜ rs2 ≡ rs2Of w ⌝ ∗ ⌜ Numbered (now specials) p t ⌝ }
     ensures { λ r. ⌜ (r ≡ true → (fr : List ℕ) (n page : ℕ) (ws sh : List ℕ) → Does fr n p t page y (now (target .exit)) (now (regs .entry)) (now (regs .exit)) ws ws sh (λ k c. effectOf c t k (now (regs .entry)) (registerType w))) × (r ≡ false → now (regs .exit) ≡ now (regs .entry)) ⌝ }
 {
     let a = regs[rs1];
@@ -268,7 +260,7 @@ fn register_type(
         36 => put(regs, rd, a & b, y, target),
         37 => put(regs, rd, a | b, y, target),
         38 => put(regs, rd, a ^ b, y, target),
-        16 => read_special(p, t, regs, rd, w / 64 % 32, y, target),
+        16 => read_special(specials, p, t, regs, rd, w / 64 % 32, y, target),
         _ => {
             if function < 40 {
                 return false;
@@ -306,8 +298,10 @@ fn test_type(
 
 // The instruction w, if it is plain. PC and the target are told from the page's first address.
 pub fn act(
+    specials: &[u32],
     p: Processor,
     t: Table,
+    held: u32,
     pages: u32,
     w: u32,
     page: u32,
@@ -318,7 +312,7 @@ pub fn act(
     words: &mut [u32],
     target: &mut u32,
 ) -> bool
-    requires { ⌜ length (now regs) ≡ 32 ⌝ ∗ ⌜ Placed (now frames) pages (length (now words)) ⌝ ∗ ⌜ Shadowed (now frames) pages (now shadow) ⌝ }
+    requires { ⌜ length (now regs) ≡ 32 ⌝ ∗ ⌜ Placed (now frames) pages (length (now words)) ⌝ ∗ ⌜ Shadowed (now frames) pages (now shadow) ⌝ ∗ ⌜ Numbered (now specials) p t ⌝ ∗ ⌜ held ≡ heldOf (now frames) pages t ⌝ }
     ensures { λ r. ⌜ (r ≡ true → Does (now (frames .entry)) pages p t page y (now (target .exit)) (now (regs .entry)) (now (regs .exit)) (now (words .entry)) (now (words .exit)) (now (shadow .entry)) (λ k c. effectOf c t k (now (regs .entry)) (instructionOf w))) × (r ≡ false → (now (regs .exit) ≡ now (regs .entry)) × (now (words .exit) ≡ now (words .entry))) ⌝ }
 {
     let rs1 = wide(w / 2097152 % 32);
@@ -346,7 +340,21 @@ pub fn act(
         43 => {
             let x = regs[rs1];
             let v = regs[rd];
-            store(p, t, pages, frames, shadow, words, 43, v, x, imm, y, target)
+            store(
+                p,
+                t,
+                held,
+                pages,
+                frames,
+                shadow,
+                words,
+                43,
+                v,
+                x,
+                imm,
+                y,
+                target,
+            )
         }
         8 => {
             let x = regs[rs1];
@@ -399,7 +407,7 @@ pub fn act(
             link(regs, page, y);
             to(std::num::wrapping_add_u32(y, far), target)
         }
-        0 => register_type(p, t, w, regs, rs1, rd, y, target),
+        0 => register_type(specials, p, t, w, regs, rs1, rd, y, target),
         32 => {
             let x = regs[rs1];
             load(
@@ -471,13 +479,84 @@ pub fn act(
         40 => {
             let x = regs[rs1];
             let v = regs[rd];
-            store(p, t, pages, frames, shadow, words, 40, v, x, imm, y, target)
+            store(
+                p,
+                t,
+                held,
+                pages,
+                frames,
+                shadow,
+                words,
+                40,
+                v,
+                x,
+                imm,
+                y,
+                target,
+            )
         }
         41 => {
             let x = regs[rs1];
             let v = regs[rd];
-            store(p, t, pages, frames, shadow, words, 41, v, x, imm, y, target)
+            store(
+                p,
+                t,
+                held,
+                pages,
+                frames,
+                shadow,
+                words,
+                41,
+                v,
+                x,
+                imm,
+                y,
+                target,
+            )
         }
-        _ => test_type(opcode, regs, rs1, rd, imm, y, target),
+        24 => test_type(opcode, regs, rs1, rd, imm, y, target),
+        25 => test_type(opcode, regs, rs1, rd, imm, y, target),
+        26 => test_type(opcode, regs, rs1, rd, imm, y, target),
+        27 => test_type(opcode, regs, rs1, rd, imm, y, target),
+        28 => test_type(opcode, regs, rs1, rd, imm, y, target),
+        29 => test_type(opcode, regs, rs1, rd, imm, y, target),
+        30 => test_type(opcode, regs, rs1, rd, imm, y, target),
+        31 => test_type(opcode, regs, rs1, rd, imm, y, target),
+        1 => false,
+        6 => false,
+        7 => false,
+        9 => false,
+        11 => false,
+        16 => false,
+        17 => false,
+        18 => false,
+        19 => false,
+        20 => false,
+        21 => false,
+        34 => false,
+        38 => false,
+        39 => false,
+        42 => false,
+        44 => false,
+        45 => false,
+        46 => false,
+        47 => false,
+        48 => false,
+        49 => false,
+        50 => false,
+        51 => false,
+        52 => false,
+        53 => false,
+        54 => false,
+        55 => false,
+        56 => false,
+        57 => false,
+        58 => false,
+        59 => false,
+        60 => false,
+        61 => false,
+        62 => false,
+        63 => false,
+        _ => false,
     }
 }

@@ -32,7 +32,7 @@ use Rattle.translate.specs.Premises.{Placed, Shadowed}
 use Rattle.shadow.proofs.Served.{served-inside}
 use Rattle.plain.specs.Plain.{seenOf, pairOf, performed, Does}
 use Rattle.plain.proofs.Laws.{not-false, seen-served, seen-inside}
-use Rattle.quick.specs.Quick.{awayOf, Cached, Goes}
+use Rattle.quick.specs.Quick.{awayOf, Cached, Goes, Found}
 
 -- ---- an address in the page
 
@@ -115,7 +115,7 @@ module _ (fr : List ℕ) (n : ℕ) (sh : List ℕ) (page base : ℕ) where
 
   module _ (t : Table) (p : Processor) (low : page < 2 ^ 32) (cached : Cached fr n sh (user p) page base) where
     -- the fetch in a cached page
-    cached-fetch : (x y w : ℕ) (regs ws : List ℕ) (latest : ℕ) (k : Timer) → awayOf x ≡ false → w ≡ getD ws (base + x / 4) 0 → fetched (hostMemory fr n) (core (pairOf p (plus x page) (plus y page)) regs latest k, host t ws sh) ≡ ((effectOf (pairOf p (plus x page) (plus y page)) t k regs (instructionOf w), core (pairOf p (plus x page) (plus y page)) regs latest k), host t ws sh)
+    pub cached-fetch : (x y w : ℕ) (regs ws : List ℕ) (latest : ℕ) (k : Timer) → awayOf x ≡ false → w ≡ getD ws (base + x / 4) 0 → fetched (hostMemory fr n) (core (pairOf p (plus x page) (plus y page)) regs latest k, host t ws sh) ≡ ((effectOf (pairOf p (plus x page) (plus y page)) t k regs (instructionOf w), core (pairOf p (plus x page) (plus y page)) regs latest k), host t ws sh)
     cached-fetch x y w regs ws latest k a e =
         let i = inside page x low (cached .first) a in
         let q = seen-same fr n sh (user p) (plus x page) page (i .0) in
@@ -155,11 +155,20 @@ module _ (fr : List ℕ) (n : ℕ) (t : Table) (sh : List ℕ) (k : ℕ) (p : Pr
         ∙ ap (λ (j : ℕ). spellFrom (hostMemory fr n) (desk count i) k made (core (pairOf p (p .dpc) j) regs latest c, host t ws sh) z) b,
   )
 
-  pub goes-quit : (d q d′ q′ rest rest′ : ℕ) (regs₀ ws₀ regs ws : List ℕ) → (d ≡ d′) × (q ≡ q′) × (rest ≡ rest′) → Goes fr n t sh k rest′ p regs₀ ws₀ (pairOf p d′ q′) regs ws → Goes fr n t sh k rest p regs₀ ws₀ (pairOf p d q) regs ws
-  goes-quit d q d′ q′ rest rest′ regs₀ ws₀ regs ws (a, b, c) g =
+  pub goes-quit : (d q d′ q′ rest rest′ w w′ : ℕ) (regs₀ ws₀ regs ws : List ℕ) → (d ≡ d′) × (q ≡ q′) × (rest ≡ rest′) × (w ≡ w′) → Goes fr n t sh k rest′ p regs₀ ws₀ (pairOf p d′ q′) regs ws → Goes fr n t sh k rest p regs₀ ws₀ (pairOf p d q) regs ws
+  goes-quit d q d′ q′ rest rest′ w w′ regs₀ ws₀ regs ws (a, b, c, _) g =
       subst (λ (j : ℕ). Goes fr n t sh k rest p regs₀ ws₀ (pairOf p j q) regs ws) (sym a)
       (subst (λ (j : ℕ). Goes fr n t sh k rest p regs₀ ws₀ (pairOf p d′ j) regs ws) (sym b)
       (subst (λ (j : ℕ). Goes fr n t sh k j p regs₀ ws₀ (pairOf p d′ q′) regs ws) (sym c) g))
+
+  pub found-quit : (d q d′ q′ rest rest′ w w′ : ℕ) (regs ws : List ℕ) → (d ≡ d′) × (q ≡ q′) × (rest ≡ rest′) × (w ≡ w′) → Found fr n t sh (pairOf p d′ q′) regs ws w′ → Found fr n t sh (pairOf p d q) regs ws w
+  found-quit d q d′ q′ rest rest′ w w′ regs ws (a, b, c, e) g =
+      subst (λ (j : ℕ). Found fr n t sh (pairOf p j q) regs ws w) (sym a)
+      (subst (λ (j : ℕ). Found fr n t sh (pairOf p d′ j) regs ws w) (sym b)
+      (subst (λ (j : ℕ). Found fr n t sh (pairOf p d′ q′) regs ws j) (sym e) g))
+
+  pub found-none : (q : Processor) (regs ws : List ℕ) → Found fr n t sh q regs ws 0
+  found-none q regs ws l = absurd (omega (arith, l))
 
 -- ---- the page of an address
 

@@ -5,17 +5,18 @@ ghost use lib.ListN.{length, getD};
 ghost use Rattle.dlx.specs.Words.{plus};
 ghost use Rattle.dlx.specs.Processor.{user};
 ghost use Rattle.translate.specs.Premises.{Placed, Shadowed};
-ghost use Rattle.plain.specs.Plain.{pairOf};
-ghost use Rattle.quick.specs.Quick.{awayOf, Cached, Goes};
+ghost use Rattle.plain.specs.Plain.{pairOf, Numbered};
+ghost use Rattle.quick.specs.Quick.{awayOf, Cached, Goes, Found};
 use dlx::partition::Processor;
 use dlx::partition::Table;
 use dlx::words::wide;
 
-// What a run of plain steps leaves beside the registers and the words: how many of the steps are still to make.
+// What a run of plain steps leaves beside the registers and the words: how many of the steps are still to make, and the word at DPC, or 0 where it was not read.
 pub struct Quick {
     pub dpc: u32,
     pub pc: u32,
     pub rest: u32,
+    pub word: u32,
 }
 
 // No word of a page begins so far behind its first address.
@@ -34,16 +35,22 @@ fn fetch(page: &[u32], x: u32) -> u32
 }
 
 // The pair x and y behind the page's first address.
-fn quit(page: u32, x: u32, y: u32, rest: u32) -> Quick
-    ensures { λ r. ⌜ (r .dpc ≡ plus x page) × (r .pc ≡ plus y page) × (r .rest ≡ rest) ⌝ }
+fn quit(page: u32, x: u32, y: u32, rest: u32, word: u32) -> Quick
+    ensures { λ r. ⌜ (r .dpc ≡ plus x page) × (r .pc ≡ plus y page) × (r .rest ≡ rest) × (r .word ≡ word) ⌝ }
 {
     let dpc = std::num::wrapping_add_u32(x, page);
     let pc = std::num::wrapping_add_u32(y, page);
-    Quick { dpc, pc, rest }
+    Quick {
+        dpc,
+        pc,
+        rest,
+        word,
+    }
 }
 
 // Plain steps in one page, whose frame begins at a word of the memory, up to k.
 fn in_page(
+    specials: &[u32],
     p: Processor,
     t: Table,
     pages: u32,
@@ -55,21 +62,24 @@ fn in_page(
     words: &mut [u32],
     k: u32,
 ) -> Quick
-    requires { ⌜ length (now regs) ≡ 32 ⌝ ∗ ⌜ Placed (now frames) pages (length (now words)) ⌝ ∗ ⌜ Shadowed (now frames) pages (now shadow) ⌝ ∗ ⌜ Cached (now frames) pages (now shadow) (user p) page base ⌝ }
-    ensures { λ r. ⌜ (Goes (now (frames .entry)) pages t (now (shadow .entry)) k (r .rest) p (now (regs .entry)) (now (words .entry)) (pairOf p (r .dpc) (r .pc)) (now (regs .exit)) (now (words .exit))) × (length (now (regs .exit)) ≡ length (now (regs .entry))) × (length (now (words .exit)) ≡ length (now (words .entry))) ⌝ }
+    requires { ⌜ length (now regs) ≡ 32 ⌝ ∗ ⌜ Placed (now frames) pages (length (now words)) ⌝ ∗ ⌜ Shadowed (now frames) pages (now shadow) ⌝ ∗ ⌜ Cached (now frames) pages (now shadow) (user p) page base ⌝ ∗ ⌜ Numbered (now specials) p t ⌝ }
+    ensures { λ r. ⌜ (Goes (now (frames .entry)) pages t (now (shadow .entry)) k (r .rest) p (now (regs .entry)) (now (words .entry)) (pairOf p (r .dpc) (r .pc)) (now (regs .exit)) (now (words .exit))) × (length (now (regs .exit)) ≡ length (now (regs .entry))) × (length (now (words .exit)) ≡ length (now (words .entry))) × (Found (now (frames .entry)) pages t (now (shadow .entry)) (pairOf p (r .dpc) (r .pc)) (now (regs .exit)) (now (words .exit)) (r .word)) ⌝ }
 {
+    let held = plain::held(frames, pages, t);
     let mut x = std::num::wrapping_sub_u32(p.dpc, page);
     let mut y = std::num::wrapping_sub_u32(p.pc, page);
     let mut rest = k;
     while rest > 0 {
         if away(x) {
-            return quit(page, x, y, rest);
+            return quit(page, x, y, rest, 0);
         }
         let w = fetch(&words[base..base + 1024], x);
         let mut target: u32 = 0;
         if !plain::act(
+            specials,
             p,
             t,
+            held,
             pages,
             w,
             page,
@@ -80,17 +90,18 @@ fn in_page(
             words,
             &mut target,
         ) {
-            return quit(page, x, y, rest);
+            return quit(page, x, y, rest, w);
         }
         x = y;
         y = target;
         rest -= 1;
     }
-    quit(page, x, y, rest)
+    quit(page, x, y, rest, 0)
 }
 
 // Plain steps up to k.
 pub fn plain(
+    specials: &[u32],
     p: Processor,
     t: Table,
     pages: u32,
@@ -100,8 +111,8 @@ pub fn plain(
     words: &mut [u32],
     k: u32,
 ) -> Quick
-    requires { ⌜ length (now regs) ≡ 32 ⌝ ∗ ⌜ Placed (now frames) pages (length (now words)) ⌝ ∗ ⌜ Shadowed (now frames) pages (now shadow) ⌝ }
-    ensures { λ r. ⌜ (Goes (now (frames .entry)) pages t (now (shadow .entry)) k (r .rest) p (now (regs .entry)) (now (words .entry)) (pairOf p (r .dpc) (r .pc)) (now (regs .exit)) (now (words .exit))) × (length (now (regs .exit)) ≡ length (now (regs .entry))) × (length (now (words .exit)) ≡ length (now (words .entry))) ⌝ }
+    requires { ⌜ length (now regs) ≡ 32 ⌝ ∗ ⌜ Placed (now frames) pages (length (now words)) ⌝ ∗ ⌜ Shadowed (now frames) pages (now shadow) ⌝ ∗ ⌜ Numbered (now specials) p t ⌝ }
+    ensures { λ r. ⌜ (Goes (now (frames .entry)) pages t (now (shadow .entry)) k (r .rest) p (now (regs .entry)) (now (words .entry)) (pairOf p (r .dpc) (r .pc)) (now (regs .exit)) (now (words .exit))) × (length (now (regs .exit)) ≡ length (now (regs .entry))) × (length (now (words .exit)) ≡ length (now (words .entry))) × (Found (now (frames .entry)) pages t (now (shadow .entry)) (pairOf p (r .dpc) (r .pc)) (now (regs .exit)) (now (words .exit)) (r .word)) ⌝ }
 {
     let dpc = p.dpc;
     let e = plain::seen(frames, shadow, pages, p.mode == 1, dpc);
@@ -110,9 +121,22 @@ pub fn plain(
             dpc,
             pc: p.pc,
             rest: k,
+            word: 0,
         };
     }
     let page = dpc / 4096 * 4096;
     let base = wide(e / 4096) * 1024;
-    in_page(p, t, pages, page, base, regs, frames, shadow, words, k)
+    in_page(
+        specials,
+        p,
+        t,
+        pages,
+        page,
+        base,
+        regs,
+        frames,
+        shadow,
+        words,
+        k,
+    )
 }

@@ -47,7 +47,7 @@ slice-read-x c = search needs
 
 -- src/lib.rt:345:13
 load-requires : tie.Need-load-requires
-load-requires c κs = let s = c .before .before .before .before .before .before .before .before .before .before .before .before in (s .pre .0, (s .pre .1 .0, (s .pre .1 .1, (refl, omega (arith, c .before .before .before .before .before .before .wide2 .ensures)))))
+load-requires c κs = let s = c .before .before .before .before .before .before .before .before .before .before .before .before .before in (s .pre .0, (s .pre .1 .0, (s .pre .1 .1 .0, (refl, omega (arith, c .before .before .before .before .before .before .wide2 .ensures)))))
 
 -- src/lib.rt:348:21
 mul-x-2 : tie.Need-mul-x-2
@@ -67,7 +67,7 @@ slice-read-v c = search needs
 
 -- src/lib.rt:350:13
 store-requires : tie.Need-store-requires
-store-requires c κs = search needs
+store-requires c κs = let s = c .before .before .before .before .before .before .before .before .before .before .before .before .before in (s .pre .1 .0, (s .pre .1 .1 .0, (refl, s .pre .1 .1 .1 .1)))
 
 -- src/lib.rt:353:21
 mul-x-3 : tie.Need-mul-x-3
@@ -243,7 +243,7 @@ to-requires-4 c κs = search needs
 
 -- src/lib.rt:403:14
 register-type-requires : tie.Need-register-type-requires
-register-type-requires c κs = search needs
+register-type-requires c κs = let s = c .before .before .before .before .before .before .before .before .before .before .before in (s .pre .0, (c .before .before .before .before .before .wide .ensures, (c .before .before .before .before .wide2 .ensures, s .pre .1 .1 .1 .0)))
 
 -- src/lib.rt:405:21
 mul-x-12 : tie.Need-mul-x-12
@@ -255,7 +255,7 @@ slice-read-x-12 c = search needs
 
 -- src/lib.rt:406:13
 load-requires-2 : tie.Need-load-requires-2
-load-requires-2 c κs = let s = c .before .before .before .before .before .before .before .before .before .before .before .before in (s .pre .0, (s .pre .1 .0, (s .pre .1 .1, (refl, omega (arith, c .before .before .before .before .before .before .wide2 .ensures)))))
+load-requires-2 c κs = let s = c .before .before .before .before .before .before .before .before .before .before .before .before .before in (s .pre .0, (s .pre .1 .0, (s .pre .1 .1 .0, (refl, omega (arith, c .before .before .before .before .before .before .wide2 .ensures)))))
 
 -- src/lib.rt:409:21
 mul-x-13 : tie.Need-mul-x-13
@@ -267,7 +267,7 @@ slice-read-x-13 c = search needs
 
 -- src/lib.rt:410:13
 load-requires-3 : tie.Need-load-requires-3
-load-requires-3 c κs = let s = c .before .before .before .before .before .before .before .before .before .before .before .before in (s .pre .0, (s .pre .1 .0, (s .pre .1 .1, (refl, omega (arith, c .before .before .before .before .before .before .wide2 .ensures)))))
+load-requires-3 c κs = let s = c .before .before .before .before .before .before .before .before .before .before .before .before .before in (s .pre .0, (s .pre .1 .0, (s .pre .1 .1 .0, (refl, omega (arith, c .before .before .before .before .before .before .wide2 .ensures)))))
 
 -- src/lib.rt:413:21
 mul-x-14 : tie.Need-mul-x-14
@@ -279,7 +279,7 @@ slice-read-x-14 c = search needs
 
 -- src/lib.rt:414:13
 load-requires-4 : tie.Need-load-requires-4
-load-requires-4 c κs = let s = c .before .before .before .before .before .before .before .before .before .before .before .before in (s .pre .0, (s .pre .1 .0, (s .pre .1 .1, (refl, omega (arith, c .before .before .before .before .before .before .wide2 .ensures)))))
+load-requires-4 c κs = let s = c .before .before .before .before .before .before .before .before .before .before .before .before .before in (s .pre .0, (s .pre .1 .0, (s .pre .1 .1 .0, (refl, omega (arith, c .before .before .before .before .before .before .wide2 .ensures)))))
 
 -- src/lib.rt:417:21
 mul-x-15 : tie.Need-mul-x-15
@@ -291,7 +291,7 @@ slice-read-x-15 c = search needs
 
 -- src/lib.rt:418:13
 load-requires-5 : tie.Need-load-requires-5
-load-requires-5 c κs = let s = c .before .before .before .before .before .before .before .before .before .before .before .before in (s .pre .0, (s .pre .1 .0, (s .pre .1 .1, (refl, omega (arith, c .before .before .before .before .before .before .wide2 .ensures)))))
+load-requires-5 c κs = let s = c .before .before .before .before .before .before .before .before .before .before .before .before .before in (s .pre .0, (s .pre .1 .0, (s .pre .1 .1 .0, (refl, omega (arith, c .before .before .before .before .before .before .wide2 .ensures)))))
 
 -- src/lib.rt:421:21
 mul-x-16 : tie.Need-mul-x-16
@@ -311,7 +311,7 @@ slice-read-v-2 c = search needs
 
 -- src/lib.rt:423:13
 store-requires-2 : tie.Need-store-requires-2
-store-requires-2 c κs = search needs
+store-requires-2 c κs = let s = c .before .before .before .before .before .before .before .before .before .before .before .before .before in (s .pre .1 .0, (s .pre .1 .1 .0, (refl, s .pre .1 .1 .1 .1)))
 
 -- src/lib.rt:426:21
 mul-x-17 : tie.Need-mul-x-17
@@ -331,11 +331,32 @@ slice-read-v-3 c = search needs
 
 -- src/lib.rt:428:13
 store-requires-3 : tie.Need-store-requires-3
-store-requires-3 c κs = search needs
+store-requires-3 c κs = let s = c .before .before .before .before .before .before .before .before .before .before .before .before .before in (s .pre .1 .0, (s .pre .1 .1 .0, (refl, s .pre .1 .1 .1 .1)))
 
 -- src/lib.rt:430:14
 test-type-requires : tie.Need-test-type-requires
 test-type-requires c κs = search needs
+
+test-type-requires-2 : tie.Need-test-type-requires-2
+test-type-requires-2 c κs = search needs
+
+test-type-requires-3 : tie.Need-test-type-requires-3
+test-type-requires-3 c κs = search needs
+
+test-type-requires-4 : tie.Need-test-type-requires-4
+test-type-requires-4 c κs = search needs
+
+test-type-requires-5 : tie.Need-test-type-requires-5
+test-type-requires-5 c κs = search needs
+
+test-type-requires-6 : tie.Need-test-type-requires-6
+test-type-requires-6 c κs = search needs
+
+test-type-requires-7 : tie.Need-test-type-requires-7
+test-type-requires-7 c κs = search needs
+
+test-type-requires-8 : tie.Need-test-type-requires-8
+test-type-requires-8 c κs = search needs
 
 -- src/lib.rt:322:1
 same-length : tie.Need-same-length
@@ -347,7 +368,7 @@ same-length-2 c = search needs
 
 -- src/lib.rt:322:1
 returns : tie.Need-returns
-returns c = let s = c .before .before .before .before .before .before .before .before .before .before .before .before .before .before .before in let e = c .before .before .load .ensures in (λ r. load-arm (s .args .frames .now) (s .args .pages) (s .args .p) (s .args .t) (s .args .page) (s .args .y) (s .args .regs .now) (s .args .words .now) (s .args .shadow .now) (s .args .w) _ _ _ (c .before .before .before .before .before .before .before .before .before .wide2 .ensures) (c .before .before .before .before .before .before .before .before .before .before .wide .ensures) (c .before .before .before .before .before .before .before .before .extend .ensures) 35 _ _ (o-35 (s .args .w) (c .before .before .before .before .before .before .before .match .keys1)) (e .0 r), λ q. (e .1 q, refl))
+returns c = let s = c .before .before .before .before .before .before .before .before .before .before .before .before .before .before .before .before in let e = c .before .before .load .ensures in (λ r. load-arm (s .args .frames .now) (s .args .pages) (s .args .p) (s .args .t) (s .args .page) (s .args .y) (s .args .regs .now) (s .args .words .now) (s .args .shadow .now) (s .args .w) _ _ _ (c .before .before .before .before .before .before .before .before .before .wide2 .ensures) (c .before .before .before .before .before .before .before .before .before .before .wide .ensures) (c .before .before .before .before .before .before .before .before .extend .ensures) 35 _ _ (o-35 (s .args .w) (c .before .before .before .before .before .before .before .match .keys1)) (e .0 r), λ q. (e .1 q, refl))
 
 -- src/lib.rt:322:1
 same-length-3 : tie.Need-same-length-3
@@ -355,7 +376,7 @@ same-length-3 c = search needs
 
 -- src/lib.rt:322:1
 returns-2 : tie.Need-returns-2
-returns-2 c = let s = c .before .before .before .before .before .before .before .before .before .before .before .before .before .before .before in let e = c .before .before .store .ensures in (λ r. store-arm (s .args .frames .now) (s .args .pages) (s .args .p) (s .args .t) (s .args .page) (s .args .y) (s .args .regs .now) (s .args .words .now) (s .args .shadow .now) (s .args .w) _ _ _ (c .before .before .before .before .before .before .before .before .before .wide2 .ensures) (c .before .before .before .before .before .before .before .before .before .before .wide .ensures) (c .before .before .before .before .before .before .before .before .extend .ensures) 43 _ _ (o-43 (s .args .w) (c .before .before .before .before .before .before .before .match .keys2)) (e .0 r), λ q. (refl, e .1 q))
+returns-2 c = let s = c .before .before .before .before .before .before .before .before .before .before .before .before .before .before .before .before in let e = c .before .before .store .ensures in (λ r. store-arm (s .args .frames .now) (s .args .pages) (s .args .p) (s .args .t) (s .args .page) (s .args .y) (s .args .regs .now) (s .args .words .now) (s .args .shadow .now) (s .args .w) _ _ _ (c .before .before .before .before .before .before .before .before .before .wide2 .ensures) (c .before .before .before .before .before .before .before .before .before .before .wide .ensures) (c .before .before .before .before .before .before .before .before .extend .ensures) 43 _ _ (o-43 (s .args .w) (c .before .before .before .before .before .before .before .match .keys2)) (e .0 r), λ q. (refl, e .1 q))
 
 -- src/lib.rt:322:1
 same-length-4 : tie.Need-same-length-4
@@ -363,7 +384,7 @@ same-length-4 c = search needs
 
 -- src/lib.rt:322:1
 returns-3 : tie.Need-returns-3
-returns-3 c = let s = c .before .before .before .before .before .before .before .before .before .before .before .before .before .before in let e = c .before .before .add .ensures in (λ r. sum-arm (s .args .frames .now) (s .args .pages) (s .args .p) (s .args .t) (s .args .page) (s .args .y) (s .args .regs .now) (s .args .words .now) (s .args .shadow .now) (s .args .w) _ _ _ (c .before .before .before .before .before .before .before .before .wide2 .ensures) (c .before .before .before .before .before .before .before .before .before .wide .ensures) (c .before .before .before .before .before .before .before .extend .ensures) Add _ _ _ (o-8 (s .args .w) (c .before .before .before .before .before .before .match .keys3)) (e .0 r .0) (e .0 r .1) (e .0 r .2), λ q. (e .1 q, refl))
+returns-3 c = let s = c .before .before .before .before .before .before .before .before .before .before .before .before .before .before .before in let e = c .before .before .add .ensures in (λ r. sum-arm (s .args .frames .now) (s .args .pages) (s .args .p) (s .args .t) (s .args .page) (s .args .y) (s .args .regs .now) (s .args .words .now) (s .args .shadow .now) (s .args .w) _ _ _ (c .before .before .before .before .before .before .before .before .wide2 .ensures) (c .before .before .before .before .before .before .before .before .before .wide .ensures) (c .before .before .before .before .before .before .before .extend .ensures) Add _ _ _ (o-8 (s .args .w) (c .before .before .before .before .before .before .match .keys3)) (e .0 r .0) (e .0 r .1) (e .0 r .2), λ q. (e .1 q, refl))
 
 -- src/lib.rt:322:1
 same-length-5 : tie.Need-same-length-5
@@ -371,7 +392,7 @@ same-length-5 c = search needs
 
 -- src/lib.rt:322:1
 returns-4 : tie.Need-returns-4
-returns-4 c = let s = c .before .before .before .before .before .before .before .before .before .before .before .before .before .before in let e = c .before .before .sub .ensures in (λ r. sum-arm (s .args .frames .now) (s .args .pages) (s .args .p) (s .args .t) (s .args .page) (s .args .y) (s .args .regs .now) (s .args .words .now) (s .args .shadow .now) (s .args .w) _ _ _ (c .before .before .before .before .before .before .before .before .wide2 .ensures) (c .before .before .before .before .before .before .before .before .before .wide .ensures) (c .before .before .before .before .before .before .before .extend .ensures) Sub _ _ _ (o-10 (s .args .w) (c .before .before .before .before .before .before .match .keys4)) (e .0 r .0) (e .0 r .1) (e .0 r .2), λ q. (e .1 q, refl))
+returns-4 c = let s = c .before .before .before .before .before .before .before .before .before .before .before .before .before .before .before in let e = c .before .before .sub .ensures in (λ r. sum-arm (s .args .frames .now) (s .args .pages) (s .args .p) (s .args .t) (s .args .page) (s .args .y) (s .args .regs .now) (s .args .words .now) (s .args .shadow .now) (s .args .w) _ _ _ (c .before .before .before .before .before .before .before .before .wide2 .ensures) (c .before .before .before .before .before .before .before .before .before .wide .ensures) (c .before .before .before .before .before .before .before .extend .ensures) Sub _ _ _ (o-10 (s .args .w) (c .before .before .before .before .before .before .match .keys4)) (e .0 r .0) (e .0 r .1) (e .0 r .2), λ q. (e .1 q, refl))
 
 -- src/lib.rt:322:1
 same-length-6 : tie.Need-same-length-6
@@ -380,7 +401,7 @@ same-length-6 c = search needs
 -- src/lib.rt:322:1
 returns-5 : tie.Need-returns-5
 unfolding valueOf
-returns-5 c = let s = c .before .before .before .before .before .before .before .before .before .before .before .before .before .before in let e = c .before .before .put .ensures in (λ r. and-arm (s .args .frames .now) (s .args .pages) (s .args .p) (s .args .t) (s .args .page) (s .args .y) (s .args .regs .now) (s .args .words .now) (s .args .shadow .now) (s .args .w) _ _ _ (c .before .before .before .before .before .before .before .before .wide2 .ensures) (c .before .before .before .before .before .before .before .before .before .wide .ensures) (c .before .before .before .before .before .before .before .extend .ensures) _ _ _ (o-12 (s .args .w) (c .before .before .before .before .before .before .match .keys5)) refl (e .1) (e .2), λ q. absurd (true≢false (sym (e .0) ∙ q)))
+returns-5 c = let s = c .before .before .before .before .before .before .before .before .before .before .before .before .before .before .before in let e = c .before .before .put .ensures in (λ r. and-arm (s .args .frames .now) (s .args .pages) (s .args .p) (s .args .t) (s .args .page) (s .args .y) (s .args .regs .now) (s .args .words .now) (s .args .shadow .now) (s .args .w) _ _ _ (c .before .before .before .before .before .before .before .before .wide2 .ensures) (c .before .before .before .before .before .before .before .before .before .wide .ensures) (c .before .before .before .before .before .before .before .extend .ensures) _ _ _ (o-12 (s .args .w) (c .before .before .before .before .before .before .match .keys5)) refl (e .1) (e .2), λ q. absurd (true≢false (sym (e .0) ∙ q)))
 
 -- src/lib.rt:322:1
 same-length-7 : tie.Need-same-length-7
@@ -389,7 +410,7 @@ same-length-7 c = search needs
 -- src/lib.rt:322:1
 returns-6 : tie.Need-returns-6
 unfolding valueOf
-returns-6 c = let s = c .before .before .before .before .before .before .before .before .before .before .before .before .before .before in let e = c .before .before .put2 .ensures in (λ r. or-arm (s .args .frames .now) (s .args .pages) (s .args .p) (s .args .t) (s .args .page) (s .args .y) (s .args .regs .now) (s .args .words .now) (s .args .shadow .now) (s .args .w) _ _ _ (c .before .before .before .before .before .before .before .before .wide2 .ensures) (c .before .before .before .before .before .before .before .before .before .wide .ensures) (c .before .before .before .before .before .before .before .extend .ensures) _ _ _ (o-13 (s .args .w) (c .before .before .before .before .before .before .match .keys6)) refl (e .1) (e .2), λ q. absurd (true≢false (sym (e .0) ∙ q)))
+returns-6 c = let s = c .before .before .before .before .before .before .before .before .before .before .before .before .before .before .before in let e = c .before .before .put2 .ensures in (λ r. or-arm (s .args .frames .now) (s .args .pages) (s .args .p) (s .args .t) (s .args .page) (s .args .y) (s .args .regs .now) (s .args .words .now) (s .args .shadow .now) (s .args .w) _ _ _ (c .before .before .before .before .before .before .before .before .wide2 .ensures) (c .before .before .before .before .before .before .before .before .before .wide .ensures) (c .before .before .before .before .before .before .before .extend .ensures) _ _ _ (o-13 (s .args .w) (c .before .before .before .before .before .before .match .keys6)) refl (e .1) (e .2), λ q. absurd (true≢false (sym (e .0) ∙ q)))
 
 -- src/lib.rt:322:1
 same-length-8 : tie.Need-same-length-8
@@ -398,7 +419,7 @@ same-length-8 c = search needs
 -- src/lib.rt:322:1
 returns-7 : tie.Need-returns-7
 unfolding valueOf
-returns-7 c = let s = c .before .before .before .before .before .before .before .before .before .before .before .before .before .before in let e = c .before .before .put3 .ensures in (λ r. xor-arm (s .args .frames .now) (s .args .pages) (s .args .p) (s .args .t) (s .args .page) (s .args .y) (s .args .regs .now) (s .args .words .now) (s .args .shadow .now) (s .args .w) _ _ _ (c .before .before .before .before .before .before .before .before .wide2 .ensures) (c .before .before .before .before .before .before .before .before .before .wide .ensures) (c .before .before .before .before .before .before .before .extend .ensures) _ _ _ (o-14 (s .args .w) (c .before .before .before .before .before .before .match .keys7)) refl (e .1) (e .2), λ q. absurd (true≢false (sym (e .0) ∙ q)))
+returns-7 c = let s = c .before .before .before .before .before .before .before .before .before .before .before .before .before .before .before in let e = c .before .before .put3 .ensures in (λ r. xor-arm (s .args .frames .now) (s .args .pages) (s .args .p) (s .args .t) (s .args .page) (s .args .y) (s .args .regs .now) (s .args .words .now) (s .args .shadow .now) (s .args .w) _ _ _ (c .before .before .before .before .before .before .before .before .wide2 .ensures) (c .before .before .before .before .before .before .before .before .before .wide .ensures) (c .before .before .before .before .before .before .before .extend .ensures) _ _ _ (o-14 (s .args .w) (c .before .before .before .before .before .before .match .keys7)) refl (e .1) (e .2), λ q. absurd (true≢false (sym (e .0) ∙ q)))
 
 -- src/lib.rt:322:1
 same-length-9 : tie.Need-same-length-9
@@ -406,19 +427,19 @@ same-length-9 c = search needs
 
 -- src/lib.rt:322:1
 returns-8 : tie.Need-returns-8
-returns-8 c = let s = c .before .before .before .before .before .before .before .before .before .before .before .before .before in let e = c .before .before .put4 .ensures in (λ r. lhgi-arm (s .args .frames .now) (s .args .pages) (s .args .p) (s .args .t) (s .args .page) (s .args .y) (s .args .regs .now) (s .args .words .now) (s .args .shadow .now) (s .args .w) _ _ _ (c .before .before .before .before .before .before .before .wide2 .ensures) (c .before .before .before .before .before .before .before .before .wide .ensures) (c .before .before .before .before .before .before .extend .ensures) _ _ (c .before .before .before .before .before .match .keys8) (e .1) (e .2), λ q. absurd (true≢false (sym (e .0) ∙ q)))
+returns-8 c = let s = c .before .before .before .before .before .before .before .before .before .before .before .before .before .before in let e = c .before .before .put4 .ensures in (λ r. lhgi-arm (s .args .frames .now) (s .args .pages) (s .args .p) (s .args .t) (s .args .page) (s .args .y) (s .args .regs .now) (s .args .words .now) (s .args .shadow .now) (s .args .w) _ _ _ (c .before .before .before .before .before .before .before .wide2 .ensures) (c .before .before .before .before .before .before .before .before .wide .ensures) (c .before .before .before .before .before .before .extend .ensures) _ _ (c .before .before .before .before .before .match .keys8) (e .1) (e .2), λ q. absurd (true≢false (sym (e .0) ∙ q)))
 
 -- src/lib.rt:322:1
 returns-9 : tie.Need-returns-9
-returns-9 c = let s = c .before .before .before .before .before .before .before .before .before .before .before .before .before in let e = c .either .ensures in (λ r. beqz-arm (s .args .frames .now) (s .args .pages) (s .args .p) (s .args .t) (s .args .page) (s .args .y) (s .args .regs .now) (s .args .words .now) (s .args .shadow .now) (s .args .w) _ _ _ (c .before .before .before .before .before .before .before .wide2 .ensures) (c .before .before .before .before .before .before .before .before .wide .ensures) (c .before .before .before .before .before .before .extend .ensures) _ _ _ (c .before .before .before .before .before .match .keys9) (c .before .before .before .wrapping-add-u32 .ensures) (c .before .before .wrapping-add-u322 .ensures) (e .1), λ q. absurd (true≢false (sym (e .0) ∙ q)))
+returns-9 c = let s = c .before .before .before .before .before .before .before .before .before .before .before .before .before .before in let e = c .either .ensures in (λ r. beqz-arm (s .args .frames .now) (s .args .pages) (s .args .p) (s .args .t) (s .args .page) (s .args .y) (s .args .regs .now) (s .args .words .now) (s .args .shadow .now) (s .args .w) _ _ _ (c .before .before .before .before .before .before .before .wide2 .ensures) (c .before .before .before .before .before .before .before .before .wide .ensures) (c .before .before .before .before .before .before .extend .ensures) _ _ _ (c .before .before .before .before .before .match .keys9) (c .before .before .before .wrapping-add-u32 .ensures) (c .before .before .wrapping-add-u322 .ensures) (e .1), λ q. absurd (true≢false (sym (e .0) ∙ q)))
 
 -- src/lib.rt:322:1
 returns-10 : tie.Need-returns-10
-returns-10 c = let s = c .before .before .before .before .before .before .before .before .before .before .before .before .before in let e = c .either2 .ensures in (λ r. bnez-arm (s .args .frames .now) (s .args .pages) (s .args .p) (s .args .t) (s .args .page) (s .args .y) (s .args .regs .now) (s .args .words .now) (s .args .shadow .now) (s .args .w) _ _ _ (c .before .before .before .before .before .before .before .wide2 .ensures) (c .before .before .before .before .before .before .before .before .wide .ensures) (c .before .before .before .before .before .before .extend .ensures) _ _ _ (c .before .before .before .before .before .match .keys10) (c .before .before .before .wrapping-add-u323 .ensures) (c .before .before .wrapping-add-u324 .ensures) (e .1), λ q. absurd (true≢false (sym (e .0) ∙ q)))
+returns-10 c = let s = c .before .before .before .before .before .before .before .before .before .before .before .before .before .before in let e = c .either2 .ensures in (λ r. bnez-arm (s .args .frames .now) (s .args .pages) (s .args .p) (s .args .t) (s .args .page) (s .args .y) (s .args .regs .now) (s .args .words .now) (s .args .shadow .now) (s .args .w) _ _ _ (c .before .before .before .before .before .before .before .wide2 .ensures) (c .before .before .before .before .before .before .before .before .wide .ensures) (c .before .before .before .before .before .before .extend .ensures) _ _ _ (c .before .before .before .before .before .match .keys10) (c .before .before .before .wrapping-add-u323 .ensures) (c .before .before .wrapping-add-u324 .ensures) (e .1), λ q. absurd (true≢false (sym (e .0) ∙ q)))
 
 -- src/lib.rt:322:1
 returns-11 : tie.Need-returns-11
-returns-11 c = let s = c .before .before .before .before .before .before .before .before .before .before .before .before in let e = c .to .ensures in (λ r. jr-arm (s .args .frames .now) (s .args .pages) (s .args .p) (s .args .t) (s .args .page) (s .args .y) (s .args .regs .now) (s .args .words .now) (s .args .shadow .now) (s .args .w) _ _ _ (c .before .before .before .before .before .before .wide2 .ensures) (c .before .before .before .before .before .before .before .wide .ensures) (c .before .before .before .before .before .extend .ensures) _ _ (c .before .before .before .before .match .keys11) (c .before .before .wrapping-sub-u32 .ensures) (e .1), λ q. absurd (true≢false (sym (e .0) ∙ q)))
+returns-11 c = let s = c .before .before .before .before .before .before .before .before .before .before .before .before .before in let e = c .to .ensures in (λ r. jr-arm (s .args .frames .now) (s .args .pages) (s .args .p) (s .args .t) (s .args .page) (s .args .y) (s .args .regs .now) (s .args .words .now) (s .args .shadow .now) (s .args .w) _ _ _ (c .before .before .before .before .before .before .wide2 .ensures) (c .before .before .before .before .before .before .before .wide .ensures) (c .before .before .before .before .before .extend .ensures) _ _ (c .before .before .before .before .match .keys11) (c .before .before .wrapping-sub-u32 .ensures) (e .1), λ q. absurd (true≢false (sym (e .0) ∙ q)))
 
 -- src/lib.rt:322:1
 same-length-10 : tie.Need-same-length-10
@@ -426,11 +447,11 @@ same-length-10 c = search needs
 
 -- src/lib.rt:322:1
 returns-12 : tie.Need-returns-12
-returns-12 c = let s = c .before .before .before .before .before .before .before .before .before .before .before .before .before .before .before .before in let e = c .to2 .ensures in (λ r. jalr-arm (s .args .frames .now) (s .args .pages) (s .args .p) (s .args .t) (s .args .page) (s .args .y) (s .args .regs .now) (s .args .words .now) (s .args .shadow .now) (s .args .w) _ _ _ (c .before .before .before .before .before .before .before .before .before .before .wide2 .ensures) (c .before .before .before .before .before .before .before .before .before .before .before .wide .ensures) (c .before .before .before .before .before .before .before .before .before .extend .ensures) _ _ _ (c .before .before .before .before .before .before .before .before .match .keys12) (c .before .before .before .before .before .link .ensures) (c .before .before .wrapping-sub-u322 .ensures) (e .1), λ q. absurd (true≢false (sym (e .0) ∙ q)))
+returns-12 c = let s = c .before .before .before .before .before .before .before .before .before .before .before .before .before .before .before .before .before in let e = c .to2 .ensures in (λ r. jalr-arm (s .args .frames .now) (s .args .pages) (s .args .p) (s .args .t) (s .args .page) (s .args .y) (s .args .regs .now) (s .args .words .now) (s .args .shadow .now) (s .args .w) _ _ _ (c .before .before .before .before .before .before .before .before .before .before .wide2 .ensures) (c .before .before .before .before .before .before .before .before .before .before .before .wide .ensures) (c .before .before .before .before .before .before .before .before .before .extend .ensures) _ _ _ (c .before .before .before .before .before .before .before .before .match .keys12) (c .before .before .before .before .before .link .ensures) (c .before .before .wrapping-sub-u322 .ensures) (e .1), λ q. absurd (true≢false (sym (e .0) ∙ q)))
 
 -- src/lib.rt:322:1
 returns-13 : tie.Need-returns-13
-returns-13 c = let s = c .before .before .before .before .before .before .before .before .before .before .before .before in let e = c .to3 .ensures in (λ r. j-arm (s .args .frames .now) (s .args .pages) (s .args .p) (s .args .t) (s .args .page) (s .args .y) (s .args .regs .now) (s .args .words .now) (s .args .shadow .now) (s .args .w) _ _ _ (c .before .before .before .extend2 .ensures) (c .before .before .before .before .match .keys13) (c .before .before .wrapping-add-u325 .ensures) (e .1), λ q. absurd (true≢false (sym (e .0) ∙ q)))
+returns-13 c = let s = c .before .before .before .before .before .before .before .before .before .before .before .before .before in let e = c .to3 .ensures in (λ r. j-arm (s .args .frames .now) (s .args .pages) (s .args .p) (s .args .t) (s .args .page) (s .args .y) (s .args .regs .now) (s .args .words .now) (s .args .shadow .now) (s .args .w) _ _ _ (c .before .before .before .extend2 .ensures) (c .before .before .before .before .match .keys13) (c .before .before .wrapping-add-u325 .ensures) (e .1), λ q. absurd (true≢false (sym (e .0) ∙ q)))
 
 -- src/lib.rt:322:1
 same-length-11 : tie.Need-same-length-11
@@ -438,7 +459,7 @@ same-length-11 c = search needs
 
 -- src/lib.rt:322:1
 returns-14 : tie.Need-returns-14
-returns-14 c = let s = c .before .before .before .before .before .before .before .before .before .before .before .before .before .before .before .before in let e = c .to4 .ensures in (λ r. jal-arm (s .args .frames .now) (s .args .pages) (s .args .p) (s .args .t) (s .args .page) (s .args .y) (s .args .regs .now) (s .args .words .now) (s .args .shadow .now) (s .args .w) _ _ _ _ (c .before .before .before .before .before .before .before .extend3 .ensures) (c .before .before .before .before .before .before .before .before .match .keys14) (c .before .before .before .before .before .link2 .ensures) (c .before .before .wrapping-add-u326 .ensures) (e .1), λ q. absurd (true≢false (sym (e .0) ∙ q)))
+returns-14 c = let s = c .before .before .before .before .before .before .before .before .before .before .before .before .before .before .before .before .before in let e = c .to4 .ensures in (λ r. jal-arm (s .args .frames .now) (s .args .pages) (s .args .p) (s .args .t) (s .args .page) (s .args .y) (s .args .regs .now) (s .args .words .now) (s .args .shadow .now) (s .args .w) _ _ _ _ (c .before .before .before .before .before .before .before .extend3 .ensures) (c .before .before .before .before .before .before .before .before .match .keys14) (c .before .before .before .before .before .link2 .ensures) (c .before .before .wrapping-add-u326 .ensures) (e .1), λ q. absurd (true≢false (sym (e .0) ∙ q)))
 
 -- src/lib.rt:322:1
 same-length-12 : tie.Need-same-length-12
@@ -446,7 +467,7 @@ same-length-12 c = search needs
 
 -- src/lib.rt:322:1
 returns-15 : tie.Need-returns-15
-returns-15 c = let s = c .before .before .before .before .before .before .before .before .before .before .before .before .before in let e = c .before .before .register-type .ensures in (λ r. register-arm (s .args .frames .now) (s .args .pages) (s .args .p) (s .args .t) (s .args .page) (s .args .y) (s .args .regs .now) (s .args .words .now) (s .args .shadow .now) (s .args .w) _ _ (c .before .before .before .before .before .match .keys15) (e .0 r _ _ _ _ _), λ q. (e .1 q, refl))
+returns-15 c = let s = c .before .before .before .before .before .before .before .before .before .before .before .before .before .before in let e = c .before .before .register-type .ensures in (λ r. register-arm (s .args .frames .now) (s .args .pages) (s .args .p) (s .args .t) (s .args .page) (s .args .y) (s .args .regs .now) (s .args .words .now) (s .args .shadow .now) (s .args .w) _ _ (c .before .before .before .before .before .match .keys15) (e .0 r _ _ _ _ _), λ q. (e .1 q, refl))
 
 -- src/lib.rt:322:1
 same-length-13 : tie.Need-same-length-13
@@ -458,7 +479,7 @@ same-length-14 c = search needs
 
 -- src/lib.rt:322:1
 returns-16 : tie.Need-returns-16
-returns-16 c = let s = c .before .before .before .before .before .before .before .before .before .before .before .before .before .before .before in let e = c .before .before .load2 .ensures in (λ r. load-arm (s .args .frames .now) (s .args .pages) (s .args .p) (s .args .t) (s .args .page) (s .args .y) (s .args .regs .now) (s .args .words .now) (s .args .shadow .now) (s .args .w) _ _ _ (c .before .before .before .before .before .before .before .before .before .wide2 .ensures) (c .before .before .before .before .before .before .before .before .before .before .wide .ensures) (c .before .before .before .before .before .before .before .before .extend .ensures) 32 _ _ (o-32 (s .args .w) (c .before .before .before .before .before .before .before .match .keys16)) (e .0 r), λ q. (e .1 q, refl))
+returns-16 c = let s = c .before .before .before .before .before .before .before .before .before .before .before .before .before .before .before .before in let e = c .before .before .load2 .ensures in (λ r. load-arm (s .args .frames .now) (s .args .pages) (s .args .p) (s .args .t) (s .args .page) (s .args .y) (s .args .regs .now) (s .args .words .now) (s .args .shadow .now) (s .args .w) _ _ _ (c .before .before .before .before .before .before .before .before .before .wide2 .ensures) (c .before .before .before .before .before .before .before .before .before .before .wide .ensures) (c .before .before .before .before .before .before .before .before .extend .ensures) 32 _ _ (o-32 (s .args .w) (c .before .before .before .before .before .before .before .match .keys16)) (e .0 r), λ q. (e .1 q, refl))
 
 -- src/lib.rt:322:1
 same-length-15 : tie.Need-same-length-15
@@ -470,7 +491,7 @@ same-length-16 c = search needs
 
 -- src/lib.rt:322:1
 returns-17 : tie.Need-returns-17
-returns-17 c = let s = c .before .before .before .before .before .before .before .before .before .before .before .before .before .before .before in let e = c .before .before .load3 .ensures in (λ r. load-arm (s .args .frames .now) (s .args .pages) (s .args .p) (s .args .t) (s .args .page) (s .args .y) (s .args .regs .now) (s .args .words .now) (s .args .shadow .now) (s .args .w) _ _ _ (c .before .before .before .before .before .before .before .before .before .wide2 .ensures) (c .before .before .before .before .before .before .before .before .before .before .wide .ensures) (c .before .before .before .before .before .before .before .before .extend .ensures) 33 _ _ (o-33 (s .args .w) (c .before .before .before .before .before .before .before .match .keys17)) (e .0 r), λ q. (e .1 q, refl))
+returns-17 c = let s = c .before .before .before .before .before .before .before .before .before .before .before .before .before .before .before .before in let e = c .before .before .load3 .ensures in (λ r. load-arm (s .args .frames .now) (s .args .pages) (s .args .p) (s .args .t) (s .args .page) (s .args .y) (s .args .regs .now) (s .args .words .now) (s .args .shadow .now) (s .args .w) _ _ _ (c .before .before .before .before .before .before .before .before .before .wide2 .ensures) (c .before .before .before .before .before .before .before .before .before .before .wide .ensures) (c .before .before .before .before .before .before .before .before .extend .ensures) 33 _ _ (o-33 (s .args .w) (c .before .before .before .before .before .before .before .match .keys17)) (e .0 r), λ q. (e .1 q, refl))
 
 -- src/lib.rt:322:1
 same-length-17 : tie.Need-same-length-17
@@ -482,7 +503,7 @@ same-length-18 c = search needs
 
 -- src/lib.rt:322:1
 returns-18 : tie.Need-returns-18
-returns-18 c = let s = c .before .before .before .before .before .before .before .before .before .before .before .before .before .before .before in let e = c .before .before .load4 .ensures in (λ r. load-arm (s .args .frames .now) (s .args .pages) (s .args .p) (s .args .t) (s .args .page) (s .args .y) (s .args .regs .now) (s .args .words .now) (s .args .shadow .now) (s .args .w) _ _ _ (c .before .before .before .before .before .before .before .before .before .wide2 .ensures) (c .before .before .before .before .before .before .before .before .before .before .wide .ensures) (c .before .before .before .before .before .before .before .before .extend .ensures) 36 _ _ (o-36 (s .args .w) (c .before .before .before .before .before .before .before .match .keys18)) (e .0 r), λ q. (e .1 q, refl))
+returns-18 c = let s = c .before .before .before .before .before .before .before .before .before .before .before .before .before .before .before .before in let e = c .before .before .load4 .ensures in (λ r. load-arm (s .args .frames .now) (s .args .pages) (s .args .p) (s .args .t) (s .args .page) (s .args .y) (s .args .regs .now) (s .args .words .now) (s .args .shadow .now) (s .args .w) _ _ _ (c .before .before .before .before .before .before .before .before .before .wide2 .ensures) (c .before .before .before .before .before .before .before .before .before .before .wide .ensures) (c .before .before .before .before .before .before .before .before .extend .ensures) 36 _ _ (o-36 (s .args .w) (c .before .before .before .before .before .before .before .match .keys18)) (e .0 r), λ q. (e .1 q, refl))
 
 -- src/lib.rt:322:1
 same-length-19 : tie.Need-same-length-19
@@ -494,7 +515,7 @@ same-length-20 c = search needs
 
 -- src/lib.rt:322:1
 returns-19 : tie.Need-returns-19
-returns-19 c = let s = c .before .before .before .before .before .before .before .before .before .before .before .before .before .before .before in let e = c .before .before .load5 .ensures in (λ r. load-arm (s .args .frames .now) (s .args .pages) (s .args .p) (s .args .t) (s .args .page) (s .args .y) (s .args .regs .now) (s .args .words .now) (s .args .shadow .now) (s .args .w) _ _ _ (c .before .before .before .before .before .before .before .before .before .wide2 .ensures) (c .before .before .before .before .before .before .before .before .before .before .wide .ensures) (c .before .before .before .before .before .before .before .before .extend .ensures) 37 _ _ (o-37 (s .args .w) (c .before .before .before .before .before .before .before .match .keys19)) (e .0 r), λ q. (e .1 q, refl))
+returns-19 c = let s = c .before .before .before .before .before .before .before .before .before .before .before .before .before .before .before .before in let e = c .before .before .load5 .ensures in (λ r. load-arm (s .args .frames .now) (s .args .pages) (s .args .p) (s .args .t) (s .args .page) (s .args .y) (s .args .regs .now) (s .args .words .now) (s .args .shadow .now) (s .args .w) _ _ _ (c .before .before .before .before .before .before .before .before .before .wide2 .ensures) (c .before .before .before .before .before .before .before .before .before .before .wide .ensures) (c .before .before .before .before .before .before .before .before .extend .ensures) 37 _ _ (o-37 (s .args .w) (c .before .before .before .before .before .before .before .match .keys19)) (e .0 r), λ q. (e .1 q, refl))
 
 -- src/lib.rt:322:1
 same-length-21 : tie.Need-same-length-21
@@ -502,7 +523,7 @@ same-length-21 c = search needs
 
 -- src/lib.rt:322:1
 returns-20 : tie.Need-returns-20
-returns-20 c = let s = c .before .before .before .before .before .before .before .before .before .before .before .before .before .before .before in let e = c .before .before .store2 .ensures in (λ r. store-arm (s .args .frames .now) (s .args .pages) (s .args .p) (s .args .t) (s .args .page) (s .args .y) (s .args .regs .now) (s .args .words .now) (s .args .shadow .now) (s .args .w) _ _ _ (c .before .before .before .before .before .before .before .before .before .wide2 .ensures) (c .before .before .before .before .before .before .before .before .before .before .wide .ensures) (c .before .before .before .before .before .before .before .before .extend .ensures) 40 _ _ (o-40 (s .args .w) (c .before .before .before .before .before .before .before .match .keys20)) (e .0 r), λ q. (refl, e .1 q))
+returns-20 c = let s = c .before .before .before .before .before .before .before .before .before .before .before .before .before .before .before .before in let e = c .before .before .store2 .ensures in (λ r. store-arm (s .args .frames .now) (s .args .pages) (s .args .p) (s .args .t) (s .args .page) (s .args .y) (s .args .regs .now) (s .args .words .now) (s .args .shadow .now) (s .args .w) _ _ _ (c .before .before .before .before .before .before .before .before .before .wide2 .ensures) (c .before .before .before .before .before .before .before .before .before .before .wide .ensures) (c .before .before .before .before .before .before .before .before .extend .ensures) 40 _ _ (o-40 (s .args .w) (c .before .before .before .before .before .before .before .match .keys20)) (e .0 r), λ q. (refl, e .1 q))
 
 -- src/lib.rt:322:1
 same-length-22 : tie.Need-same-length-22
@@ -510,15 +531,163 @@ same-length-22 c = search needs
 
 -- src/lib.rt:322:1
 returns-21 : tie.Need-returns-21
-returns-21 c = let s = c .before .before .before .before .before .before .before .before .before .before .before .before .before .before .before in let e = c .before .before .store3 .ensures in (λ r. store-arm (s .args .frames .now) (s .args .pages) (s .args .p) (s .args .t) (s .args .page) (s .args .y) (s .args .regs .now) (s .args .words .now) (s .args .shadow .now) (s .args .w) _ _ _ (c .before .before .before .before .before .before .before .before .before .wide2 .ensures) (c .before .before .before .before .before .before .before .before .before .before .wide .ensures) (c .before .before .before .before .before .before .before .before .extend .ensures) 41 _ _ (o-41 (s .args .w) (c .before .before .before .before .before .before .before .match .keys21)) (e .0 r), λ q. (refl, e .1 q))
+returns-21 c = let s = c .before .before .before .before .before .before .before .before .before .before .before .before .before .before .before .before in let e = c .before .before .store3 .ensures in (λ r. store-arm (s .args .frames .now) (s .args .pages) (s .args .p) (s .args .t) (s .args .page) (s .args .y) (s .args .regs .now) (s .args .words .now) (s .args .shadow .now) (s .args .w) _ _ _ (c .before .before .before .before .before .before .before .before .before .wide2 .ensures) (c .before .before .before .before .before .before .before .before .before .before .wide .ensures) (c .before .before .before .before .before .before .before .before .extend .ensures) 41 _ _ (o-41 (s .args .w) (c .before .before .before .before .before .before .before .match .keys21)) (e .0 r), λ q. (refl, e .1 q))
 
--- src/lib.rt:322:1
 same-length-23 : tie.Need-same-length-23
 same-length-23 c = search needs
 
--- src/lib.rt:322:1
 returns-22 : tie.Need-returns-22
-returns-22 c = let s = c .before .before .before .before .before .before .before .before .before .before .before .before .before in let e = c .before .before .test-type .ensures in (λ r. test-arm (s .args .frames .now) (s .args .pages) (s .args .p) (s .args .t) (s .args .page) (s .args .y) (s .args .regs .now) (s .args .words .now) (s .args .shadow .now) (s .args .w) _ _ _ (c .before .before .before .before .before .before .before .wide2 .ensures) (c .before .before .before .before .before .before .before .before .wide .ensures) (c .before .before .before .before .before .before .extend .ensures) _ _ (e .0 r .0) (e .0 r .1) (e .0 r .2) (e .0 r .3), λ q. (e .1 q, refl))
+returns-22 c = let s = c .before .before .before .before .before .before .before .before .before .before .before .before .before .before in let e = c .before .before .test-type .ensures in (λ r. test-arm (s .args .frames .now) (s .args .pages) (s .args .p) (s .args .t) (s .args .page) (s .args .y) (s .args .regs .now) (s .args .words .now) (s .args .shadow .now) (s .args .w) _ _ _ (c .before .before .before .before .before .before .before .wide2 .ensures) (c .before .before .before .before .before .before .before .before .wide .ensures) (c .before .before .before .before .before .before .extend .ensures) _ _ (e .0 r .0) (e .0 r .1) (e .0 r .2) (e .0 r .3), λ q. (e .1 q, refl))
+
+same-length-24 : tie.Need-same-length-24
+same-length-24 c = search needs
+
+returns-23 : tie.Need-returns-23
+returns-23 c = let s = c .before .before .before .before .before .before .before .before .before .before .before .before .before .before in let e = c .before .before .test-type2 .ensures in (λ r. test-arm (s .args .frames .now) (s .args .pages) (s .args .p) (s .args .t) (s .args .page) (s .args .y) (s .args .regs .now) (s .args .words .now) (s .args .shadow .now) (s .args .w) _ _ _ (c .before .before .before .before .before .before .before .wide2 .ensures) (c .before .before .before .before .before .before .before .before .wide .ensures) (c .before .before .before .before .before .before .extend .ensures) _ _ (e .0 r .0) (e .0 r .1) (e .0 r .2) (e .0 r .3), λ q. (e .1 q, refl))
+
+same-length-25 : tie.Need-same-length-25
+same-length-25 c = search needs
+
+returns-24 : tie.Need-returns-24
+returns-24 c = let s = c .before .before .before .before .before .before .before .before .before .before .before .before .before .before in let e = c .before .before .test-type3 .ensures in (λ r. test-arm (s .args .frames .now) (s .args .pages) (s .args .p) (s .args .t) (s .args .page) (s .args .y) (s .args .regs .now) (s .args .words .now) (s .args .shadow .now) (s .args .w) _ _ _ (c .before .before .before .before .before .before .before .wide2 .ensures) (c .before .before .before .before .before .before .before .before .wide .ensures) (c .before .before .before .before .before .before .extend .ensures) _ _ (e .0 r .0) (e .0 r .1) (e .0 r .2) (e .0 r .3), λ q. (e .1 q, refl))
+
+same-length-26 : tie.Need-same-length-26
+same-length-26 c = search needs
+
+returns-25 : tie.Need-returns-25
+returns-25 c = let s = c .before .before .before .before .before .before .before .before .before .before .before .before .before .before in let e = c .before .before .test-type4 .ensures in (λ r. test-arm (s .args .frames .now) (s .args .pages) (s .args .p) (s .args .t) (s .args .page) (s .args .y) (s .args .regs .now) (s .args .words .now) (s .args .shadow .now) (s .args .w) _ _ _ (c .before .before .before .before .before .before .before .wide2 .ensures) (c .before .before .before .before .before .before .before .before .wide .ensures) (c .before .before .before .before .before .before .extend .ensures) _ _ (e .0 r .0) (e .0 r .1) (e .0 r .2) (e .0 r .3), λ q. (e .1 q, refl))
+
+same-length-27 : tie.Need-same-length-27
+same-length-27 c = search needs
+
+returns-26 : tie.Need-returns-26
+returns-26 c = let s = c .before .before .before .before .before .before .before .before .before .before .before .before .before .before in let e = c .before .before .test-type5 .ensures in (λ r. test-arm (s .args .frames .now) (s .args .pages) (s .args .p) (s .args .t) (s .args .page) (s .args .y) (s .args .regs .now) (s .args .words .now) (s .args .shadow .now) (s .args .w) _ _ _ (c .before .before .before .before .before .before .before .wide2 .ensures) (c .before .before .before .before .before .before .before .before .wide .ensures) (c .before .before .before .before .before .before .extend .ensures) _ _ (e .0 r .0) (e .0 r .1) (e .0 r .2) (e .0 r .3), λ q. (e .1 q, refl))
+
+same-length-28 : tie.Need-same-length-28
+same-length-28 c = search needs
+
+returns-27 : tie.Need-returns-27
+returns-27 c = let s = c .before .before .before .before .before .before .before .before .before .before .before .before .before .before in let e = c .before .before .test-type6 .ensures in (λ r. test-arm (s .args .frames .now) (s .args .pages) (s .args .p) (s .args .t) (s .args .page) (s .args .y) (s .args .regs .now) (s .args .words .now) (s .args .shadow .now) (s .args .w) _ _ _ (c .before .before .before .before .before .before .before .wide2 .ensures) (c .before .before .before .before .before .before .before .before .wide .ensures) (c .before .before .before .before .before .before .extend .ensures) _ _ (e .0 r .0) (e .0 r .1) (e .0 r .2) (e .0 r .3), λ q. (e .1 q, refl))
+
+same-length-29 : tie.Need-same-length-29
+same-length-29 c = search needs
+
+returns-28 : tie.Need-returns-28
+returns-28 c = let s = c .before .before .before .before .before .before .before .before .before .before .before .before .before .before in let e = c .before .before .test-type7 .ensures in (λ r. test-arm (s .args .frames .now) (s .args .pages) (s .args .p) (s .args .t) (s .args .page) (s .args .y) (s .args .regs .now) (s .args .words .now) (s .args .shadow .now) (s .args .w) _ _ _ (c .before .before .before .before .before .before .before .wide2 .ensures) (c .before .before .before .before .before .before .before .before .wide .ensures) (c .before .before .before .before .before .before .extend .ensures) _ _ (e .0 r .0) (e .0 r .1) (e .0 r .2) (e .0 r .3), λ q. (e .1 q, refl))
+
+same-length-30 : tie.Need-same-length-30
+same-length-30 c = search needs
+
+returns-29 : tie.Need-returns-29
+returns-29 c = let s = c .before .before .before .before .before .before .before .before .before .before .before .before .before .before in let e = c .before .before .test-type8 .ensures in (λ r. test-arm (s .args .frames .now) (s .args .pages) (s .args .p) (s .args .t) (s .args .page) (s .args .y) (s .args .regs .now) (s .args .words .now) (s .args .shadow .now) (s .args .w) _ _ _ (c .before .before .before .before .before .before .before .wide2 .ensures) (c .before .before .before .before .before .before .before .before .wide .ensures) (c .before .before .before .before .before .before .extend .ensures) _ _ (e .0 r .0) (e .0 r .1) (e .0 r .2) (e .0 r .3), λ q. (e .1 q, refl))
+
+returns-30 : tie.Need-returns-30
+returns-30 c = (λ e. absurd (false≢true e), λ _. (refl, refl))
+
+returns-31 : tie.Need-returns-31
+returns-31 c = (λ e. absurd (false≢true e), λ _. (refl, refl))
+
+returns-32 : tie.Need-returns-32
+returns-32 c = (λ e. absurd (false≢true e), λ _. (refl, refl))
+
+returns-33 : tie.Need-returns-33
+returns-33 c = (λ e. absurd (false≢true e), λ _. (refl, refl))
+
+returns-34 : tie.Need-returns-34
+returns-34 c = (λ e. absurd (false≢true e), λ _. (refl, refl))
+
+returns-35 : tie.Need-returns-35
+returns-35 c = (λ e. absurd (false≢true e), λ _. (refl, refl))
+
+returns-36 : tie.Need-returns-36
+returns-36 c = (λ e. absurd (false≢true e), λ _. (refl, refl))
+
+returns-37 : tie.Need-returns-37
+returns-37 c = (λ e. absurd (false≢true e), λ _. (refl, refl))
+
+returns-38 : tie.Need-returns-38
+returns-38 c = (λ e. absurd (false≢true e), λ _. (refl, refl))
+
+returns-39 : tie.Need-returns-39
+returns-39 c = (λ e. absurd (false≢true e), λ _. (refl, refl))
+
+returns-40 : tie.Need-returns-40
+returns-40 c = (λ e. absurd (false≢true e), λ _. (refl, refl))
+
+returns-41 : tie.Need-returns-41
+returns-41 c = (λ e. absurd (false≢true e), λ _. (refl, refl))
+
+returns-42 : tie.Need-returns-42
+returns-42 c = (λ e. absurd (false≢true e), λ _. (refl, refl))
+
+returns-43 : tie.Need-returns-43
+returns-43 c = (λ e. absurd (false≢true e), λ _. (refl, refl))
+
+returns-44 : tie.Need-returns-44
+returns-44 c = (λ e. absurd (false≢true e), λ _. (refl, refl))
+
+returns-45 : tie.Need-returns-45
+returns-45 c = (λ e. absurd (false≢true e), λ _. (refl, refl))
+
+returns-46 : tie.Need-returns-46
+returns-46 c = (λ e. absurd (false≢true e), λ _. (refl, refl))
+
+returns-47 : tie.Need-returns-47
+returns-47 c = (λ e. absurd (false≢true e), λ _. (refl, refl))
+
+returns-48 : tie.Need-returns-48
+returns-48 c = (λ e. absurd (false≢true e), λ _. (refl, refl))
+
+returns-49 : tie.Need-returns-49
+returns-49 c = (λ e. absurd (false≢true e), λ _. (refl, refl))
+
+returns-50 : tie.Need-returns-50
+returns-50 c = (λ e. absurd (false≢true e), λ _. (refl, refl))
+
+returns-51 : tie.Need-returns-51
+returns-51 c = (λ e. absurd (false≢true e), λ _. (refl, refl))
+
+returns-52 : tie.Need-returns-52
+returns-52 c = (λ e. absurd (false≢true e), λ _. (refl, refl))
+
+returns-53 : tie.Need-returns-53
+returns-53 c = (λ e. absurd (false≢true e), λ _. (refl, refl))
+
+returns-54 : tie.Need-returns-54
+returns-54 c = (λ e. absurd (false≢true e), λ _. (refl, refl))
+
+returns-55 : tie.Need-returns-55
+returns-55 c = (λ e. absurd (false≢true e), λ _. (refl, refl))
+
+returns-56 : tie.Need-returns-56
+returns-56 c = (λ e. absurd (false≢true e), λ _. (refl, refl))
+
+returns-57 : tie.Need-returns-57
+returns-57 c = (λ e. absurd (false≢true e), λ _. (refl, refl))
+
+returns-58 : tie.Need-returns-58
+returns-58 c = (λ e. absurd (false≢true e), λ _. (refl, refl))
+
+returns-59 : tie.Need-returns-59
+returns-59 c = (λ e. absurd (false≢true e), λ _. (refl, refl))
+
+returns-60 : tie.Need-returns-60
+returns-60 c = (λ e. absurd (false≢true e), λ _. (refl, refl))
+
+returns-61 : tie.Need-returns-61
+returns-61 c = (λ e. absurd (false≢true e), λ _. (refl, refl))
+
+returns-62 : tie.Need-returns-62
+returns-62 c = (λ e. absurd (false≢true e), λ _. (refl, refl))
+
+returns-63 : tie.Need-returns-63
+returns-63 c = (λ e. absurd (false≢true e), λ _. (refl, refl))
+
+returns-64 : tie.Need-returns-64
+returns-64 c = (λ e. absurd (false≢true e), λ _. (refl, refl))
+
+returns-65 : tie.Need-returns-65
+returns-65 c = (λ e. absurd (false≢true e), λ _. (refl, refl))
 
 pub act-spec : {M : Type 1} → statement M
 act-spec =
@@ -602,6 +771,13 @@ act-spec =
     slice-read-v-3
     store-requires-3
     test-type-requires
+    test-type-requires-2
+    test-type-requires-3
+    test-type-requires-4
+    test-type-requires-5
+    test-type-requires-6
+    test-type-requires-7
+    test-type-requires-8
     same-length
     same-length-2
     returns
@@ -646,4 +822,54 @@ act-spec =
     same-length-22
     returns-21
     same-length-23
-    returns-22)
+    returns-22
+    same-length-24
+    returns-23
+    same-length-25
+    returns-24
+    same-length-26
+    returns-25
+    same-length-27
+    returns-26
+    same-length-28
+    returns-27
+    same-length-29
+    returns-28
+    same-length-30
+    returns-29
+    returns-30
+    returns-31
+    returns-32
+    returns-33
+    returns-34
+    returns-35
+    returns-36
+    returns-37
+    returns-38
+    returns-39
+    returns-40
+    returns-41
+    returns-42
+    returns-43
+    returns-44
+    returns-45
+    returns-46
+    returns-47
+    returns-48
+    returns-49
+    returns-50
+    returns-51
+    returns-52
+    returns-53
+    returns-54
+    returns-55
+    returns-56
+    returns-57
+    returns-58
+    returns-59
+    returns-60
+    returns-61
+    returns-62
+    returns-63
+    returns-64
+    returns-65)

@@ -61,7 +61,7 @@ put-requires-3 c κs = search needs
 
 -- src/lib.rt:285:15
 read-special-requires : tie.Need-read-special-requires
-read-special-requires c κs = search needs
+read-special-requires c κs = let s = c .before .before .before .before .before .before .before .before in (omega (arith, s .pre .0, c .before .before .before .wide .ensures), s .pre .1 .1 .1)
 
 -- src/lib.rt:288:17
 returns : tie.Need-returns
@@ -85,7 +85,7 @@ same-length c = search needs
 
 -- src/lib.rt:262:1
 returns-3 : tie.Need-returns-3
-returns-3 c = let s = c .before .before .before .before .before .before .before .before .before .before in let e = c .before .before .add .ensures in (λ r fr n page ws sh. sum-register fr n (s .args .p) (s .args .t) page (s .args .y) (s .args .regs .now) ws sh (s .args .w) _ (getD (s .args .regs .now) (s .args .rs1) 0) (getD (s .args .regs .now) (s .args .rs2) 0) (c .before .before .before .before .before .before .wide .ensures) (simp (s .pre .1 .0)) (simp (s .pre .1 .1)) Add _ _ _ (f-32 (s .args .w) (c .before .before .before .before .before .match .keys1)) (e .0 r .0) (e .0 r .1) (e .0 r .2), λ q. e .1 q)
+returns-3 c = let s = c .before .before .before .before .before .before .before .before .before .before .before in let e = c .before .before .add .ensures in (λ r fr n page ws sh. sum-register fr n (s .args .p) (s .args .t) page (s .args .y) (s .args .regs .now) ws sh (s .args .w) _ (getD (s .args .regs .now) (s .args .rs1) 0) (getD (s .args .regs .now) (s .args .rs2) 0) (c .before .before .before .before .before .before .wide .ensures) (simp (s .pre .1 .0)) (simp (s .pre .1 .1 .0)) Add _ _ _ (f-32 (s .args .w) (c .before .before .before .before .before .match .keys1)) (e .0 r .0) (e .0 r .1) (e .0 r .2), λ q. e .1 q)
 
 -- src/lib.rt:262:1
 same-length-2 : tie.Need-same-length-2
@@ -93,7 +93,7 @@ same-length-2 c = search needs
 
 -- src/lib.rt:262:1
 returns-4 : tie.Need-returns-4
-returns-4 c = let s = c .before .before .before .before .before .before .before .before .before .before in let e = c .before .before .sub .ensures in (λ r fr n page ws sh. sum-register fr n (s .args .p) (s .args .t) page (s .args .y) (s .args .regs .now) ws sh (s .args .w) _ (getD (s .args .regs .now) (s .args .rs1) 0) (getD (s .args .regs .now) (s .args .rs2) 0) (c .before .before .before .before .before .before .wide .ensures) (simp (s .pre .1 .0)) (simp (s .pre .1 .1)) Sub _ _ _ (f-34 (s .args .w) (c .before .before .before .before .before .match .keys2)) (e .0 r .0) (e .0 r .1) (e .0 r .2), λ q. e .1 q)
+returns-4 c = let s = c .before .before .before .before .before .before .before .before .before .before .before in let e = c .before .before .sub .ensures in (λ r fr n page ws sh. sum-register fr n (s .args .p) (s .args .t) page (s .args .y) (s .args .regs .now) ws sh (s .args .w) _ (getD (s .args .regs .now) (s .args .rs1) 0) (getD (s .args .regs .now) (s .args .rs2) 0) (c .before .before .before .before .before .before .wide .ensures) (simp (s .pre .1 .0)) (simp (s .pre .1 .1 .0)) Sub _ _ _ (f-34 (s .args .w) (c .before .before .before .before .before .match .keys2)) (e .0 r .0) (e .0 r .1) (e .0 r .2), λ q. e .1 q)
 
 -- src/lib.rt:262:1
 same-length-3 : tie.Need-same-length-3
@@ -102,7 +102,7 @@ same-length-3 c = search needs
 -- src/lib.rt:262:1
 returns-5 : tie.Need-returns-5
 unfolding valueOf overflowsOf
-returns-5 c = let s = c .before .before .before .before .before .before .before .before .before .before in let e = c .before .before .put .ensures in (λ r fr n page ws sh. calm-register fr n (s .args .p) (s .args .t) page (s .args .y) (s .args .regs .now) ws sh (s .args .w) _ (getD (s .args .regs .now) (s .args .rs1) 0) (getD (s .args .regs .now) (s .args .rs2) 0) (c .before .before .before .before .before .before .wide .ensures) (simp (s .pre .1 .0)) (simp (s .pre .1 .1)) And _ _ _ (f-36 (s .args .w) (c .before .before .before .before .before .match .keys3)) refl refl (e .1) (e .2), λ q. absurd (true≢false (sym (e .0) ∙ q)))
+returns-5 c = let s = c .before .before .before .before .before .before .before .before .before .before .before in let e = c .before .before .put .ensures in (λ r fr n page ws sh. calm-register fr n (s .args .p) (s .args .t) page (s .args .y) (s .args .regs .now) ws sh (s .args .w) _ (getD (s .args .regs .now) (s .args .rs1) 0) (getD (s .args .regs .now) (s .args .rs2) 0) (c .before .before .before .before .before .before .wide .ensures) (simp (s .pre .1 .0)) (simp (s .pre .1 .1 .0)) And _ _ _ (f-36 (s .args .w) (c .before .before .before .before .before .match .keys3)) refl refl (e .1) (e .2), λ q. absurd (true≢false (sym (e .0) ∙ q)))
 
 -- src/lib.rt:262:1
 same-length-4 : tie.Need-same-length-4
@@ -111,7 +111,7 @@ same-length-4 c = search needs
 -- src/lib.rt:262:1
 returns-6 : tie.Need-returns-6
 unfolding valueOf overflowsOf
-returns-6 c = let s = c .before .before .before .before .before .before .before .before .before .before in let e = c .before .before .put2 .ensures in (λ r fr n page ws sh. calm-register fr n (s .args .p) (s .args .t) page (s .args .y) (s .args .regs .now) ws sh (s .args .w) _ (getD (s .args .regs .now) (s .args .rs1) 0) (getD (s .args .regs .now) (s .args .rs2) 0) (c .before .before .before .before .before .before .wide .ensures) (simp (s .pre .1 .0)) (simp (s .pre .1 .1)) Or _ _ _ (f-37 (s .args .w) (c .before .before .before .before .before .match .keys4)) refl refl (e .1) (e .2), λ q. absurd (true≢false (sym (e .0) ∙ q)))
+returns-6 c = let s = c .before .before .before .before .before .before .before .before .before .before .before in let e = c .before .before .put2 .ensures in (λ r fr n page ws sh. calm-register fr n (s .args .p) (s .args .t) page (s .args .y) (s .args .regs .now) ws sh (s .args .w) _ (getD (s .args .regs .now) (s .args .rs1) 0) (getD (s .args .regs .now) (s .args .rs2) 0) (c .before .before .before .before .before .before .wide .ensures) (simp (s .pre .1 .0)) (simp (s .pre .1 .1 .0)) Or _ _ _ (f-37 (s .args .w) (c .before .before .before .before .before .match .keys4)) refl refl (e .1) (e .2), λ q. absurd (true≢false (sym (e .0) ∙ q)))
 
 -- src/lib.rt:262:1
 same-length-5 : tie.Need-same-length-5
@@ -120,7 +120,7 @@ same-length-5 c = search needs
 -- src/lib.rt:262:1
 returns-7 : tie.Need-returns-7
 unfolding valueOf overflowsOf
-returns-7 c = let s = c .before .before .before .before .before .before .before .before .before .before in let e = c .before .before .put3 .ensures in (λ r fr n page ws sh. calm-register fr n (s .args .p) (s .args .t) page (s .args .y) (s .args .regs .now) ws sh (s .args .w) _ (getD (s .args .regs .now) (s .args .rs1) 0) (getD (s .args .regs .now) (s .args .rs2) 0) (c .before .before .before .before .before .before .wide .ensures) (simp (s .pre .1 .0)) (simp (s .pre .1 .1)) Xor _ _ _ (f-38 (s .args .w) (c .before .before .before .before .before .match .keys5)) refl refl (e .1) (e .2), λ q. absurd (true≢false (sym (e .0) ∙ q)))
+returns-7 c = let s = c .before .before .before .before .before .before .before .before .before .before .before in let e = c .before .before .put3 .ensures in (λ r fr n page ws sh. calm-register fr n (s .args .p) (s .args .t) page (s .args .y) (s .args .regs .now) ws sh (s .args .w) _ (getD (s .args .regs .now) (s .args .rs1) 0) (getD (s .args .regs .now) (s .args .rs2) 0) (c .before .before .before .before .before .before .wide .ensures) (simp (s .pre .1 .0)) (simp (s .pre .1 .1 .0)) Xor _ _ _ (f-38 (s .args .w) (c .before .before .before .before .before .match .keys5)) refl refl (e .1) (e .2), λ q. absurd (true≢false (sym (e .0) ∙ q)))
 
 -- src/lib.rt:262:1
 same-length-6 : tie.Need-same-length-6
@@ -128,7 +128,7 @@ same-length-6 c = search needs
 
 -- src/lib.rt:262:1
 returns-8 : tie.Need-returns-8
-returns-8 c = let s = c .before .before .before .before .before .before .before .before .before .before in let e = c .before .before .read-special .ensures in (λ r fr n page ws sh. special-register fr n (s .args .p) (s .args .t) page (s .args .y) (s .args .regs .now) ws sh (s .args .w) _ (getD (s .args .regs .now) (s .args .rs1) 0) (getD (s .args .regs .now) (s .args .rs2) 0) (c .before .before .before .before .before .before .wide .ensures) (simp (s .pre .1 .0)) (simp (s .pre .1 .1)) _ _ (c .before .before .before .before .before .match .keys6) (e .0 r .0) (e .0 r .1) (e .0 r .2) (e .0 r .3), λ q. e .1 q)
+returns-8 c = let s = c .before .before .before .before .before .before .before .before .before .before .before in let e = c .before .before .read-special .ensures in (λ r fr n page ws sh. special-register fr n (s .args .p) (s .args .t) page (s .args .y) (s .args .regs .now) ws sh (s .args .w) _ (getD (s .args .regs .now) (s .args .rs1) 0) (getD (s .args .regs .now) (s .args .rs2) 0) (c .before .before .before .before .before .before .wide .ensures) (simp (s .pre .1 .0)) (simp (s .pre .1 .1 .0)) _ _ (c .before .before .before .before .before .match .keys6) (e .0 r .0) (e .0 r .1) (e .0 r .2) (e .0 r .3), λ q. e .1 q)
 
 -- src/lib.rt:262:1
 same-length-7 : tie.Need-same-length-7
@@ -137,7 +137,7 @@ same-length-7 c = search needs
 -- src/lib.rt:262:1
 returns-9 : tie.Need-returns-9
 unfolding valueOf overflowsOf
-returns-9 c = let s = c .before .before .before .before .before .before .before .before .before .before .before .before .before in let e = c .before .before .put4 .ensures in (λ r fr n page ws sh. calm-register fr n (s .args .p) (s .args .t) page (s .args .y) (s .args .regs .now) ws sh (s .args .w) _ (getD (s .args .regs .now) (s .args .rs1) 0) (getD (s .args .regs .now) (s .args .rs2) 0) (c .before .before .before .before .before .before .before .before .before .wide .ensures) (simp (s .pre .1 .0)) (simp (s .pre .1 .1)) (Test (s .args .w % 64 - 40)) _ _ _ (f-test (s .args .w) (omega (arith, c .before .before .before .before .before .before .before .if1 .left)) (omega (arith, c .before .before .before .before .before .before .if2 .left))) refl (c .before .before .before .before .test .ensures) (e .1) (e .2), λ q. absurd (true≢false (sym (e .0) ∙ q)))
+returns-9 c = let s = c .before .before .before .before .before .before .before .before .before .before .before .before .before .before in let e = c .before .before .put4 .ensures in (λ r fr n page ws sh. calm-register fr n (s .args .p) (s .args .t) page (s .args .y) (s .args .regs .now) ws sh (s .args .w) _ (getD (s .args .regs .now) (s .args .rs1) 0) (getD (s .args .regs .now) (s .args .rs2) 0) (c .before .before .before .before .before .before .before .before .before .wide .ensures) (simp (s .pre .1 .0)) (simp (s .pre .1 .1 .0)) (Test (s .args .w % 64 - 40)) _ _ _ (f-test (s .args .w) (omega (arith, c .before .before .before .before .before .before .before .if1 .left)) (omega (arith, c .before .before .before .before .before .before .if2 .left))) refl (c .before .before .before .before .test .ensures) (e .1) (e .2), λ q. absurd (true≢false (sym (e .0) ∙ q)))
 
 pub register-type-spec : {M : Type 1} → statement M
 register-type-spec =

@@ -1,4 +1,4 @@
-use Rattle.plain.proofs.Laws.{seen-inside, store-does, not-false}
+use Rattle.plain.proofs.Laws.{seen-inside, store-does, not-held, not-false}
 use Rattle.processor.proofs.Opcodes.{or-right}
 use Rattle.dlx.specs.Fields.{loading, storing}
 use Rattle.translate.proofs.Entries.{placed-listed}
@@ -14,7 +14,6 @@ use Rattle.plain.proofs.store.Reads as reads
 use Rattle.plain.proofs.store.Lts as lts
 use Rattle.dlx.proofs.words.wide.Reads as wide-reads
 use Rattle.plain.proofs.fits.Reads as fits-reads
-use Rattle.plain.proofs.holds.Reads as holds-reads
 use Rattle.plain.proofs.seen.Reads as seen-reads
 use Rattle.shadow.proofs.place.Reads as place-reads
 use Rattle.std.proofs.num.wrapping_add_u32.Reads as wrapping-add-u32-reads
@@ -25,7 +24,7 @@ wrapping-add-u32-requires c κs = search needs
 
 -- src/lib.rt:166:9
 fits-requires : tie.Need-fits-requires
-fits-requires c κs = or-right (loading (c .before .before .before .before .args .o)) (storing (c .before .before .before .before .args .o)) (c .before .before .before .before .pre .1 .1)
+fits-requires c κs = or-right (loading (c .before .before .before .before .args .o)) (storing (c .before .before .before .before .args .o)) (c .before .before .before .before .pre .1 .1 .0)
 
 -- src/lib.rt:167:9
 returns : tie.Need-returns
@@ -38,10 +37,6 @@ seen-requires c κs = (placed-listed (c .before .before .before .before .before 
 -- src/lib.rt:171:9
 returns-2 : tie.Need-returns-2
 returns-2 c = (λ e. absurd (false≢true e), λ _. refl)
-
--- src/lib.rt:174:8
-holds-requires : tie.Need-holds-requires
-holds-requires c κs = placed-listed (c .before .before .before .before .before .before .before .before .before .pre .0)
 
 -- src/lib.rt:175:9
 returns-3 : tie.Need-returns-3
@@ -69,13 +64,13 @@ mul-place c = search needs
 
 -- src/lib.rt:178:39
 slice-read-place : tie.Need-slice-read-place
-slice-read-place c = let s = c .before .before .before .before .before .before .before .before .before .before .before .before .before .before in
-    let i = seen-inside _ _ (s .args .t) (s .args .words .now) _ _ _ _ (s .pre .0) (s .pre .1 .0) (c .before .before .before .before .before .before .seen .ensures) (eq-eqb (c .before .before .before .before .before .before .seen .result / 2 ^ 11 % 2) 1 (omega (arith, c .before .before .before .before .before .if2 .left))) in
+slice-read-place c = let s = c .before .before .before .before .before .before .before .before .before .before .before .before .before in
+    let i = seen-inside _ _ (s .args .t) (s .args .words .now) _ _ _ _ (s .pre .0) (s .pre .1 .0) (c .before .before .before .before .before .seen .ensures) (eq-eqb (c .before .before .before .before .before .seen .result / 2 ^ 11 % 2) 1 (omega (arith, c .before .before .before .before .if2 .left))) in
     omega (arith, i, c .before .wide2 .ensures, c .before .before .wide .ensures)
 
 -- src/lib.rt:178:16
 place-requires : tie.Need-place-requires
-place-requires c κs = (c .before .before .before .before .before .before .before .before .before .before .before .before .before .before .pre .1 .1, sym (c .before .before .before .before .before .before .before .before .before .fits2 .ensures) ∙ not-false _ (c .before .before .before .before .before .before .before .before .if1 .left))
+place-requires c κs = (c .before .before .before .before .before .before .before .before .before .before .before .before .before .pre .1 .1 .0, sym (c .before .before .before .before .before .before .before .before .fits2 .ensures) ∙ not-false _ (c .before .before .before .before .before .before .before .if1 .left))
 
 -- src/lib.rt:178:5
 mul-words : tie.Need-mul-words
@@ -83,8 +78,8 @@ mul-words c = search needs
 
 -- src/lib.rt:178:5
 slice-write-words : tie.Need-slice-write-words
-slice-write-words c = let s = c .before .before .before .before .before .before .before .before .before .before .before .before .before .before .before in
-    let i = seen-inside _ _ (s .args .t) (s .args .words .now) _ _ _ _ (s .pre .0) (s .pre .1 .0) (c .before .before .before .before .before .before .before .seen .ensures) (eq-eqb (c .before .before .before .before .before .before .before .seen .result / 2 ^ 11 % 2) 1 (omega (arith, c .before .before .before .before .before .before .if2 .left))) in
+slice-write-words c = let s = c .before .before .before .before .before .before .before .before .before .before .before .before .before .before in
+    let i = seen-inside _ _ (s .args .t) (s .args .words .now) _ _ _ _ (s .pre .0) (s .pre .1 .0) (c .before .before .before .before .before .before .seen .ensures) (eq-eqb (c .before .before .before .before .before .before .seen .result / 2 ^ 11 % 2) 1 (omega (arith, c .before .before .before .before .before .if2 .left))) in
     omega (arith, i, c .before .before .wide2 .ensures, c .before .before .before .wide .ensures)
 
 -- src/lib.rt:179:15
@@ -97,8 +92,8 @@ same-length c = search needs
 
 -- src/lib.rt:148:1
 returns-4 : tie.Need-returns-4
-returns-4 c = let s = c .before .before .before .before .before .before .before .before .before .before .before .before .before .before .before .before in
-    (λ _ page rs. store-does _ _ (s .args .p) (s .args .t) page (s .args .y) rs (s .args .words .now) _ (s .args .o) (s .args .x) (s .args .imm) _ _ (c .before .before .before .before .before .before .before .before .before .before .before .before .wrapping-add-u32 .ensures) (sym (not-false _ (c .before .before .before .before .before .before .before .before .before .before .if1 .left)) ∙ c .before .before .before .before .before .before .before .before .before .before .before .fits2 .ensures) (c .before .before .before .before .before .before .before .before .seen .ensures) (eq-eqb (c .before .before .before .before .before .before .before .before .seen .result / 2 ^ 11 % 2) 1 (omega (arith, c .before .before .before .before .before .before .before .if2 .left))) (s .args .v) _ (c .before .before .before .before .wide .result * 1024 + c .before .before .before .wide2 .result) _ (ne-eqb (c .before .before .before .before .before .before .before .before .seen .result / 2 ^ 10 % 2) 1 (λ q. omega (arith, q, c .before .before .before .before .before .before .before .if2 .left))) (sym (c .before .before .before .before .before .if3 .left) ∙ c .before .before .before .before .before .before .holds .ensures) (simp (c .before .before .before .wide2 .ensures, c .before .before .before .before .wide .ensures)) (simp (c .before .place .ensures)) (c .wrapping-add-u322 .ensures), λ e. absurd (true≢false e))
+returns-4 c = let s = c .before .before .before .before .before .before .before .before .before .before .before .before .before .before .before in
+    (λ _ page rs. store-does _ _ (s .args .p) (s .args .t) page (s .args .y) rs (s .args .words .now) _ (s .args .o) (s .args .x) (s .args .imm) _ _ (c .before .before .before .before .before .before .before .before .before .before .before .wrapping-add-u32 .ensures) (sym (not-false _ (c .before .before .before .before .before .before .before .before .before .if1 .left)) ∙ c .before .before .before .before .before .before .before .before .before .before .fits2 .ensures) (c .before .before .before .before .before .before .before .seen .ensures) (eq-eqb (c .before .before .before .before .before .before .before .seen .result / 2 ^ 11 % 2) 1 (omega (arith, c .before .before .before .before .before .before .if2 .left))) (s .args .v) _ (c .before .before .before .before .wide .result * 1024 + c .before .before .before .wide2 .result) _ (ne-eqb (c .before .before .before .before .before .before .before .seen .result / 2 ^ 10 % 2) 1 (λ q. omega (arith, q, c .before .before .before .before .before .before .if2 .left))) (not-held _ _ _ _ _ (s .pre .1 .1 .1) (c .before .before .before .before .before .if3 .left)) (simp (c .before .before .before .wide2 .ensures, c .before .before .before .before .wide .ensures)) (simp (c .before .place .ensures)) (c .wrapping-add-u322 .ensures), λ e. absurd (true≢false e))
 
 pub store-spec : {M : Type 1} → statement M
 store-spec =
@@ -109,7 +104,6 @@ store-spec =
     returns
     seen-requires
     returns-2
-    holds-requires
     returns-3
     wide-requires
     mul-i

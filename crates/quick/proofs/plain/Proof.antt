@@ -1,4 +1,4 @@
-use Rattle.quick.proofs.Laws.{goes-none, cached-here}
+use Rattle.quick.proofs.Laws.{goes-none, found-none, cached-here}
 use Rattle.translate.proofs.Entries.{placed-listed}
 use borrow.Author.Tests.{eq-eqb}
 use mathlib.Core.Path.{_≡_, refl}
@@ -13,11 +13,11 @@ use Rattle.plain.proofs.seen.Reads as seen-reads
 
 -- src/lib.rt:505:9
 seen-requires : tie.Need-seen-requires
-seen-requires c κs = (placed-listed (c .before .before .before .before .before .pre .1 .0), c .before .before .before .before .before .pre .1 .1 .count)
+seen-requires c κs = (placed-listed (c .before .before .before .before .before .before .pre .1 .0), c .before .before .before .before .before .before .pre .1 .1 .0 .count)
 
 -- src/lib.rt:507:9
 returns : tie.Need-returns
-returns c = (goes-none _ _ _ _ _ _ _ _ _ _ refl refl, refl, refl)
+returns c = (goes-none _ _ _ _ _ _ _ _ _ _ refl refl, refl, refl, found-none _ _ _ _ (c .before .before .before .before .before .before .before .before .args .k) (c .before .before .before .before .before .before .before .before .args .p) _ _ _)
 
 -- src/lib.rt:513:16
 mul-page : tie.Need-mul-page
@@ -33,7 +33,7 @@ mul-base c = search needs
 
 -- src/lib.rt:515:5
 in-page-requires : tie.Need-in-page-requires
-in-page-requires c κs = let s = c .before .before .before .before .before .before .before .before .before .before in (s .pre .0, (s .pre .1 .0, (s .pre .1 .1, cached-here _ _ _ _ _ _ _ _ (c .before .before .before .before .seen .ensures) (eq-eqb _ _ (c .before .before .before .if1 .left)) refl (simp (c .before .before .wide .ensures)))))
+in-page-requires c κs = let s = c .before .before .before .before .before .before .before .before .before .before .before in (s .pre .0, (s .pre .1 .0, (s .pre .1 .1 .0, (cached-here _ _ _ _ _ _ _ _ (c .before .before .before .before .seen .ensures) (eq-eqb _ _ (c .before .before .before .if1 .left)) refl (simp (c .before .before .wide .ensures)), s .pre .1 .1 .1))))
 
 -- src/lib.rt:491:1
 same-length : tie.Need-same-length
