@@ -13,8 +13,8 @@ use lib.ListN.{length, getD, take, drop, length-replicate, getD-replicate, List�
 use Rattle.dlx.specs.Choice.{if_then_else_}
 use Rattle.dlx.specs.declared.partition.Partition.{Partition}
 use Rattle.dlx.proofs.Tests.{by-test, by-eq}
-use Rattle.translate.specs.Entries.{number}
-use Rattle.translate.specs.Walk.{entries}
+use Rattle.addresses.specs.Entries.{number}
+use Rattle.addresses.specs.Walk.{entries}
 use Rattle.dlx.specs.Parts.{inner}
 use Rattle.house.specs.Lists.{any, between}
 use Rattle.house.specs.House.{noPartition}

@@ -7,8 +7,8 @@ use lib.ListN.{getD, replicate}
 use Rattle.dlx.specs.Choice.{if_then_else_}
 use Rattle.dlx.specs.declared.partition.Partition.{Partition}
 use Rattle.dlx.specs.declared.partition.Processor.{Processor}
-use Rattle.translate.specs.Entries.{number, valid}
-use Rattle.translate.specs.Walk.{entries}
+use Rattle.addresses.specs.Entries.{number, valid}
+use Rattle.addresses.specs.Walk.{entries}
 use Rattle.dlx.specs.Parts.{inner}
 use Rattle.house.specs.Lists.{any, between}
 use Rattle.house.specs.House.{noPartition}

@@ -3,17 +3,17 @@ ghost use mathlib.Core.Path.{_≡_};
 ghost use mathlib.Core.Bool.{false};
 ghost use Prim.Native.Nat.{ℕ, _+_, _<_, _≤_};
 ghost use lib.ListN.{length, getD, replicate};
-ghost use Rattle.translate.specs.Walk.{entries};
+ghost use Rattle.addresses.specs.Walk.{entries};
 ghost use Rattle.house.specs.Lists.{any};
 ghost use Rattle.house.specs.House.{allEntries, noPartition};
 ghost use Rattle.house.specs.Damage.{damaged, partitionUsed, notZero};
 ghost use Rattle.damage.specs.Marks.{Within, inside, groupMarked, pagesAt, partAt, pagesOutside, barredAt, framesBarred, outside, ownersOf, twiceIn, entryMarked, shadowMarked, turnOutside, processorWrong, registersAt, behind, roomWrong, countWrong, queueOutside, queueAt};
+use addresses::ENTRIES;
 use dlx::partition::Partition;
 use dlx::partition::Processor;
 use dlx::words::wide;
 use house::House;
 use marks::mark;
-use translate::ENTRIES;
 
 // Some partition below n runs.
 pub fn any_runs(running: &[bool; 8], n: usize) -> bool

@@ -10,7 +10,7 @@ use lib.ListN.{length, getD, length-append}
 use Rattle.dlx.specs.Choice.{if_then_else_}
 use Rattle.dlx.specs.Machine.{steps}
 use Rattle.dlx.proofs.Feeds.{steps-same}
-use Rattle.translate.specs.Memory.{loneMemory}
+use Rattle.addresses.specs.Memory.{loneMemory}
 use Rattle.dlx.proofs.Tests.{by-test, by-eq}
 use Rattle.house.specs.House.{noHouse, queuesOf}
 use Rattle.house.specs.Damage.{damaged}

@@ -5,7 +5,7 @@ use Prim.Native.Nat.{ℕ, _+_, _*_, _/_}
 use native.Mathlib.Omega.{arith}
 use borrow.Author.Tests.{eq-eqb}
 use lib.ListN.{getD, drop}
-use Rattle.translate.specs.Memory.{hostWord}
+use Rattle.addresses.specs.Memory.{hostWord}
 use Rattle.house.specs.Lists.{listFrom}
 use Rattle.house.specs.House.{pagesOf, framesOf}
 use Rattle.house.specs.Turns.{World}

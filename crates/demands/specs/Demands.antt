@@ -7,9 +7,9 @@ use lib.Dec.{eqb}
 use lib.ListN.{length, getD, drop}
 use Rattle.dlx.specs.Choice.{if_then_else_}
 use Rattle.dlx.specs.Machine.{step, steps}
-use Rattle.translate.specs.Entries.{number, valid, protection, refused, protectedPage, Found, fault, found}
-use Rattle.translate.specs.Memory.{wordIn, loneFound, loneMemory, served}
-use Rattle.translate.specs.Premises.{Own}
+use Rattle.addresses.specs.Entries.{number, valid, protection, refused, protectedPage, Found, fault, found}
+use Rattle.addresses.specs.Memory.{wordIn, loneFound, loneMemory, served}
+use Rattle.addresses.specs.Premises.{Own}
 use Rattle.house.specs.Lists.{listFrom}
 use Rattle.house.specs.House.{noHouse, partition, pagesOf, runs, registersOf, framesOf, shadowOf, queuesOf, turn, turnNow}
 use Rattle.house.specs.Damage.{damaged}

@@ -9,7 +9,7 @@ use Rattle.dlx.specs.Choice.{if_then_else_}
 use Rattle.dlx.specs.Processor.{freshProcessor, noTimer}
 use Rattle.dlx.specs.Machine.{Core, core, Request, asked, reply}
 use Rattle.dlx.specs.declared.execute.Reply.{Reply}
-use Rattle.translate.specs.Memory.{Lone, lone, loneMemory, hostWord}
+use Rattle.addresses.specs.Memory.{Lone, lone, loneMemory, hostWord}
 use Rattle.house.specs.Lists.{listFrom}
 use Rattle.house.specs.House.{partition, pagesOf, runs, registersOf, framesOf, queuesOf}
 use Rattle.tickets.specs.Queues.{queueOf, ruled, sentTo, takenBy}

@@ -9,7 +9,7 @@ use Rattle.dlx.specs.declared.partition.Partition.{Partition}
 use Rattle.dlx.specs.declared.partition.Processor.{Processor}
 use Rattle.dlx.specs.declared.partition.Table.{Table}
 use Rattle.dlx.specs.declared.partition.Timer.{Timer}
-use Rattle.translate.specs.Walk.{entries}
+use Rattle.addresses.specs.Walk.{entries}
 use Rattle.house.specs.declared.House.{House}
 use Rattle.house.specs.House.{partition, registersOf, framesOf}
 use Rattle.house.specs.House.{shadowOf as entriesIn}

@@ -5,7 +5,7 @@ ghost use mathlib.Core.List.{[], _++_};
 ghost use lib.ListN.{length, getD, take};
 ghost use Rattle.decimal.specs.Texts.{ascii, Puts, joined};
 ghost use Rattle.dlx.specs.Parts.{inner};
-ghost use Rattle.translate.specs.Walk.{entries as shadowLength};
+ghost use Rattle.addresses.specs.Walk.{entries as shadowLength};
 ghost use Rattle.house.specs.House.{allEntries, noPartition};
 ghost use Rattle.drill_text.specs.Lines.{rowOf};
 ghost use Rattle.drill_text.specs.Numbers.{numberOf};
@@ -14,6 +14,7 @@ use crate::ROOM;
 use crate::lines::rest;
 use crate::lines::row;
 use crate::numbers::number;
+use addresses::ENTRIES;
 use decimal::put_byte;
 use decimal::put_decimal;
 use decimal::put_text;
@@ -22,7 +23,6 @@ use dlx::partition::Processor;
 use dlx::partition::Table;
 use dlx::partition::Timer;
 use house::House;
-use translate::ENTRIES;
 
 // From DPC to EMODE, in the text's order, the latest fault, and the timer.
 fn specials(p: Processor, t: Table, fault: u32, k: Timer) -> [u32; 15]

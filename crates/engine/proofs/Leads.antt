@@ -27,11 +27,11 @@ use Rattle.dlx.specs.declared.execute.Effect.the-variants.{Done}
 use Rattle.dlx.specs.declared.instruction.Instruction.the-variants.{Trap, Rfe}
 use Rattle.dlx.proofs.Spells.{Within, spell-some, spell-stretch, still-ticked, still-raised}
 use Rattle.tickets.specs.Queues.{Queues, desk, Seated}
-use Rattle.translate.specs.Memory.{Host, host, hostMemory}
+use Rattle.addresses.specs.Memory.{Host, host, hostMemory}
 use Rattle.plain.specs.Plain.{pairOf, Numbered}
 use Rattle.quick.specs.Quick.{Goes, Found}
 use Rattle.engine.specs.declared.Turned.{Turned}
-use Rattle.translate.proofs.Steps.{Whole}
+use Rattle.addresses.proofs.Steps.{Whole}
 use Rattle.engine.specs.Answers.{Fits, turnedOf, listOf, processorAt, tableAt, timerAt, Arrived, Leads, Happened}
 use Rattle.engine.proofs.Parts.{leg-is, Roomy, step-done, stretch-step, stretch-on, turn-called, turn-on, after-step}
 

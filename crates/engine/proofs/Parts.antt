@@ -27,12 +27,12 @@ use Rattle.dlx.proofs.Places.{fetched-places, accessed-places, accessed-count}
 use Rattle.dlx.proofs.Spells.{Within, spell-places, spell-some, leg-stretch}
 use Rattle.tickets.specs.Queues.{Queues, Seated, desk}
 use Rattle.tickets.proofs.Queues.{desk-queued}
-use Rattle.translate.specs.Memory.{Host, host, hostReads, hostMemory}
-use Rattle.translate.specs.Premises.{Placed}
+use Rattle.addresses.specs.Memory.{Host, host, hostReads, hostMemory}
+use Rattle.addresses.specs.Premises.{Placed}
 use Rattle.dlx.specs.declared.partition.Table.{Table}
 use Rattle.plain.specs.Plain.{pairOf}
 use Rattle.quick.specs.Quick.{Goes}
-use Rattle.translate.proofs.Steps.{Whole, fetched-whole, accessed-whole, retabled-whole}
+use Rattle.addresses.proofs.Steps.{Whole, fetched-whole, accessed-whole, retabled-whole}
 use Rattle.engine.specs.Answers.{roomOf}
 
 -- a step of a spell

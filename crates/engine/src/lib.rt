@@ -9,9 +9,9 @@ ghost use Rattle.dlx.specs.declared.partition.Timer.{Timer};
 ghost use Rattle.dlx.specs.Machine.{core, fetched, Asks, accessedAt, retabled, stepAt, stretchFrom};
 ghost use Rattle.dlx.specs.Spells.{sunk, plainly, passedAt};
 ghost use Rattle.tickets.specs.Queues.{queues, desk, Seated};
-ghost use Rattle.translate.specs.Walk.{entries};
-ghost use Rattle.translate.specs.Memory.{host, hostMemory};
-ghost use Rattle.translate.specs.Premises.{Placed, Shadowed};
+ghost use Rattle.addresses.specs.Walk.{entries};
+ghost use Rattle.addresses.specs.Memory.{host, hostMemory};
+ghost use Rattle.addresses.specs.Premises.{Placed, Shadowed};
 ghost use Rattle.plain.specs.Plain.{pairOf};
 ghost use Rattle.engine.specs.Answers.{Fits, walkedOf, roomOf, stretchOf, processorAt, tableAt, timerAt, listOf, Arrived, Happened, Leads, turnedOf};
 use dlx::execute::Access;
@@ -65,7 +65,7 @@ fn fetch(
     if dpc % 4 != 0 {
         return Effect::Done(Change::Cause(Partition::MAL, 0));
     }
-    match shadow::load(words, frames, shadow, pages, t, p.mode == 1, dpc) {
+    match translate::load(words, frames, shadow, pages, t, p.mode == 1, dpc) {
         Access::Fault(n) => {
             *latest = n;
             Effect::Done(Change::Cause(Partition::PFF, dpc))
@@ -102,7 +102,7 @@ fn access(
     let next = std::num::wrapping_add_u32(p.pc, 4);
     match e {
         Effect::Done(c) => c,
-        Effect::Load(rd, a, o) => match shadow::load(
+        Effect::Load(rd, a, o) => match translate::load(
             words,
             frames,
             shadow,
@@ -118,7 +118,7 @@ fn access(
             Access::Word(w) => Change::Plain(rd, processor::fields::bring(o, a, w), next),
         },
         Effect::Store(o, a, v) => {
-            let n = shadow::store(words, frames, shadow, pages, t, p.mode == 1, o, a, v);
+            let n = translate::store(words, frames, shadow, pages, t, p.mode == 1, o, a, v);
             if n == 0 {
                 return Change::Plain(0, 0, next);
             }
@@ -145,7 +145,7 @@ fn retable(t: Table, shadow: &mut [u32], c: Change) -> Table
         Change::Plain(_, _, _) => t,
         Change::Special(_, _) => t,
         Change::Retable(n) => {
-            shadow::clear(shadow);
+            translate::clear(shadow);
             n
         }
         Change::Cause(_, _) => t,

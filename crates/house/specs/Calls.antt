@@ -5,8 +5,8 @@ use Prim.Native.Nat.{ℕ, _+_, _*_, _/_, _%_}
 use lib.Dec.{ltb, leb, eqb}
 use lib.ListN.{length, getD, set, drop, replicate}
 use Rattle.dlx.specs.Choice.{if_then_else_}
-use Rattle.translate.specs.Walk.{entries}
-use Rattle.translate.specs.Memory.{hostWord}
+use Rattle.addresses.specs.Walk.{entries}
+use Rattle.addresses.specs.Memory.{hostWord}
 use Rattle.dlx.specs.Parts.{outer}
 use Rattle.house.specs.Lists.{listFrom, any}
 use Rattle.house.specs.House.{noHouse, turn, withTurn, withShadows, pagesOf, framesOf}

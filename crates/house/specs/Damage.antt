@@ -6,8 +6,8 @@ use lib.Dec.{ltb, leb, eqb}
 use lib.ListN.{getD}
 use Rattle.dlx.specs.Choice.{if_then_else_}
 use Rattle.dlx.specs.declared.partition.Partition.{Partition}
-use Rattle.translate.specs.Entries.{number, valid}
-use Rattle.translate.specs.Walk.{entries}
+use Rattle.addresses.specs.Entries.{number, valid}
+use Rattle.addresses.specs.Walk.{entries}
 use Rattle.house.specs.Lists.{any, between}
 use Rattle.house.specs.House.{partition, pagesOf, runs, registersOf, framesOf, shadowOf, queuesOf}
 use Rattle.tickets.specs.Queues.{placesOf, waitingOf}

@@ -12,8 +12,8 @@ use Rattle.dlx.specs.Interrupts.{levelOf}
 use Rattle.dlx.specs.declared.partition.Partition.{Partition}
 use Rattle.dlx.specs.declared.partition.Processor.{Processor}
 use Rattle.dlx.specs.declared.partition.Timer.{Timer}
-use Rattle.translate.specs.Entries.{entryOf, faultWord, compositionOf}
-use Rattle.translate.specs.Walk.{entries}
+use Rattle.addresses.specs.Entries.{entryOf, faultWord, compositionOf}
+use Rattle.addresses.specs.Walk.{entries}
 use Rattle.house.specs.Lists.{listFrom}
 use Rattle.house.specs.House.{freshShadows, noHouse, layout, guests, turn, withLayout, withTurn, withGuests, withQueues, withFrames, withParts, withRegisters, withShadows, partition, registersOf}
 use Rattle.house.specs.Damage.{outsideLimits, frameTwice, turnWrong, registersWrong, shadowWrong, partitionUsed, unusedWrong, queuesWrong, damaged}

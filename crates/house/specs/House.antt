@@ -6,7 +6,7 @@ use lib.ListN.{getD, replicate}
 use Rattle.dlx.specs.Processor.{freshOf, withProcessor}
 use Rattle.dlx.specs.declared.partition.Partition.{Partition}
 use Rattle.dlx.specs.Parts.{inner}
-use Rattle.translate.specs.Walk.{entries}
+use Rattle.addresses.specs.Walk.{entries}
 use Rattle.tickets.specs.Queues.{Queues, queues}
 use Rattle.house.specs.declared.House.{House}
 use Rattle.house.specs.declared.Turn.{Turn}

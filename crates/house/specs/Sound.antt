@@ -5,9 +5,9 @@ use mathlib.Core.List.{List}
 use Prim.Native.Nat.{ℕ, _/_, _%_, _^_, _<_, _≤_}
 use lib.ListN.{length, getD}
 use Rattle.dlx.specs.declared.partition.Partition.{Partition}
-use Rattle.translate.specs.Entries.{number, valid}
-use Rattle.translate.specs.Walk.{entries}
-use Rattle.translate.specs.Premises.{Placed, Own, Shadowed}
+use Rattle.addresses.specs.Entries.{number, valid}
+use Rattle.addresses.specs.Walk.{entries}
+use Rattle.addresses.specs.Premises.{Placed, Own, Shadowed}
 use Rattle.house.specs.House.{allEntries, noPartition, partition, pagesOf, runs, registersOf, framesOf, shadowOf, queuesOf}
 use Rattle.house.specs.Damage.{damaged}
 use Rattle.house.specs.Turns.{World}

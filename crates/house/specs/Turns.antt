@@ -10,8 +10,8 @@ use Rattle.dlx.specs.Processor.{withProcessor, withTable, withTimer, withCounte
 use Rattle.dlx.specs.declared.execute.Reply.{Reply}
 use Rattle.dlx.specs.declared.partition.Partition.{Partition}
 use Rattle.dlx.specs.declared.partition.Table.{Table}
-use Rattle.translate.specs.Walk.{entries}
-use Rattle.translate.specs.Memory.{Host, host, stale, hostMemory}
+use Rattle.addresses.specs.Walk.{entries}
+use Rattle.addresses.specs.Memory.{Host, host, stale, hostMemory}
 use Rattle.dlx.specs.Parts.{outer}
 use Rattle.house.specs.House.{guests, turn, withTurn, withGuests, withQueues, partition, pagesOf, registersOf, framesOf, shadowOf, queuesOf}
 use Rattle.tickets.specs.Queues.{Queues, desk}

@@ -1,8 +1,8 @@
 // The house: one state for up to 8 partitions. Partition i's registers stand at 32 * i, its frame list at 256 * i, its shadow at ENTRIES * i.
 ghost use mathlib.Core.Path.{_≡_};
 ghost use Rattle.house.specs.House.{noHouse};
+use addresses::ENTRIES;
 use dlx::partition::Partition;
-use translate::ENTRIES;
 
 // The shadow entries of all partitions.
 pub const ALL_ENTRIES: usize = 8 * ENTRIES;

@@ -7,8 +7,8 @@ use native.Mathlib.Numerals.{add-one}
 use native.Mathlib.Omega.{arith}
 use lib.ListN.{length, getD, set, take, drop}
 use lib.Seq.{drop-cons, set-append-seam}
-use Rattle.translate.specs.Memory.{hostWord}
-use Rattle.translate.specs.Premises.{Placed}
+use Rattle.addresses.specs.Memory.{hostWord}
+use Rattle.addresses.specs.Premises.{Placed}
 use Rattle.dlx.specs.Parts.{inner}
 use Rattle.house.specs.Lists.{listFrom}
 use Rattle.house.specs.House.{pagesOf, framesOf}

@@ -12,9 +12,9 @@ use Rattle.dlx.specs.Processor.{withProcessor, withTable, withTimer, withCounte
 use Rattle.dlx.specs.Machine.{core, stretchFrom}
 use Rattle.dlx.proofs.Kept.{either}
 use Rattle.dlx.specs.declared.partition.Partition.{Partition}
-use Rattle.translate.specs.Walk.{entries}
-use Rattle.translate.specs.Memory.{host, hostMemory}
-use Rattle.translate.specs.Premises.{Placed, Shadowed}
+use Rattle.addresses.specs.Walk.{entries}
+use Rattle.addresses.specs.Memory.{host, hostMemory}
+use Rattle.addresses.specs.Premises.{Placed, Shadowed}
 use Rattle.engine.specs.declared.Stretched.{Stretched}
 use Rattle.engine.specs.Answers.{stretchOf}
 use Rattle.dlx.specs.Parts.{inner, outer}

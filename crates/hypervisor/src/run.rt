@@ -5,10 +5,10 @@ ghost use lib.Dec.{leb};
 ghost use Rattle.dlx.specs.Choice.{if_then_else_};
 ghost use Rattle.house.specs.Turns.{world, following as followingOf, nextOf, turnOf, hostSteps};
 ghost use Rattle.house.specs.Sound.{Sound};
+use addresses::ENTRIES;
 use dlx::words::wide;
 use house::House;
 use house::Turn;
-use translate::ENTRIES;
 
 // The partition after i, in cyclic order.
 fn following(n: u32, i: u32) -> u32

@@ -8,13 +8,13 @@ ghost use Rattle.house.specs.Lists.{listFrom};
 ghost use Rattle.house.specs.House.{pagesOf, turn, withTurn};
 ghost use Rattle.house.specs.Turns.{world};
 ghost use Rattle.house.specs.Calls.{started, stopped, emptiedHouse, readVerdict, readOut};
-ghost use Rattle.translate.specs.Memory.{hostWord};
-ghost use Rattle.translate.specs.Premises.{Placed};
+ghost use Rattle.addresses.specs.Memory.{hostWord};
+ghost use Rattle.addresses.specs.Premises.{Placed};
 use crate::run::next;
+use addresses::ENTRIES;
 use damage::any_runs;
 use dlx::words::wide;
 use house::House;
-use translate::ENTRIES;
 
 // The house with other flags and another turn.
 fn with_turn(h: House, running: [bool; 8], current: u32, left: u32) -> House
@@ -66,7 +66,7 @@ pub fn empty(h: House, i: u32) -> House
     let mut shadows = h.shadows;
     let a = wide(i) * ENTRIES;
     let b = a + ENTRIES;
-    shadow::clear(&mut shadows[a..b]);
+    translate::clear(&mut shadows[a..b]);
     let mut r = h;
     r.shadows = shadows;
     r

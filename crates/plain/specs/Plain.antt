@@ -15,9 +15,9 @@ use Rattle.dlx.specs.declared.partition.Timer.{Timer}
 use Rattle.dlx.specs.declared.partition.Processor.{Processor}
 use Rattle.dlx.specs.declared.execute.Effect.{Effect}
 use Rattle.tickets.specs.Queues.{Queues, desk}
-use Rattle.translate.specs.Entries.{number, valid}
-use Rattle.translate.specs.Walk.{direct}
-use Rattle.translate.specs.Memory.{hosted, host, hostMemory}
+use Rattle.addresses.specs.Entries.{number, valid}
+use Rattle.addresses.specs.Walk.{direct}
+use Rattle.addresses.specs.Memory.{hosted, host, hostMemory}
 
 -- the entry that serves an access without a walk
 unfoldable pub seenOf : List ℕ → ℕ → List ℕ → Bool → ℕ → ℕ

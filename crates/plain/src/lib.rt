@@ -14,13 +14,13 @@ ghost use Rattle.dlx.specs.declared.partition.Table.{Table};
 ghost use Rattle.dlx.specs.declared.instruction.Operation.the-variants.{Add, Sub};
 ghost use Rattle.dlx.specs.declared.execute.Change.the-variants.{Plain};
 ghost use Rattle.dlx.specs.declared.execute.Effect.the-variants.{Done};
-ghost use Rattle.translate.specs.Walk.{entries};
-ghost use Rattle.translate.specs.Premises.{Listed, Placed, Shadowed};
+ghost use Rattle.addresses.specs.Walk.{entries};
+ghost use Rattle.addresses.specs.Premises.{Listed, Placed, Shadowed};
 ghost use Rattle.plain.specs.Plain.{seenOf, heldOf, Numbered, Does};
+use addresses::ENTRIES;
 use dlx::partition::Processor;
 use dlx::partition::Table;
 use dlx::words::wide;
-use translate::ENTRIES;
 
 // Virtual pages are below it.
 const LIMIT: u32 = ENTRIES as u32;
@@ -37,7 +37,7 @@ pub fn seen(frames: &[u32], shadow: &[u32], pages: u32, user: bool, a: u32) -> u
         }
         return shadow[wide(page)];
     }
-    shadow::straight(frames, pages, a)
+    translate::straight(frames, pages, a)
 }
 
 // The frame that holds the table, or a number that is no frame's.
@@ -161,7 +161,7 @@ fn store(
         return false;
     }
     let i = wide(frame) * 1024 + wide(a / 4 % 1024);
-    words[i] = shadow::place(o, a, v, words[i]);
+    words[i] = translate::place(o, a, v, words[i]);
     *target = std::num::wrapping_add_u32(y, 4);
     true
 }

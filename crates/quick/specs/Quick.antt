@@ -12,8 +12,8 @@ use Rattle.dlx.specs.declared.partition.Table.{Table}
 use Rattle.dlx.specs.declared.partition.Timer.{Timer}
 use Rattle.dlx.specs.declared.partition.Processor.{Processor}
 use Rattle.tickets.specs.Queues.{Queues, desk}
-use Rattle.translate.specs.Entries.{number, valid}
-use Rattle.translate.specs.Memory.{host, hostMemory}
+use Rattle.addresses.specs.Entries.{number, valid}
+use Rattle.addresses.specs.Memory.{host, hostMemory}
 use Rattle.plain.specs.Plain.{seenOf}
 
 -- an address behind a page's first that no word of the page begins at

@@ -4,7 +4,7 @@ ghost use Prim.Native.Nat.{_/_, _<_};
 ghost use lib.ListN.{length, getD};
 ghost use Rattle.dlx.specs.Words.{plus};
 ghost use Rattle.dlx.specs.Processor.{user};
-ghost use Rattle.translate.specs.Premises.{Placed, Shadowed};
+ghost use Rattle.addresses.specs.Premises.{Placed, Shadowed};
 ghost use Rattle.plain.specs.Plain.{pairOf, Numbered};
 ghost use Rattle.quick.specs.Quick.{awayOf, Cached, Goes, Found};
 use dlx::partition::Processor;

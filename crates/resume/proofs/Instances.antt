@@ -3,7 +3,7 @@
 use mathlib.Core.Path.{_≡_, ap, _∙_}
 use native.Mathlib.Omega.{arith}
 use lib.ListN.{getD}
-use Rattle.translate.specs.Entries.{entryOf}
+use Rattle.addresses.specs.Entries.{entryOf}
 use Rattle.house.specs.House.{partition, shadowOf}
 use Rattle.house.specs.Boot.{verdict}
 use Rattle.house.specs.Turns.{World, hostSteps}

@@ -9,7 +9,7 @@ use lib.Dec.{eqb, leb}
 use lib.ListN.{length, getD, take, drop, replicate}
 use Rattle.dlx.specs.Parts.{inner, outer}
 use Rattle.dlx.proofs.Parts.{inner-replicate, part-at}
-use Rattle.translate.specs.Walk.{entries}
+use Rattle.addresses.specs.Walk.{entries}
 use Rattle.house.specs.House.{freshShadows, allEntries, withShadows}
 use Rattle.house.specs.Damage.{damaged}
 use Rattle.house.specs.Boot.{firstOf}

@@ -6,7 +6,7 @@ use Prim.Native.Nat.{ℕ, zero, suc, _+_, _*_, _^_, _<_, _≤_}
 use native.Mathlib.Omega.{arith}
 use lib.ListN.{length, getD, take, drop, replicate, length-replicate, take-append-drop}
 use Rattle.dlx.specs.Parts.{inner}
-use Rattle.translate.specs.Entries.{entryOf}
+use Rattle.addresses.specs.Entries.{entryOf}
 use Rattle.house.specs.House.{freshShadows, shadowOf}
 use Rattle.house.specs.Damage.{damaged}
 use Rattle.house.specs.Boot.{verdict}

@@ -5,9 +5,9 @@ use mathlib.Core.List.{List, [], _∷_, _++_}
 use Prim.Native.Nat.{ℕ}
 use Rattle.dlx.specs.Examples.{all, same}
 use Rattle.dlx.specs.Parts.{inner, outer}
-use Rattle.translate.specs.Entries.{judged}
-use Rattle.translate.specs.Walk.{walked}
-use Rattle.translate.specs.Memory.{hosted, given, stale}
+use Rattle.addresses.specs.Entries.{judged}
+use Rattle.addresses.specs.Walk.{walked}
+use Rattle.addresses.specs.Memory.{hosted, given, stale}
 use Rattle.house.specs.Lists.{listFrom, any, firstFrom}
 use Rattle.house.specs.House.{freshShadows}
 use Rattle.house.specs.Damage.{outsideLimits, frameTwice, turnWrong, registersWrong, shadowWrong, unusedWrong, partitionUsed, queuesWrong, damaged}

@@ -8,8 +8,8 @@ use lib.Dec.{eqb}
 use lib.ListN.{getD, replicate}
 use Rattle.dlx.specs.Choice.{if_then_else_}
 use Rattle.dlx.specs.Machine.{Outcome, step}
-use Rattle.translate.specs.Walk.{entries}
-use Rattle.translate.specs.Memory.{Lone, loneMemory}
+use Rattle.addresses.specs.Walk.{entries}
+use Rattle.addresses.specs.Memory.{Lone, loneMemory}
 use Rattle.house.specs.Lists.{listFrom, any}
 use Rattle.house.specs.House.{partition, pagesOf, shadowOf, withShadows, turn, turnNow}
 use Rattle.house.specs.Turns.{World, world, nextFrom, turnOf, turnAfter, staleAt, hostStep, hostSteps}

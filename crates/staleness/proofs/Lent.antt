@@ -8,7 +8,7 @@ use native.Mathlib.Omega.{arith}
 use lib.ListN.{length, take, drop}
 use Rattle.dlx.specs.Parts.{inner}
 use Rattle.dlx.proofs.Parts.{inner-length}
-use Rattle.translate.specs.Walk.{entries}
+use Rattle.addresses.specs.Walk.{entries}
 use Rattle.house.specs.House.{partition}
 use Rattle.house.specs.Turns.{world, staleAt}
 use Rattle.house.specs.Sound.{Shaped}

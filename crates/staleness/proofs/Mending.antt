@@ -10,10 +10,10 @@ use Rattle.dlx.specs.Parts.{inner, outer}
 use Rattle.dlx.proofs.Kept.{either}
 use Rattle.dlx.proofs.Parts.{inner-length, outer-length, inner-outer, outer-each, part-each, parts-apart}
 use Rattle.dlx.proofs.Tests.{by-test, by-eq}
-use Rattle.translate.specs.Walk.{entries}
-use Rattle.translate.specs.Memory.{stale}
-use Rattle.translate.specs.Premises.{Placed}
-use Rattle.translate.proofs.Stale.{empty-not-stale}
+use Rattle.addresses.specs.Walk.{entries}
+use Rattle.addresses.specs.Memory.{stale}
+use Rattle.addresses.specs.Premises.{Placed}
+use Rattle.addresses.proofs.Stale.{empty-not-stale}
 use Rattle.house.specs.Lists.{listFrom}
 use Rattle.house.specs.House.{allEntries, partition, pagesOf, framesOf, shadowOf, turn, withShadows}
 use Rattle.house.specs.Turns.{World, world, staleAt}

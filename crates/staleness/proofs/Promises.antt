@@ -9,7 +9,7 @@ use lib.Dec.{eqb, ltb}
 use lib.ListN.{length, replicate}
 use Rattle.dlx.specs.Choice.{if_then_else_}
 use Rattle.dlx.proofs.Tests.{by-test, by-eq}
-use Rattle.translate.specs.Walk.{entries}
+use Rattle.addresses.specs.Walk.{entries}
 use Rattle.house.specs.Boot.{verdict, sum, bootedHouse}
 use Rattle.house.specs.Turns.{World, world, staleAt, hostStep, hostSteps}
 use Rattle.house.specs.Sound.{Shaped, Typed, Ready}

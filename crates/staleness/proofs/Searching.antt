@@ -10,9 +10,9 @@ use Rattle.dlx.specs.Choice.{if_then_else_}
 use Rattle.dlx.specs.Parts.{inner}
 use Rattle.dlx.proofs.Kept.{either}
 use Rattle.dlx.proofs.Tests.{by-test, by-eq}
-use Rattle.translate.specs.Walk.{entries}
-use Rattle.translate.specs.Memory.{stale}
-use Rattle.translate.proofs.Stale.{empty-not-stale}
+use Rattle.addresses.specs.Walk.{entries}
+use Rattle.addresses.specs.Memory.{stale}
+use Rattle.addresses.proofs.Stale.{empty-not-stale}
 use Rattle.house.specs.Lists.{any, firstFrom}
 use Rattle.house.specs.House.{partition, framesOf}
 use Rattle.house.specs.Turns.{World, staleAt}

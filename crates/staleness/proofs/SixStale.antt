@@ -14,10 +14,10 @@ use Rattle.dlx.specs.Parts.{inner}
 use Rattle.dlx.specs.declared.partition.Partition.{Partition}
 use Rattle.dlx.proofs.Kept.{either}
 use Rattle.dlx.proofs.Tests.{by-test, getD-replicate-same}
-use Rattle.translate.specs.Entries.{judged}
-use Rattle.translate.specs.Walk.{entries, walked}
-use Rattle.translate.specs.Memory.{hosted, given, stale}
-use Rattle.translate.proofs.Kept.{zeros-words}
+use Rattle.addresses.specs.Entries.{judged}
+use Rattle.addresses.specs.Walk.{entries, walked}
+use Rattle.addresses.specs.Memory.{hosted, given, stale}
+use Rattle.addresses.proofs.Kept.{zeros-words}
 use Rattle.house.specs.Lists.{listFrom, any, firstFrom}
 use Rattle.house.specs.House.{freshShadows, noPartition, shadowOf, guests, turn, layout}
 use Rattle.house.specs.Boot.{verdict, firstOf, sum}

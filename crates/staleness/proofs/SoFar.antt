@@ -11,8 +11,8 @@ use lib.Seq.{ext-getD}
 use Rattle.dlx.specs.Choice.{if_then_else_}
 use Rattle.dlx.proofs.Tests.{by-test}
 use Rattle.dlx.specs.declared.partition.Table.{Table}
-use Rattle.translate.specs.Walk.{entries}
-use Rattle.translate.specs.Memory.{stale}
+use Rattle.addresses.specs.Walk.{entries}
+use Rattle.addresses.specs.Memory.{stale}
 use Rattle.house.specs.Lists.{listFrom}
 use Rattle.house.proofs.Lists.ByRule.{length-listFrom, listFrom-at, listFrom-same, set-listFrom}
 use Rattle.staleness.specs.Audit.{keptIn}

@@ -8,9 +8,9 @@ use lib.ListN.{length, getD, replicate}
 use Rattle.dlx.specs.Choice.{if_then_else_}
 use Rattle.dlx.specs.Parts.{outer}
 use Rattle.dlx.specs.declared.partition.Table.{Table}
-use Rattle.translate.specs.Walk.{entries}
-use Rattle.translate.specs.Memory.{stale}
-use Rattle.translate.specs.Premises.{Placed}
+use Rattle.addresses.specs.Walk.{entries}
+use Rattle.addresses.specs.Memory.{stale}
+use Rattle.addresses.specs.Premises.{Placed}
 use Rattle.house.specs.Lists.{listFrom, firstFrom}
 use Rattle.house.specs.House.{withShadows, partition, pagesOf, framesOf, shadowOf}
 use Rattle.house.specs.Damage.{damaged}

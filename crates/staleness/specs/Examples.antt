@@ -10,7 +10,7 @@ use Rattle.dlx.specs.Choice.{if_then_else_}
 use Rattle.dlx.specs.Processor.{freshOf, withProcessor, withTable, withCounter}
 use Rattle.dlx.specs.Examples.{same}
 use Rattle.dlx.specs.declared.partition.Partition.{Partition}
-use Rattle.translate.specs.Walk.{entries}
+use Rattle.addresses.specs.Walk.{entries}
 use Rattle.house.specs.Lists.{listFrom, any}
 use Rattle.house.specs.House.{noPartition, noHouse, shadowOf, layout, guests, turn, withLayout, withTurn, withGuests}
 use Rattle.house.specs.Boot.{sum}

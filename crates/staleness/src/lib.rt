@@ -4,22 +4,22 @@ ghost use mathlib.Core.List.{List};
 ghost use Prim.Native.Nat.{ℕ, _^_, _<_};
 ghost use lib.ListN.{length};
 ghost use Rattle.dlx.specs.Choice.{if_then_else_};
-ghost use Rattle.translate.specs.Walk.{entries};
-ghost use Rattle.translate.specs.Memory.{stale};
-ghost use Rattle.translate.specs.Premises.{Placed};
+ghost use Rattle.addresses.specs.Walk.{entries};
+ghost use Rattle.addresses.specs.Memory.{stale};
+ghost use Rattle.addresses.specs.Premises.{Placed};
 ghost use Rattle.house.specs.Lists.{listFrom, firstFrom};
 ghost use Rattle.house.specs.House.{pagesOf, framesOf};
 ghost use Rattle.house.specs.Boot.{verdict, sum};
 ghost use Rattle.house.specs.Turns.{world};
 ghost use Rattle.house.specs.Calls.{answered};
 ghost use Rattle.staleness.specs.Audit.{auditVerdict, staleIn, keptIn, firstPage, firstStale, auditCall, countOf, staleCount, staleCounts, countsCall, mendedOne, mended, mendCall, Walkable};
+use addresses::ENTRIES;
 use damage::damaged;
 use dlx::partition::Table;
 use dlx::words::wide;
 use house::Answer;
 use house::House;
-use shadow::walk;
-use translate::ENTRIES;
+use translate::walk;
 
 // Virtual pages are below it.
 const LIMIT: u32 = ENTRIES as u32;

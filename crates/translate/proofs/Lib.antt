@@ -1,10 +1,3 @@
-pub mod Checked
-pub mod Each
-pub mod Entries
-pub mod Instance
-pub mod Isolation
-pub mod Kept
-pub mod Shadow
-pub mod Simulation
-pub mod Stale
-pub mod Steps
+pub mod Places
+pub mod Placing
+pub mod Served

@@ -13,10 +13,10 @@ use Rattle.dlx.specs.Execute.{written, valueOf, overflowsOf, operated, reached,
 use Rattle.dlx.specs.Machine.{executed, fetched, loaded, stored, accessed, received, afterRead, afterWrite, left, handled, changed, settled, retabled, step, steps, asked, requestOf}
 use Rattle.dlx.specs.Parts.{inner, outer}
 use Rattle.dlx.specs.Examples.{same}
-use Rattle.translate.specs.Entries.{judged}
-use Rattle.translate.specs.Walk.{walked, direct}
-use Rattle.translate.specs.Memory.{hosted, given, filled, looked, served, hostRead, emptied, hostWritten, hostReads, hostWrites}
-use Rattle.translate.specs.Examples.{wordsFrom, answer, numbers, all}
+use Rattle.addresses.specs.Entries.{judged}
+use Rattle.addresses.specs.Walk.{walked, direct}
+use Rattle.addresses.specs.Memory.{hosted, given, filled, looked, served, hostRead, emptied, hostWritten, hostReads, hostWrites}
+use Rattle.addresses.specs.Examples.{wordsFrom, answer, numbers, all}
 use Rattle.tickets.specs.Queues.{sending, taking, desk}
 use Rattle.house.specs.Lists.{listFrom}
 use Rattle.house.specs.House.{freshShadows}

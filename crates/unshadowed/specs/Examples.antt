@@ -12,8 +12,8 @@ use Rattle.dlx.specs.Examples.{same}
 use Rattle.dlx.specs.declared.partition.Partition.{Partition}
 use Rattle.dlx.specs.declared.partition.Processor.{Processor}
 use Rattle.dlx.specs.declared.partition.Table.{Table}
-use Rattle.translate.specs.Memory.{Host, host, hostMemory, freshShadow}
-use Rattle.translate.specs.Examples.{wordsFrom, answer, numbers}
+use Rattle.addresses.specs.Memory.{Host, host, hostMemory, freshShadow}
+use Rattle.addresses.specs.Examples.{wordsFrom, answer, numbers}
 use Rattle.house.specs.House.{noHouse, layout, guests, turn, withLayout, withTurn, withGuests, partition, registersOf}
 use Rattle.house.specs.Turns.{World, world, hostStep}
 use Rattle.unshadowed.specs.Memory.{Unshadowed, unshadowed, unshadowedMemory}

@@ -8,7 +8,7 @@ ghost use Rattle.dlx.specs.Fields.{aligned, storing, width, placed};
 ghost use Rattle.dlx.specs.declared.partition.Timer.{Timer};
 ghost use Rattle.dlx.specs.Machine.{core, fetched, Asks, accessedAt, retabled, stepAt, stretchFrom};
 ghost use Rattle.tickets.specs.Queues.{queues, desk, Seated};
-ghost use Rattle.translate.specs.Premises.{Placed};
+ghost use Rattle.addresses.specs.Premises.{Placed};
 ghost use Rattle.unshadowed.specs.Memory.{unshadowed, sought, soughtRead, soughtWritten, unshadowedMemory};
 ghost use Rattle.unshadowed.specs.Answers.{stepOf, stretchOf};
 use dlx::execute::Access;
@@ -43,9 +43,9 @@ fn seek(words: &[u32], frames: &[u32], pages: u32, t: Table, user: bool, a: u32)
     ensures { λ r. ⌜ r ≡ sought (now (frames .entry)) pages (unshadowed t (now (words .entry))) user a ⌝ }
 {
     if user {
-        return shadow::walk(words, frames, pages, t, a / 4096);
+        return translate::walk(words, frames, pages, t, a / 4096);
     }
-    shadow::straight(frames, pages, a)
+    translate::straight(frames, pages, a)
 }
 
 // The word at address a, or the fault's number.
@@ -84,7 +84,7 @@ fn store(
     let off = a / 4 % 1024;
     let base = wide(e / 4096) * 1024;
     let end = base + 1024;
-    shadow::put(&mut words[base..end], wide(off), o, a, v);
+    translate::put(&mut words[base..end], wide(off), o, a, v);
     0
 }
 

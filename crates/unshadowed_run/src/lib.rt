@@ -7,6 +7,7 @@ ghost use Rattle.house.specs.Calls.{answered};
 ghost use Rattle.unshadowed.specs.Turns.{unshadowedSteps, allEmpty};
 ghost use Rattle.unshadowed_run.specs.Calls.{unshadowedCall, runBy};
 ghost use Rattle.unshadowed_run.specs.Steady.{Steady};
+use addresses::ENTRIES;
 use dlx::words::wide;
 use house::Answer;
 use house::House;
@@ -15,7 +16,6 @@ use hypervisor::calls::refused;
 use hypervisor::calls::run_refusal;
 use hypervisor::run::limit;
 use hypervisor::run::turn;
-use translate::ENTRIES;
 
 // The house with every shadow empty.
 fn empty_all(mut h: House) -> House

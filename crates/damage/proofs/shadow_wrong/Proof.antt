@@ -4,7 +4,7 @@ use lib.ListN.{getD}
 use mathlib.Core.Bool.{false}
 use mathlib.Core.Path.{_≡_, refl, _∙_, sym, subst}
 use Prim.Native.Nat.{ℕ, _%_, _≤_, _-_, zero-le}
-use Rattle.translate.specs.Walk.{entries}
+use Rattle.addresses.specs.Walk.{entries}
 use Rattle.house.specs.Lists.{any}
 use Rattle.damage.specs.Marks.{entryMarked}
 use Rattle.damage.proofs.Marks.{group-found, group-more}

@@ -4,7 +4,7 @@ use Prim.Native.Nat.{ℕ, _+_, _*_, _/_, _%_, _<_}
 use native.Mathlib.Omega.{arith}
 use lib.ListN.{length, getD}
 use Rattle.dlx.specs.declared.partition.Partition.{Partition}
-use Rattle.translate.specs.Memory.{hostWord}
+use Rattle.addresses.specs.Memory.{hostWord}
 use Rattle.house.specs.Lists.{listFrom}
 use Rattle.house.specs.House.{framesOf}
 use Rattle.demands.specs.Histories.{Boot, booted, ownWords, loneOf, loneAtBoot}

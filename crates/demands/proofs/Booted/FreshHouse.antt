@@ -11,9 +11,9 @@ use Rattle.dlx.specs.Choice.{if_then_else_}
 use Rattle.dlx.specs.Processor.{freshOf}
 use Rattle.dlx.specs.declared.partition.Partition.{Partition}
 use Rattle.dlx.proofs.Kept.{either}
-use Rattle.translate.specs.Walk.{entries}
-use Rattle.translate.specs.Memory.{freshShadow}
-use Rattle.translate.proofs.Kept.{zeros-words}
+use Rattle.addresses.specs.Walk.{entries}
+use Rattle.addresses.specs.Memory.{freshShadow}
+use Rattle.addresses.proofs.Kept.{zeros-words}
 use Rattle.dlx.proofs.Tests.{by-test, getD-replicate-same}
 use Rattle.house.specs.Lists.{listFrom}
 use Rattle.house.specs.House.{allEntries, freshShadows, noPartition, noHouse, turn, partition, pagesOf, runs, registersOf, framesOf, shadowOf}

@@ -13,7 +13,7 @@ use Rattle.dlx.specs.declared.partition.Partition.{Partition}
 use Rattle.dlx.specs.declared.execute.Reply.{Reply}
 use Rattle.dlx.proofs.Feeds.{fed, steps-more}
 use Rattle.dlx.proofs.Kept.{either}
-use Rattle.translate.specs.Memory.{Lone, loneMemory}
+use Rattle.addresses.specs.Memory.{Lone, loneMemory}
 use Rattle.dlx.proofs.Tests.{by-test, by-eq, getD-replicate-same}
 use Rattle.house.specs.House.{partition}
 use Rattle.house.specs.Boot.{bootedHouse}

@@ -8,8 +8,8 @@ use borrow.Author.Tests.{eq-eqb, ne-eqb, le-ltb}
 use lib.Dec.{eqb}
 use lib.ListN.{length, getD, set, length-set}
 use Rattle.dlx.proofs.Kept.{either}
-use Rattle.translate.specs.Memory.{stale, freshShadow}
-use Rattle.translate.proofs.Stale.{fresh-not-stale}
+use Rattle.addresses.specs.Memory.{stale, freshShadow}
+use Rattle.addresses.proofs.Stale.{fresh-not-stale}
 use Rattle.dlx.proofs.Tests.{by-eq, getD-replicate-same}
 use Rattle.house.specs.Lists.{any}
 use Rattle.house.specs.House.{partition, framesOf, shadowOf, turn, withTurn}

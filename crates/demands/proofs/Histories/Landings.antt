@@ -5,10 +5,10 @@ use mathlib.Core.List.{List}
 use Prim.Native.Nat.{ℕ, _<_}
 use lib.ListN.{getD}
 use Rattle.dlx.specs.Choice.{if_then_else_}
-use Rattle.translate.specs.Entries.{number, valid, protection, refused, protectedPage, Found, fault, found}
-use Rattle.translate.specs.Memory.{wordIn, hosted}
-use Rattle.translate.proofs.Entries.{number-entry, valid-entry, protection-entry, fault-invalid, Within, found-within}
-use Rattle.translate.proofs.Simulation.{reach}
+use Rattle.addresses.specs.Entries.{number, valid, protection, refused, protectedPage, Found, fault, found}
+use Rattle.addresses.specs.Memory.{wordIn, hosted}
+use Rattle.addresses.proofs.Entries.{number-entry, valid-entry, protection-entry, fault-invalid, Within, found-within}
+use Rattle.addresses.proofs.Simulation.{reach}
 use Rattle.dlx.proofs.Tests.{by-test}
 use Rattle.house.specs.House.{pagesOf, framesOf}
 use Rattle.house.specs.Turns.{World}

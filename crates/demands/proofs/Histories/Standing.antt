@@ -15,12 +15,12 @@ use Rattle.dlx.specs.declared.execute.Reply.{Reply}
 use Rattle.dlx.specs.declared.partition.Partition.{Partition}
 use Rattle.dlx.specs.declared.partition.Table.{Table}
 use Rattle.dlx.proofs.Like.{Both, asked-like, step-like}
-use Rattle.translate.specs.Walk.{entries}
-use Rattle.translate.specs.Memory.{Lone, lone, loneMemory, Host, place, hostWord, hosted, given, stale}
-use Rattle.translate.specs.Premises.{Placed}
-use Rattle.translate.proofs.Entries.{walked-same}
-use Rattle.translate.proofs.Simulation.{Right, simulation}
-use Rattle.translate.proofs.Stale.{stale-same}
+use Rattle.addresses.specs.Walk.{entries}
+use Rattle.addresses.specs.Memory.{Lone, lone, loneMemory, Host, place, hostWord, hosted, given, stale}
+use Rattle.addresses.specs.Premises.{Placed}
+use Rattle.addresses.proofs.Entries.{walked-same}
+use Rattle.addresses.proofs.Simulation.{Right, simulation}
+use Rattle.addresses.proofs.Stale.{stale-same}
 use Rattle.dlx.proofs.Tests.{by-eq}
 use Rattle.house.specs.Lists.{listFrom}
 use Rattle.house.specs.House.{partition, pagesOf, registersOf, framesOf, shadowOf, queuesOf}

@@ -20,9 +20,9 @@ use Rattle.dlx.specs.Timer.{ticked, raised}
 use Rattle.dlx.specs.Execute.{written, valueOf, overflowsOf, operated, reached, loads, stores, movedTo, trapOf, effectOf}
 use Rattle.dlx.specs.Machine.{executed, fetched, loaded, stored, accessed, received, afterRead, afterWrite, left as leftBy, handled, changed as changedBy, settled, retabled, step, steps, asked, requestOf as effectRequest, reply}
 use Rattle.dlx.specs.declared.execute.Reply.{Reply}
-use Rattle.translate.specs.Entries.{entryOf, judged}
-use Rattle.translate.specs.Walk.{entries, walked, direct}
-use Rattle.translate.specs.Memory.{loneMemory, loneFound, loneRead, hosted, given, filled, looked, served, hostRead, emptied, hostWritten, hostReads, hostWrites, stale}
+use Rattle.addresses.specs.Entries.{entryOf, judged}
+use Rattle.addresses.specs.Walk.{entries, walked, direct}
+use Rattle.addresses.specs.Memory.{loneMemory, loneFound, loneRead, hosted, given, filled, looked, served, hostRead, emptied, hostWritten, hostReads, hostWrites, stale}
 use Rattle.dlx.specs.Parts.{inner, outer}
 use Rattle.dlx.proofs.Parts.{part-at}
 use Rattle.dlx.proofs.Kept.{getD-set-elim}

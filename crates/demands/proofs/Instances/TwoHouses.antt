@@ -18,10 +18,10 @@ use Rattle.dlx.specs.Execute.{written, valueOf, overflowsOf, operated, reached,
 use Rattle.dlx.specs.Machine.{executed, fetched, loaded, stored, accessed, received, afterRead, afterWrite, left as leftBy, handled, changed as changedBy, settled, retabled, step, asked, requestOf as effectRequest}
 use Rattle.dlx.specs.Parts.{inner, outer}
 use Rattle.dlx.proofs.Parts.{part-at}
-use Rattle.translate.specs.Entries.{entryOf, judged}
-use Rattle.translate.specs.Walk.{walked, direct}
-use Rattle.translate.specs.Memory.{hosted, given, filled, looked, served, hostRead, emptied, hostWritten, hostReads, hostWrites}
-use Rattle.translate.specs.Premises.{Own}
+use Rattle.addresses.specs.Entries.{entryOf, judged}
+use Rattle.addresses.specs.Walk.{walked, direct}
+use Rattle.addresses.specs.Memory.{hosted, given, filled, looked, served, hostRead, emptied, hostWritten, hostReads, hostWrites}
+use Rattle.addresses.specs.Premises.{Own}
 use Rattle.tickets.specs.Queues.{queues, sending, taking, desk}
 use Rattle.house.specs.Lists.{listFrom, any, firstFrom}
 use Rattle.house.specs.House.{freshShadows, partition, pagesOf, registersOf, framesOf, shadowOf, queuesOf, turnNow, turn}

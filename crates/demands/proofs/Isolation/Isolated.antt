@@ -9,11 +9,11 @@ use Rattle.dlx.specs.Machine.{Outcome, step}
 use Rattle.dlx.specs.declared.execute.Reply.{Reply}
 use Rattle.dlx.specs.declared.partition.Partition.{Partition}
 use Rattle.dlx.proofs.Like.{Both, Like, asked-like, step-like}
-use Rattle.translate.specs.Walk.{entries}
-use Rattle.translate.specs.Memory.{Host, hostMemory}
-use Rattle.translate.specs.Premises.{Placed, Own}
-use Rattle.translate.proofs.Shadow.{Untouched}
-use Rattle.translate.proofs.Isolation.{Alike, isolation}
+use Rattle.addresses.specs.Walk.{entries}
+use Rattle.addresses.specs.Memory.{Host, hostMemory}
+use Rattle.addresses.specs.Premises.{Placed, Own}
+use Rattle.addresses.proofs.Shadow.{Untouched}
+use Rattle.addresses.proofs.Isolation.{Alike, isolation}
 use Rattle.house.specs.House.{partition, pagesOf, framesOf, queuesOf, withQueues}
 use Rattle.house.specs.Turns.{World, world, turnOf, guest, guestMemory, requestNow, replyNow, queuesNext, queuedOn, counted, guestStep, turnAfter, settledHouse, stepWith, hostStep}
 use Rattle.tickets.specs.Queues.{Queues, desk}

@@ -7,7 +7,7 @@ use borrow.Author.Tests.{eqb-true}
 use lib.Dec.{eqb}
 use lib.ListN.{length, getD}
 use Rattle.dlx.specs.Choice.{if_then_else_}
-use Rattle.translate.specs.Premises.{Own}
+use Rattle.addresses.specs.Premises.{Own}
 use Rattle.dlx.proofs.Tests.{either-both, by-eq}
 use Rattle.house.specs.House.{pagesOf, framesOf}
 use Rattle.house.specs.Boot.{Verdict}

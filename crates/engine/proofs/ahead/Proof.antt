@@ -1,5 +1,5 @@
 use Rattle.engine.specs.Answers.{Leads}
-use Rattle.translate.specs.Premises.{Placed}
+use Rattle.addresses.specs.Premises.{Placed}
 use Rattle.engine.proofs.Parts.{not-true, not-false}
 use Rattle.engine.proofs.Leads.{leads-none, leads-then}
 use lib.ListN.{length}

@@ -1,9 +1,9 @@
 use Rattle.engine.specs.Answers.{processorAt, tableAt, timerAt}
 use Rattle.engine.proofs.Parts.{stretch-done}
 use Rattle.engine.proofs.Leads.{list-long, leads-first, leads-within, called-at, on-at, whole-at}
-use Rattle.translate.proofs.Steps.{Whole}
-use Rattle.translate.specs.Premises.{Placed}
-use Rattle.translate.specs.Memory.{host, hostMemory}
+use Rattle.addresses.proofs.Steps.{Whole}
+use Rattle.addresses.specs.Premises.{Placed}
+use Rattle.addresses.specs.Memory.{host, hostMemory}
 use Rattle.tickets.specs.Queues.{queues, desk, Seated}
 use Rattle.dlx.specs.Machine.{core, stretchFrom}
 use lib.ListN.{length}

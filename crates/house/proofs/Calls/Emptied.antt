@@ -3,8 +3,8 @@ use mathlib.Core.Path.{_≡_, _∙_}
 use Prim.Native.Nat.{ℕ, _*_, _+_, _<_, _≤_}
 use native.Mathlib.Omega.{arith}
 use lib.ListN.{length, length-replicate}
-use Rattle.translate.specs.Walk.{entries}
-use Rattle.translate.specs.Memory.{freshShadow}
+use Rattle.addresses.specs.Walk.{entries}
+use Rattle.addresses.specs.Memory.{freshShadow}
 use Rattle.house.specs.House.{shadowOf}
 use Rattle.house.specs.Calls.{emptiedHouse}
 use Rattle.house.specs.Sound.{Shaped}

@@ -9,10 +9,10 @@ use lib.Dec.{ltb, eqb}
 use lib.ListN.{getD, set, length-set}
 use lib.Seq.{set-getD, getD-set-same, getD-set-other}
 use Rattle.dlx.proofs.Kept.{getD-set-elim}
-use Rattle.translate.specs.Walk.{entries}
-use Rattle.translate.specs.Memory.{freshShadow}
+use Rattle.addresses.specs.Walk.{entries}
+use Rattle.addresses.specs.Memory.{freshShadow}
 use Rattle.dlx.proofs.Tests.{by-test, by-eq, getD-replicate-same}
-use Rattle.translate.proofs.Kept.{zeros-words}
+use Rattle.addresses.proofs.Kept.{zeros-words}
 use Rattle.house.specs.Lists.{any}
 use Rattle.house.specs.House.{runs, pagesOf, framesOf, turn}
 use Rattle.house.specs.Calls.{started, stopped, emptiedHouse}

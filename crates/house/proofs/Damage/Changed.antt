@@ -5,7 +5,7 @@ use mathlib.Core.List.{List}
 use Prim.Native.Nat.{ℕ, _*_, _^_, _<_, _≤_}
 use native.Mathlib.Omega.{arith}
 use lib.ListN.{length, getD}
-use Rattle.translate.specs.Walk.{entries}
+use Rattle.addresses.specs.Walk.{entries}
 use Rattle.dlx.proofs.Tests.{by-eq}
 use Rattle.dlx.specs.Parts.{inner}
 use Rattle.house.specs.House.{allEntries, pagesOf, framesOf}

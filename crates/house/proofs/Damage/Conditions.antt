@@ -10,10 +10,10 @@ use lib.ListN.{getD}
 use Rattle.dlx.specs.Choice.{if_then_else_}
 use Rattle.dlx.specs.declared.partition.Partition.{Partition}
 use Rattle.dlx.proofs.Kept.{either}
-use Rattle.translate.specs.Entries.{number, valid, entryOf}
-use Rattle.translate.specs.Walk.{entries}
-use Rattle.translate.specs.Premises.{Own}
-use Rattle.translate.proofs.Entries.{number-entry, valid-entry, empty-invalid}
+use Rattle.addresses.specs.Entries.{number, valid, entryOf}
+use Rattle.addresses.specs.Walk.{entries}
+use Rattle.addresses.specs.Premises.{Own}
+use Rattle.addresses.proofs.Entries.{number-entry, valid-entry, empty-invalid}
 use Rattle.dlx.proofs.Tests.{and-left}
 use Rattle.dlx.specs.Parts.{inner}
 use Rattle.house.specs.Lists.{any, between}

@@ -7,7 +7,7 @@ use borrow.Author.Tests.{eqb-true, eqb-false, leb-true, ltb-true, ltb-false, eq-
 use lib.Dec.{ltb, leb, eqb}
 use lib.ListN.{getD}
 use Rattle.dlx.proofs.Kept.{either}
-use Rattle.translate.specs.Walk.{entries}
+use Rattle.addresses.specs.Walk.{entries}
 use Rattle.dlx.proofs.Tests.{by-test}
 use Rattle.house.specs.Lists.{any}
 use Rattle.house.specs.House.{noHouse, pagesOf, runs, framesOf, shadowOf, queuesOf}

@@ -7,9 +7,9 @@ use native.Mathlib.Omega.{arith}
 use borrow.Author.Tests.{eqb-true, eqb-false, leb-false, ltb-true, ltb-false, not-false, eq-eqb, ne-eqb, le-leb, lt-ltb, le-ltb}
 use lib.Dec.{ltb, leb, eqb}
 use lib.ListN.{length, getD, List·getD-eq-default}
-use Rattle.translate.specs.Entries.{valid}
-use Rattle.translate.specs.Walk.{entries}
-use Rattle.translate.proofs.Entries.{empty-invalid}
+use Rattle.addresses.specs.Entries.{valid}
+use Rattle.addresses.specs.Walk.{entries}
+use Rattle.addresses.proofs.Entries.{empty-invalid}
 use Rattle.dlx.proofs.Tests.{by-test, by-eq, and-left}
 use Rattle.house.specs.Lists.{any, between}
 use Rattle.house.specs.House.{partition, pagesOf, runs, registersOf, framesOf, shadowOf, queuesOf}

@@ -8,7 +8,7 @@ use lib.ListN.{length, getD, length-replicate, replicate}
 use Rattle.dlx.specs.Processor.{freshOf, withProcessor}
 use Rattle.dlx.specs.declared.partition.Partition.{Partition}
 use Rattle.dlx.proofs.Tests.{getD-replicate-same}
-use Rattle.translate.proofs.Kept.{zeros-words}
+use Rattle.addresses.proofs.Kept.{zeros-words}
 use Rattle.tickets.specs.Queues.{Queues}
 use Rattle.house.specs.House.{allEntries, freshShadows, noPartition, noHouse, Layout, Guests, withLayout, withTurn, withGuests, withQueues}
 use Rattle.house.specs.Turns.{world}

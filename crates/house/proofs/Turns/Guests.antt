@@ -6,10 +6,10 @@ use borrow.Author.Tests.{ltb-true, ltb-false}
 use lib.Dec.{ltb}
 use lib.ListN.{length, getD, List·getD-eq-default}
 use Rattle.dlx.proofs.Kept.{Kept, KeptReply, step-kept, asked-kept}
-use Rattle.translate.specs.Walk.{entries}
-use Rattle.translate.proofs.Entries.{placed-listed}
-use Rattle.translate.proofs.Kept.{KeptHost}
-use Rattle.translate.proofs.Each.{Each, each-keeps}
+use Rattle.addresses.specs.Walk.{entries}
+use Rattle.addresses.proofs.Entries.{placed-listed}
+use Rattle.addresses.proofs.Kept.{KeptHost}
+use Rattle.addresses.proofs.Each.{Each, each-keeps}
 use Rattle.dlx.proofs.Tests.{by-test}
 use Rattle.house.specs.House.{pagesOf, framesOf, shadowOf, queuesOf}
 use Rattle.house.specs.Turns.{World, guest, guestMemory, requestNow, replyNow, queuesNext, guestStep}

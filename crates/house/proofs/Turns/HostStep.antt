@@ -7,10 +7,10 @@ use lib.ListN.{length, getD}
 use Rattle.dlx.specs.Machine.{Outcome}
 use Rattle.dlx.specs.declared.partition.Partition.{Partition}
 use Rattle.dlx.proofs.Kept.{getD-set-elim, Kept}
-use Rattle.translate.specs.Walk.{entries}
-use Rattle.translate.specs.Memory.{Host}
-use Rattle.translate.proofs.Kept.{KeptHost}
-use Rattle.translate.proofs.Each.{Each}
+use Rattle.addresses.specs.Walk.{entries}
+use Rattle.addresses.specs.Memory.{Host}
+use Rattle.addresses.proofs.Kept.{KeptHost}
+use Rattle.addresses.proofs.Each.{Each}
 use Rattle.dlx.proofs.Tests.{by-eq}
 use Rattle.house.specs.House.{noPartition, partition, pagesOf, registersOf, framesOf, shadowOf}
 use Rattle.house.specs.Turns.{World, world, turnAfter, guestStep, queuedOn, counted, settledHouse, stepWith, hostStep, hostSteps}

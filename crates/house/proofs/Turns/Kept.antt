@@ -13,9 +13,9 @@ use Rattle.dlx.specs.Machine.{Outcome}
 use Rattle.dlx.specs.declared.partition.Partition.{Partition}
 use Rattle.dlx.proofs.Kept.{either, getD-set-elim}
 use Rattle.dlx.proofs.Places.{step-count}
-use Rattle.translate.specs.Walk.{entries}
-use Rattle.translate.specs.Memory.{Host}
-use Rattle.translate.proofs.Steps.{Whole, step-whole}
+use Rattle.addresses.specs.Walk.{entries}
+use Rattle.addresses.specs.Memory.{Host}
+use Rattle.addresses.proofs.Steps.{Whole, step-whole}
 use Rattle.dlx.proofs.Tests.{by-eq}
 use Rattle.house.specs.House.{noPartition, turn, withTurn, withQueues, partition, pagesOf, registersOf, framesOf, shadowOf, queuesOf}
 use Rattle.house.specs.Turns.{World, world, following, nextFrom, nextOf, turnAfter, guestMemory, requestNow, queuesNext, guestStep, queuedOn, counted, settledHouse, stepWith, hostStep, hostSteps, turnOf}

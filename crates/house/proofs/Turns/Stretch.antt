@@ -13,8 +13,8 @@ use Rattle.dlx.specs.declared.partition.Partition.{Partition}
 use Rattle.dlx.specs.Machine.{Ops, Core, core, Outcome, Desk, stepAt, Stretch, stretchFrom}
 use Rattle.dlx.specs.Processor.{withCounter}
 use Rattle.dlx.proofs.Kept.{either}
-use Rattle.translate.specs.Walk.{entries}
-use Rattle.translate.specs.Memory.{Host, hostMemory}
+use Rattle.addresses.specs.Walk.{entries}
+use Rattle.addresses.specs.Memory.{Host, hostMemory}
 use Rattle.dlx.proofs.Tests.{by-eq}
 use Rattle.house.specs.House.{guests, turn, withTurn, withGuests, withQueues, partition, pagesOf, framesOf, queuesOf}
 use Rattle.house.specs.Turns.{withGuest, World, world, turnAfter, guest, guestMemory, requestNow, replyNow, queuesNext, guestStep, queuedOn, counted, countedOn, settledHouse, stepWith, hostStep, hostSteps, stretchedHouse, turnOf}

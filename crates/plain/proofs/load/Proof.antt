@@ -1,7 +1,7 @@
 use Rattle.plain.proofs.Laws.{seen-inside, load-does, not-false}
 use Rattle.processor.proofs.Opcodes.{or-left}
 use Rattle.dlx.specs.Fields.{loading, storing}
-use Rattle.translate.proofs.Entries.{placed-listed}
+use Rattle.addresses.proofs.Entries.{placed-listed}
 use mathlib.Core.Path.{_≡_, refl, sym, _∙_}
 use mathlib.Core.Bool.{true≢false, false≢true}
 use native.Mathlib.Omega.{arith}

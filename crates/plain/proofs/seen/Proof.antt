@@ -9,7 +9,7 @@ use Rattle.plain.proofs.seen.Tie as tie
 use Rattle.plain.proofs.seen.Reads as reads
 use Rattle.plain.proofs.seen.Lts as lts
 use Rattle.dlx.proofs.words.wide.Reads as wide-reads
-use Rattle.shadow.proofs.straight.Reads as straight-reads
+use Rattle.translate.proofs.straight.Reads as straight-reads
 
 -- src/lib.rt:44:13
 returns : tie.Need-returns

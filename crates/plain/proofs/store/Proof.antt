@@ -1,7 +1,7 @@
 use Rattle.plain.proofs.Laws.{seen-inside, store-does, not-held, not-false}
 use Rattle.processor.proofs.Opcodes.{or-right}
 use Rattle.dlx.specs.Fields.{loading, storing}
-use Rattle.translate.proofs.Entries.{placed-listed}
+use Rattle.addresses.proofs.Entries.{placed-listed}
 use Prim.Native.Nat.{_+_, _*_, _/_, _%_, _^_}
 use mathlib.Core.Path.{_≡_, refl, sym, _∙_}
 use mathlib.Core.Bool.{true≢false, false≢true}
@@ -15,7 +15,7 @@ use Rattle.plain.proofs.store.Lts as lts
 use Rattle.dlx.proofs.words.wide.Reads as wide-reads
 use Rattle.plain.proofs.fits.Reads as fits-reads
 use Rattle.plain.proofs.seen.Reads as seen-reads
-use Rattle.shadow.proofs.place.Reads as place-reads
+use Rattle.translate.proofs.place.Reads as place-reads
 use Rattle.std.proofs.num.wrapping_add_u32.Reads as wrapping-add-u32-reads
 
 -- src/lib.rt:165:9

@@ -3,7 +3,7 @@ use Rattle.quick.proofs.Laws.{not-away, page-long, page-word, cached-in
 use Rattle.plain.specs.Plain.{pairOf}
 use Rattle.quick.specs.Quick.{Goes}
 use Rattle.dlx.specs.Words.{plus}
-use Rattle.translate.specs.Premises.{Placed}
+use Rattle.addresses.specs.Premises.{Placed}
 use borrow.Author.Needs.{needs}
 use lib.ListN.{length}
 use mathlib.Core.Path.{_≡_, refl, sym, subst, _∙_}
@@ -14,7 +14,7 @@ use Rattle.quick.proofs.in_page.Reads as reads
 use Rattle.quick.proofs.in_page.Lts as lts
 use Rattle.plain.proofs.act.Reads as act-reads
 use Rattle.plain.proofs.held.Reads as held-reads
-use Rattle.translate.proofs.Entries.{placed-listed}
+use Rattle.addresses.proofs.Entries.{placed-listed}
 use Rattle.quick.proofs.away.Reads as away-reads
 use Rattle.quick.proofs.fetch.Reads as fetch-reads
 use Rattle.quick.proofs.quit.Reads as quit-reads

@@ -1,5 +1,5 @@
 use Rattle.quick.proofs.Laws.{goes-none, found-none, cached-here}
-use Rattle.translate.proofs.Entries.{placed-listed}
+use Rattle.addresses.proofs.Entries.{placed-listed}
 use borrow.Author.Tests.{eq-eqb}
 use mathlib.Core.Path.{_≡_, refl}
 use borrow.Author.Needs.{needs}

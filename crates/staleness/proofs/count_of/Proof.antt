@@ -4,7 +4,7 @@ use native.Mathlib.Omega.{arith}
 use mathlib.Core.Path.{_≡_, refl, ap, _∙_}
 use mathlib.Core.Bool.{Bool}
 use Prim.Native.Nat.{ℕ}
-use Rattle.translate.specs.Walk.{entries}
+use Rattle.addresses.specs.Walk.{entries}
 use Rattle.hypervisor.proofs.Read.{lent-placed}
 use Rattle.hypervisor.proofs.Refusals.{shaped}
 use Rattle.staleness.proofs.Lent.{shadow-long, stale-lent}

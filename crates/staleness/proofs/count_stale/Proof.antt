@@ -1,12 +1,12 @@
 use lib.ListN.{getD}
-use Rattle.translate.specs.Memory.{stale}
+use Rattle.addresses.specs.Memory.{stale}
 use Rattle.staleness.proofs.Counting.{one-most, count-more}
 use mathlib.Core.Path.{_≡_, refl, sym, ap, _∙_}
 use Prim.Native.Nat.{ℕ, _+_, _-_, _≤_, zero-le}
 use native.Mathlib.Nat.{le-antisymm}
 use native.Mathlib.Omega.{arith}
 use borrow.Author.Needs.{needs}
-use Rattle.translate.specs.Walk.{entries}
+use Rattle.addresses.specs.Walk.{entries}
 use Rattle.staleness.specs.Audit.{staleIn, countOf}
 use Rattle.staleness.proofs.count_stale.Statement.{statement}
 use Rattle.staleness.proofs.count_stale.Tie as tie

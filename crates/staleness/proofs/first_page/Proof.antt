@@ -4,7 +4,7 @@ use Prim.Native.Nat.{ℕ, _-_, _≤_, zero-le}
 use native.Mathlib.Nat.{le-antisymm}
 use native.Mathlib.Omega.{arith}
 use borrow.Author.Needs.{needs}
-use Rattle.translate.specs.Walk.{entries}
+use Rattle.addresses.specs.Walk.{entries}
 use Rattle.house.specs.Lists.{any}
 use Rattle.staleness.specs.Audit.{staleIn}
 use Rattle.house.proofs.Lists.Bounded.{any-more}

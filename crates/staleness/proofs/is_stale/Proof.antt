@@ -1,5 +1,5 @@
 use borrow.Author.Tests.{eq-eqb, ne-eqb}
-use Rattle.translate.specs.Memory.{stale}
+use Rattle.addresses.specs.Memory.{stale}
 use borrow.Author.Needs.{needs}
 use Rattle.staleness.proofs.is_stale.Statement.{statement}
 use Rattle.staleness.proofs.is_stale.Tie as tie

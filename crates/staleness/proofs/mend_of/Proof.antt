@@ -5,7 +5,7 @@ use Rattle.staleness.proofs.Lent.{shadow-long}
 use native.Mathlib.Omega.{arith}
 use mathlib.Core.Path.{_≡_, refl, ap, _∙_}
 use Prim.Native.Nat.{ℕ}
-use Rattle.translate.specs.Walk.{entries}
+use Rattle.addresses.specs.Walk.{entries}
 use Rattle.hypervisor.proofs.Read.{lent-placed}
 use Rattle.hypervisor.proofs.Refusals.{shaped}
 use Rattle.house.specs.House.{pagesOf}

@@ -5,7 +5,7 @@ use Prim.Native.Nat.{ℕ, _+_, _-_, _≤_, zero-le}
 use native.Mathlib.Omega.{arith}
 use borrow.Author.Needs.{needs}
 use lib.ListN.{length, getD, length-set}
-use Rattle.translate.specs.Walk.{entries}
+use Rattle.addresses.specs.Walk.{entries}
 use Rattle.staleness.proofs.mend_shadow.Statement.{statement}
 use Rattle.staleness.proofs.mend_shadow.Tie as tie
 

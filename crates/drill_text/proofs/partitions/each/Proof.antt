@@ -3,7 +3,7 @@ use native.Mathlib.Omega.{arith}
 use lib.ListN.{getD}
 use Rattle.dlx.specs.Parts.{inner}
 use Rattle.decimal.specs.Texts.{Puts, joined}
-use Rattle.translate.specs.Walk.{entries}
+use Rattle.addresses.specs.Walk.{entries}
 use Rattle.house.specs.House.{noPartition}
 use Rattle.drill_text.specs.Partitions.{longest, partitionOf}
 use Rattle.decimal.proofs.Texts.{parts-begin, parts-on, parts-end}

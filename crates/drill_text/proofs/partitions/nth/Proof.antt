@@ -1,5 +1,5 @@
 use native.Mathlib.Omega.{arith}
-use Rattle.translate.specs.Walk.{entries}
+use Rattle.addresses.specs.Walk.{entries}
 use Rattle.drill_text.proofs.Lent.{lent-part, lent-length}
 use borrow.Author.Needs.{needs}
 use Rattle.drill_text.proofs.partitions.nth.Statement.{statement}

@@ -1,6 +1,6 @@
 use Prim.Native.Nat.{ℕ}
 use Rattle.hypervisor.proofs.Turn.{asked-turned, after-turn, asked-sound, limited, current-few, still-some, fits, fits-on, fits-words, starts, ends}
-use Rattle.translate.specs.Walk.{entries}
+use Rattle.addresses.specs.Walk.{entries}
 use Rattle.house.proofs.Turns.Stretch.{steps-add}
 use Rattle.house.proofs.Turns.Kept.{sound-steps}
 use mathlib.Core.Path.{sym, subst}

@@ -1,6 +1,6 @@
 use Rattle.hypervisor.proofs.Read.{word-more}
 use Rattle.house.specs.Lists.{listFrom}
-use Rattle.translate.specs.Memory.{hostWord}
+use Rattle.addresses.specs.Memory.{hostWord}
 use lib.ListN.{length, drop, length-set}
 use Prim.Native.Nat.{ℕ, _+_, _-_, _/_, _≤_, zero-le}
 use mathlib.Core.List.{_++_}

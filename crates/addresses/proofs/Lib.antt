@@ -1,0 +1,10 @@
+pub mod Checked
+pub mod Each
+pub mod Entries
+pub mod Instance
+pub mod Isolation
+pub mod Kept
+pub mod Shadow
+pub mod Simulation
+pub mod Stale
+pub mod Steps
