@@ -267,7 +267,7 @@ fn room(k: Timer, rest: u32) -> u32
     k.tcount
 }
 
-// A list of 14 numbers holds what a stretch changes of a partition: the special registers by their numbers, DPC and PC.
+// A list of 14 numbers holds what a stretch changes of a partition: the special registers by their numbers, Partition::SR to Partition::TLOAD, then DPC and PC.
 fn processor_of(s: &[u32]) -> Processor
     requires { ⌜ length (now s) ≡ 14 ⌝ }
     ensures { λ r. ⌜ r ≡ processorAt (now (s .entry)) ⌝ }
@@ -363,7 +363,7 @@ fn arrive(s: &mut [u32], dpc: u32, pc: u32, made: u32)
     }
     let mut r = k;
     r.tcount = k.tload;
-    if p.sr / 8192 % 2 == 1 {
+    if p.sr / Partition::TIMER % 2 == 1 {
         let e = processor::interrupt::interrupt(p, Partition::TIMER, 0);
         fill(s, e, t, r);
         return;

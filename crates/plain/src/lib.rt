@@ -18,6 +18,7 @@ ghost use Rattle.addresses.specs.Walk.{entries};
 ghost use Rattle.addresses.specs.Premises.{Listed, Placed, Shadowed};
 ghost use Rattle.plain.specs.Plain.{seenOf, heldOf, Numbered, Does};
 use addresses::ENTRIES;
+use dlx::partition::Partition;
 use dlx::partition::Processor;
 use dlx::partition::Table;
 use dlx::words::wide;
@@ -172,7 +173,7 @@ fn add(sr: u32, regs: &mut [u32], rd: usize, a: u32, b: u32, y: u32, target: &mu
     ensures { λ r. ⌜ (r ≡ true → (now (regs .exit) ≡ written (now (regs .entry)) rd (plus a b)) × (now (target .exit) ≡ plus y 4) × ((next : ℕ) → operated Add rd a b sr next ≡ Done (Plain rd (plus a b) next))) × (r ≡ false → now (regs .exit) ≡ now (regs .entry)) ⌝ }
 {
     let v = std::num::wrapping_add_u32(a, b);
-    if sr / 64 % 2 == 1 {
+    if sr / Partition::OVF % 2 == 1 {
         if processor::words::sum_overflows(a, b) {
             return false;
         }
@@ -187,7 +188,7 @@ fn sub(sr: u32, regs: &mut [u32], rd: usize, a: u32, b: u32, y: u32, target: &mu
     ensures { λ r. ⌜ (r ≡ true → (now (regs .exit) ≡ written (now (regs .entry)) rd (minus a b)) × (now (target .exit) ≡ plus y 4) × ((next : ℕ) → operated Sub rd a b sr next ≡ Done (Plain rd (minus a b) next))) × (r ≡ false → now (regs .exit) ≡ now (regs .entry)) ⌝ }
 {
     let v = std::num::wrapping_sub_u32(a, b);
-    if sr / 64 % 2 == 1 {
+    if sr / Partition::OVF % 2 == 1 {
         if processor::words::difference_overflows(a, b) {
             return false;
         }
@@ -229,7 +230,7 @@ fn read_special(
     if p.mode == 1 {
         return false;
     }
-    if n >= 10 {
+    if n >= Partition::TCOUNT {
         return false;
     }
     put(regs, rd, specials[wide(n)], y, target)

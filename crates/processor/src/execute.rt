@@ -67,7 +67,7 @@ fn operate(op: Operation, rd: usize, x: u32, y: u32, sr: u32, next: u32) -> Effe
     ensures { λ r. ⌜ r ≡ operated op rd x y sr next ⌝ }
 {
     let v = value(op, x, y);
-    if sr / 64 % 2 == 1 {
+    if sr / Partition::OVF % 2 == 1 {
         if overflows(op, x, y) {
             return Effect::Done(Change::Cause(Partition::OVF, 0));
         }
@@ -305,6 +305,7 @@ fn handle(p: Processor, k: Timer, causes: u32, datum: u32) -> Settled
     ensures { λ r. ⌜ ((regs : List ℕ) (latest : ℕ) → outcome (core (r .processor) regs latest (r .timer)) (r .calls) ≡ handled (core p regs latest k) causes datum) ⌝ }
 {
     let handler = interrupt(p, causes, datum);
+    // the level of Partition::TRAP
     if level(causes) == 5 {
         return Settled {
             processor: handler,

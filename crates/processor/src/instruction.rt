@@ -4,6 +4,7 @@ ghost use Rattle.dlx.specs.Instructions.{instructionOf, registerType, partType}
 use crate::words::extend;
 use dlx::instruction::Instruction;
 use dlx::instruction::Operation;
+use dlx::partition::Partition;
 use dlx::words::wide;
 
 // The words of opcode 0.
@@ -23,13 +24,13 @@ fn read_register_type(w: u32) -> Instruction
         38 => Instruction::Register(Operation::Xor, rd, rs1, rs2),
         40..=47 => Instruction::Register(Operation::Test(function - 40), rd, rs1, rs2),
         16 => {
-            if sa <= 11 {
+            if sa <= Partition::TLOAD {
                 return Instruction::Movs2i(rd, sa);
             }
             Instruction::Ill
         }
         17 => {
-            if sa <= 11 {
+            if sa <= Partition::TLOAD {
                 return Instruction::Movi2s(sa, rs1);
             }
             Instruction::Ill

@@ -28,6 +28,7 @@ pub fn interrupt(p: Processor, causes: u32, datum: u32) -> Processor
 {
     let behind = std::num::wrapping_add_u32(p.pc, 4);
     match level(causes) {
+        // the levels of Partition::ILL, MAL, PFF, PFLS, TRAP and TIMER
         1 => enter(p, causes, p.dpc, p.pc, p.edata),
         2 => enter(p, causes, p.dpc, p.pc, p.edata),
         3 => enter(p, causes, p.dpc, p.pc, datum),

@@ -29,7 +29,7 @@ pub fn raise(k: Timer, sr: u32) -> u32
     if k.tcount != 1 {
         return 0;
     }
-    if sr / 8192 % 2 == 1 {
+    if sr / Partition::TIMER % 2 == 1 {
         return Partition::TIMER;
     }
     0
