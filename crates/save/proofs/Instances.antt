@@ -7,22 +7,24 @@ use native.Mathlib.Omega.{arith}
 use lib.ListN.{length, getD, take, drop, replicate, length-replicate, take-append-drop}
 use Rattle.dlx.specs.Parts.{inner}
 use Rattle.addresses.specs.Entries.{entryOf}
-use Rattle.house.specs.House.{freshShadows, shadowOf}
+use Rattle.house.specs.House.{noHouse, freshShadows, shadowOf}
 use Rattle.house.specs.Damage.{damaged}
-use Rattle.house.specs.Boot.{verdict}
-use Rattle.house.specs.Turns.{World}
+use Rattle.house.specs.Boot.{verdict, firstOf}
+use Rattle.house.specs.Turns.{World, world}
 use Rattle.house.specs.Calls.{answered}
 use Rattle.demands.specs.Histories.{booted, Call, run, after, history, stepsMade, turnsMade, loneOf, logOf}
 use Rattle.demands.proofs.Demands.{never-damaged}
 use Rattle.demands.proofs.Instances.TwoGuests.{two-guests, memory-words, full, grown-full, by-store}
 use Rattle.housefile.specs.Records.{number, wordsOf}
 use Rattle.save.specs.Saved.{little, allBytes, recordOf, fileOf}
-use Rattle.save.specs.Reading.{begun, turned, mayCome, contentRight, taken, settled, took, fed}
-use Rattle.save.specs.Calls.{finished}
-use Rattle.save.specs.Promises.{Savable, emptied, whole, piecesRead, SaveOf, RestoreOf, emptyings, Life, begins, calls, resumes, Nothing}
+use Rattle.save.specs.Reading.{Reading, begun, turned, mayCome, contentRight, taken, settled, took, fed}
+use Rattle.save.specs.Calls.{readPiece, readVerdict, finished}
+use Rattle.save.specs.Whole.{saysOf, answerTo}
+use Rattle.save.specs.Promises.{Savable, emptied, Bytes, whole, piecesRead, SaveOf, RestoreOf, emptyings, Life, begins, calls, resumes, Nothing}
 use Rattle.save.proofs.Bytes.{below-append, record-below}
-use Rattle.save.proofs.Promises.{read-back, right-alone}
-use Rattle.save.proofs.Lives.{restores, lives-on, lives-grown, grown-savable, steps-then, turns-then, log-then, emptyings-nothing, saves}
+use Rattle.save.proofs.Promises.{read-back, file-bytes, one-file, gives-whole, one-house, cut-anywhere, right-alone}
+use Rattle.save.proofs.WholeFile.{whole-file}
+use Rattle.save.proofs.Lives.{restores, lives-on, lives-grown, grown-savable, steps-then, turns-then, log-then, emptyings-nothing, refused, saves}
 
 -- ---- saved
 
@@ -96,16 +98,77 @@ same-log = log-then calls-made (emptyings (saved .house .count)) (booted two-gue
 abbrev cut : List ℕ
 cut = recordOf 5 (7 ∷ 2048 ∷ 0 ∷ 3 ∷ []) ++ (4 ∷ 16 ∷ [])
 
--- no frame of it has come, and every word of the memory is there
-pub nothing-lost : getD (fed (begun (replicate 2048 9)) cut .progress .memory) 1000 0 ≡ 9
-nothing-lost =
-    right-alone (replicate 2048 9) cut bytes (unfold recordOf little allBytes in omega arith) .kept 1000
-    (unfold recordOf little allBytes fed took number wordsOf mayCome contentRight settled taken turned in omega arith)
+cut-bytes : (i : ℕ) → getD cut i 0 < 256
+cut-bytes = below-append 256 (recordOf 5 (7 ∷ 2048 ∷ 0 ∷ 3 ∷ [])) (4 ∷ 16 ∷ []) (record-below 5 (7 ∷ 2048 ∷ 0 ∷ 3 ∷ [])) rest
   where
     rest : (i : ℕ) → getD (4 ∷ 16 ∷ []) i 0 < 256
     rest zero = omega arith
     rest (suc zero) = omega arith
     rest (suc (suc i)) = omega arith
 
-    bytes : (i : ℕ) → getD cut i 0 < 256
-    bytes = below-append 256 (recordOf 5 (7 ∷ 2048 ∷ 0 ∷ 3 ∷ [])) (4 ∷ 16 ∷ []) (record-below 5 (7 ∷ 2048 ∷ 0 ∷ 3 ∷ [])) rest
+cut-long : length cut < 2 ^ 64
+cut-long = unfold recordOf little allBytes in omega arith
+
+abbrev nines : List ℕ
+nines = replicate 2048 9
+
+-- no frame of it has come, and every word of the memory is there
+pub nothing-lost : getD (fed (begun nines) cut .progress .memory) 1000 0 ≡ 9
+nothing-lost =
+    right-alone nines cut cut-bytes cut-long .kept 1000
+    (unfold recordOf little allBytes fed took number wordsOf mayCome contentRight settled taken turned in omega arith)
+
+-- in three pieces, one of them of no bytes, it comes to the same; and what it comes to is what its records say
+pub in-pieces : piecesRead (begun nines) (take 3 cut ∷ [] ∷ drop 3 cut ∷ []) ≡ fed (begun nines) cut
+in-pieces =
+    let e : whole (take 3 cut ∷ [] ∷ drop 3 cut ∷ []) ≡ cut = unfold whole in ap (λ (l : List ℕ). take 3 cut ++ l) (append-nil (drop 3 cut)) ∙ take-append-drop 3 cut in
+    cut-anywhere nines (take 3 cut ∷ [] ∷ drop 3 cut ∷ []) (subst Bytes (sym e) cut-bytes) ∙ ap (fed (begun nines)) e
+
+pub by-records : finished (fed (begun nines) cut) ≡ answerTo (saysOf nines cut)
+by-records = whole-file nines cut cut-long
+
+cut-refused : finished (fed (begun nines) cut) .verdict .number ≡ 17
+cut-refused = unfold recordOf little allBytes fed took number wordsOf mayCome contentRight settled taken turned finished readVerdict firstOf in refl
+
+-- it gives no house, over the memory as it is
+pub no-house-back : finished (fed (begun nines) cut) .world ≡ world noHouse (fed (begun nines) cut .progress .memory)
+no-house-back = refused .reading (fed (begun nines) cut) (λ z. let n = cut-refused in omega arith)
+
+-- kind 5 alone has come: a later piece over a memory of one word is 9, and leaves it
+abbrev opened : Reading
+opened = fed (begun nines) (recordOf 5 (7 ∷ 2048 ∷ 0 ∷ 3 ∷ []))
+
+pub other-memory : finished (readPiece opened (4 ∷ []) (9 ∷ [])) ≡ answered (verdict 9 0) (world noHouse (4 ∷ []))
+other-memory =
+    refused .sizes opened (4 ∷ []) (9 ∷ [])
+    (unfold recordOf little allBytes fed took number wordsOf mayCome contentRight settled taken turned in refl)
+    (unfold recordOf little allBytes fed took number wordsOf mayCome contentRight settled taken turned in refl)
+    (unfold recordOf little allBytes fed took number wordsOf mayCome contentRight settled taken turned in λ z. omega arith)
+
+-- ---- the file of the saved house, and no other
+
+abbrev sevens : List ℕ
+sevens = replicate (saved .house .words) 7
+
+whole-again : whole (fileOf saved ∷ []) ≡ fileOf saved
+unfolding whole
+whole-again = append-nil (fileOf saved)
+
+back : finished (fed (begun sevens) (fileOf saved)) ≡ answered (verdict 0 0) (emptied saved)
+back =
+    ap (λ (f : List ℕ). finished (fed (begun sevens) f)) (sym whole-again)
+    ∙ ap finished (sym (cut-anywhere sevens (fileOf saved ∷ []) (subst Bytes (sym whole-again) (file-bytes saved))))
+    ∙ read-back saved savable sevens (length-replicate {A = ℕ} (saved .house .words) 7) (fileOf saved ∷ []) whole-again
+
+-- what comes back has the same file, in which no shadow is; it is whole, in a memory of the size that was lent
+pub same-file : fileOf (emptied saved) ≡ fileOf saved
+same-file = one-file sevens (fileOf saved) (emptied saved) (file-bytes saved) back
+
+pub whole-back : (damaged (emptied saved .house) ≡ false) × (length (emptied saved .memory) ≡ emptied saved .house .words) × (length (emptied saved .memory) ≡ length sevens)
+whole-back = gives-whole sevens (fileOf saved) (emptied saved) (file-bytes saved) back
+
+-- whatever has this file has its registers, its tickets and its memory
+pub no-other : (w : World) → Savable w → fileOf saved ≡ fileOf w → (w .memory ≡ saved .memory) × (w .house .regs ≡ saved .house .regs) × (w .house .tickets ≡ saved .house .tickets)
+no-other w s e =
+    let h = one-house saved w savable s e in
+    (sym (ap (λ (x : World). x .memory) h), sym (ap (λ (x : World). x .house .regs) h), sym (ap (λ (x : World). x .house .tickets) h))
