@@ -4,6 +4,7 @@ use mathlib.Core.Bool.{false}
 use mathlib.Core.List.{List, [], _∷_, _++_, append-nil}
 use Prim.Native.Nat.{ℕ, zero, suc, _+_, _*_, _^_, _<_, _≤_}
 use native.Mathlib.Omega.{arith}
+use borrow.Author.Tests.{ne-eqb}
 use lib.ListN.{length, getD, take, drop, replicate, length-replicate, take-append-drop}
 use Rattle.dlx.specs.Parts.{inner}
 use Rattle.addresses.specs.Entries.{entryOf}
@@ -18,7 +19,7 @@ use Rattle.demands.proofs.Instances.TwoGuests.{two-guests, memory-words, full, 
 use Rattle.housefile.specs.Records.{number, wordsOf}
 use Rattle.save.specs.Saved.{little, allBytes, recordOf, fileOf}
 use Rattle.save.specs.Reading.{Reading, begun, turned, mayCome, contentRight, taken, settled, took, fed}
-use Rattle.save.specs.Calls.{readPiece, readVerdict, finished}
+use Rattle.save.specs.Calls.{saveVerdict, saveCall, readPiece, readVerdict, finished}
 use Rattle.save.specs.Whole.{saysOf, answerTo}
 use Rattle.save.specs.Promises.{Savable, emptied, Bytes, whole, piecesRead, SaveOf, RestoreOf, emptyings, Life, begins, calls, resumes, Nothing}
 use Rattle.save.proofs.Bytes.{below-append, record-below}
@@ -144,6 +145,17 @@ other-memory =
     (unfold recordOf little allBytes fed took number wordsOf mayCome contentRight settled taken turned in refl)
     (unfold recordOf little allBytes fed took number wordsOf mayCome contentRight settled taken turned in refl)
     (unfold recordOf little allBytes fed took number wordsOf mayCome contentRight settled taken turned in λ z. omega arith)
+
+-- a save of a house in a memory with a word too many is refused, and writes nothing
+abbrev astray : World
+astray = world (saved .house) (7 ∷ saved .memory)
+
+nine : saveCall astray 0 (1 ∷ 2 ∷ []) .verdict .number ≡ 9
+unfolding saveCall saveVerdict firstOf
+nine = simp (savable .whole, ne-eqb (length (7 ∷ saved .memory)) (saved .house .words) (λ e. omega (arith, savable .size)))
+
+pub nothing-written : let r = saveCall astray 0 (1 ∷ 2 ∷ []) in (r .count ≡ 0) × (r .house ≡ saved .house) × (r .output ≡ 1 ∷ 2 ∷ [])
+nothing-written = refused .saving astray 0 (1 ∷ 2 ∷ []) (λ z. omega (arith, nine))
 
 -- ---- the file of the saved house, and no other
 
