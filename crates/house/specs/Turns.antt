@@ -2,7 +2,7 @@
 use mathlib.Core.Bool.{Bool, false, _||_}
 use mathlib.Core.List.{List}
 use Prim.Native.Nat.{ℕ, zero, suc, _+_, _-_, _*_, _%_, _^_}
-use lib.Dec.{eqb}
+use lib.Dec.{eqb, ltb, leb}
 use lib.ListN.{getD, set}
 use Rattle.dlx.specs.Choice.{if_then_else_}
 use Rattle.dlx.specs.Machine.{Ops, Core, core, Outcome, Request, asked, step, Stretch}
@@ -123,6 +123,20 @@ stretchedHouse h i r t =
     (outer (i * 32) 32 (h .regs) (r .core .registers))
     (outer (i * entries) entries (h .shadows) (r .memory .shadow))))
     (r .desk)
+
+-- ---- a stretch of a partition that is alone: where a turn of its ends, the next is its own too
+
+-- how many of the steps to make it may have: all where it is alone, else those left of its turn
+unfoldable pub spanOf : Bool → ℕ → ℕ → ℕ
+spanOf alone l rest = if alone then rest else if leb l rest then l else rest
+
+-- what is left of its turn after so many steps of it, where l was
+unfoldable pub leftAlone : ℕ → ℕ → ℕ → Bool → ℕ
+leftAlone q l made calls = if calls then q else if ltb made l then l - made else q - (made - l) % q
+
+-- the turn then
+unfoldable pub laterOf : Bool → List Bool → ℕ → ℕ → ℕ → ℕ → ℕ → Bool → Turn
+laterOf alone r n q c l made calls = if alone then turn c (leftAlone q l made calls) else turnOf r n q c l made calls
 
 -- the house h with what a host step may change
 abbrev pub houseAt : House → ℕ → ℕ → List Partition → List ℕ → List ℕ → House

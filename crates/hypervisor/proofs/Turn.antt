@@ -1,11 +1,12 @@
 -- One turn of the run's loop, in the terms in which the lent parts come back.
-use mathlib.Core.Path.{_≡_, sym, subst}
+use mathlib.Core.Path.{_≡_, refl, sym, subst, _∙_}
+use mathlib.Core.Bool.{Bool, true, false, true≢false, false≢true}
 use mathlib.Core.List.{List, _++_}
 use Prim.Native.Nat.{ℕ, _+_, _-_, _*_, _%_, _^_, _<_, _≤_}
 use native.Mathlib.Nat.{add-sub-cancel-left, suc-mul, mul-le-mul, mul-le-mul-right}
 use native.Mathlib.Omega.{arith}
-use borrow.Author.Tests.{leb-true, leb-false}
-use lib.Dec.{leb}
+use borrow.Author.Tests.{leb-true, leb-false, eqb-true}
+use lib.Dec.{leb, eqb}
 use lib.ListN.{length, getD, set, take, drop}
 use Rattle.dlx.specs.Choice.{if_then_else_}
 use Rattle.dlx.specs.Processor.{withProcessor, withTable, withTimer, withCounter, withFault}
@@ -20,12 +21,12 @@ use Rattle.engine.specs.Answers.{stretchOf}
 use Rattle.dlx.specs.Parts.{inner, outer}
 use Rattle.tickets.specs.Queues.{queues, desk, Seated}
 use Rattle.house.specs.House.{noPartition, withQueues}
-use Rattle.house.specs.Turns.{World, world, turnOf, hostSteps, stretchedHouse, houseAt}
+use Rattle.house.specs.Turns.{World, world, nextOf, spanOf, laterOf, hostSteps, stretchedHouse, houseAt}
 use Rattle.house.specs.Sound.{Sound}
 use Rattle.house.specs.declared.House.{House}
 use Rattle.house.specs.declared.Turn.{Turn}
 use Rattle.dlx.proofs.Parts.{inner-length}
-use Rattle.house.proofs.Turns.Stretch.{Turned, turned}
+use Rattle.house.proofs.Turns.Stretch.{Spanned, spanned}
 
 -- the part of a list that is lent from i * s on, and the list when it is back
 abbrev pub lent : ℕ → ℕ → List ℕ → List ℕ
@@ -45,22 +46,22 @@ module _ (h : House) (current left : ℕ) (parts : List Partition) (regs shadows
         stretchOf s regs′ latest m′ shadow′ (queues tickets′ waiting′)
         ≡ stretchFrom (hostMemory (lent i 256 (h .frames)) (getD parts i noPartition .pages)) (desk (h .count) current) n 0 (core (getD parts i noPartition .processor) (lent i 32 regs) (getD parts i noPartition .fault) (getD parts i noPartition .timer), host (getD parts i noPartition .table) m (lent i entries shadows)) (queues tickets waiting)
 
-    pub asked-turned : (i : ℕ) → i ≡ current → Asked i → Sound here → 0 < n → n ≤ left → Turned here n (stretchOf s regs′ latest m′ shadow′ (queues tickets′ waiting′))
+    pub asked-turned : (alone : Bool) (i : ℕ) → i ≡ current → Asked i → Sound here → 0 < n → (alone ≡ true → nextOf (h .running) (h .count) current ≡ current) → (alone ≡ false → n ≤ left) → Spanned alone here n (stretchOf s regs′ latest m′ shadow′ (queues tickets′ waiting′))
     unfolding inner
-    asked-turned i q a o p l =
-        subst (Turned here n)
+    asked-turned alone i q a o p w l =
+        subst (Spanned alone here n)
         (sym (simp add-sub-cancel-left at (subst Asked q a)))
-        (turned n here o p l)
+        (spanned alone n here o p w l)
 
     -- the house that the loop's body makes of its answer
     abbrev Made : Turn → ℕ → ℕ → World
     Made t counter i =
         world (withQueues (houseAt h (t .current) (t .left) (set parts i (withCounter (withFault (withTimer (withTable (withProcessor (getD parts i noPartition) (s .processor)) (s .table)) (s .timer)) latest) counter)) (back i 32 regs regs′) (back i entries shadows shadow′)) (queues tickets′ waiting′)) m′
 
-    pub after-turn : (i : ℕ) (t : Turn) (counter : ℕ) → i ≡ current → Turned here n (stretchOf s regs′ latest m′ shadow′ (queues tickets′ waiting′)) → t ≡ turnOf (h .running) (h .count) (h .q) current left (s .made) (s .called) → counter ≡ (getD parts i noPartition .counter + s .made) % 2 ^ 64 → Made t counter i ≡ hostSteps (s .made) here
+    pub after-turn : (alone : Bool) (i : ℕ) (t : Turn) (counter : ℕ) → i ≡ current → Spanned alone here n (stretchOf s regs′ latest m′ shadow′ (queues tickets′ waiting′)) → t ≡ laterOf alone (h .running) (h .count) (h .q) current left (s .made) (s .called) → counter ≡ (getD parts i noPartition .counter + s .made) % 2 ^ 64 → Made t counter i ≡ hostSteps (s .made) here
     unfolding stretchedHouse outer
-    after-turn i t counter q d e c =
-        let now = turnOf (h .running) (h .count) (h .q) current left (s .made) (s .called) in
+    after-turn alone i t counter q d e c =
+        let now = laterOf alone (h .running) (h .count) (h .q) current left (s .made) (s .called) in
         subst (λ (u : Turn). Made u counter i ≡ hostSteps (s .made) here) (sym e)
         (subst (λ (n : ℕ). Made now n i ≡ hostSteps (s .made) here) (sym c)
         (subst (λ (j : ℕ). Made now ((getD parts j noPartition .counter + s .made) % 2 ^ 64) j ≡ hostSteps (s .made) here) (sym q)
@@ -84,6 +85,29 @@ limited l r n e p q =
     (either (λ (x : ℕ). (0 < x) × (x ≤ l) × (x ≤ r)) (leb l r)
     (λ b. let h = leb-true l r b in (omega arith, omega arith, omega arith))
     (λ b. let h = leb-false l r b in (omega arith, omega arith, omega arith)))
+
+-- how many steps are lent for: some, no more than are left unless its partition is alone, and no more than are to make
+pub record Within (alone : Bool) (l r n : ℕ) : Type 0 where
+  pub some : 0 < n
+  pub turn : alone ≡ false → n ≤ l
+  pub most : n ≤ r
+
+within : (alone : Bool) (l r : ℕ) → 0 < l → 0 < r → Within alone l r (spanOf alone l r)
+unfolding spanOf
+within true l r p q = record { some = q; turn = λ e. absurd (true≢false e); most = omega arith }
+within false l r p q = let u = limited l r _ refl p q in record { some = u .0; turn = λ _. u .1; most = u .2 }
+
+pub lent-for : (alone : Bool) (l r n : ℕ) → n ≡ spanOf alone l r → 0 < l → 0 < r → Within alone l r n
+lent-for alone l r n e p q = subst (Within alone l r) (sym e) (within alone l r p q)
+
+-- whether the current partition is alone is told once: nothing in a run starts or stops one
+pub alone-told : (r : List Bool) (n c x : ℕ) → x ≡ nextOf r n c → eqb x c ≡ true → nextOf r n c ≡ c
+alone-told r n c x e t = sym e ∙ eqb-true x c t
+
+pub still-alone : (r : List Bool) (n q c l made : ℕ) (called alone : Bool) (t : Turn) → t ≡ laterOf alone r n q c l made called → (alone ≡ true → nextOf r n c ≡ c) → alone ≡ true → nextOf r n (t .current) ≡ t .current
+unfolding laterOf
+still-alone r n q c l made called true t e a _ = subst (λ (u : Turn). nextOf r n (u .current) ≡ u .current) (sym e) (a refl)
+still-alone r n q c l made called false t e a y = absurd (false≢true y)
 
 pub still-some : (a b : ℕ) → a < b → 0 < b - a
 still-some a b l = omega arith

@@ -1,9 +1,10 @@
 // Runs: turns of the current partition, each a stretch of the engine's.
 ghost use mathlib.Core.Path.{_≡_};
+ghost use mathlib.Core.Bool.{false};
 ghost use Prim.Native.Nat.{_<_, _≤_};
 ghost use lib.Dec.{leb};
 ghost use Rattle.dlx.specs.Choice.{if_then_else_};
-ghost use Rattle.house.specs.Turns.{world, following as followingOf, nextOf, turnOf, hostSteps};
+ghost use Rattle.house.specs.Turns.{world, following as followingOf, nextOf, turnOf, spanOf, leftAlone, laterOf, hostSteps};
 ghost use Rattle.house.specs.Sound.{Sound};
 use addresses::ENTRIES;
 use dlx::words::wide;
@@ -79,6 +80,53 @@ pub fn limit(left: u32, rest: u32) -> u32
     rest
 }
 
+// What is left of the turn of a partition that is alone, after so many steps of it.
+fn remains(q: u32, left: u32, made: u32, called: bool) -> u32
+    requires { ⌜ 0 < q ⌝ }
+    ensures { λ r. ⌜ r ≡ leftAlone q left made called ⌝ }
+{
+    if called {
+        return q;
+    }
+    if made < left {
+        return left - made;
+    }
+    q - (made - left) % q
+}
+
+// The turn after so many steps of the current partition. One that is alone may have made more than were left.
+fn later(
+    alone: bool,
+    running: &[bool; 8],
+    n: u32,
+    q: u32,
+    current: u32,
+    left: u32,
+    made: u32,
+    called: bool,
+) -> Turn
+    requires { ⌜ n ≤ 8 ⌝ ∗ ⌜ current < n ⌝ ∗ ⌜ 0 < q ⌝ ∗ ⌜ (alone ≡ false → made ≤ left) ⌝ }
+    ensures { λ r. ⌜ r ≡ laterOf alone (now (running .entry)) n q current left made called ⌝ }
+{
+    if alone {
+        return Turn {
+            current,
+            left: remains(q, left, made, called),
+        };
+    }
+    turn(running, n, q, current, left, made, called)
+}
+
+// How many steps the current partition may make on end: up to the end of its turn, or, where it is alone, all.
+fn span(alone: bool, left: u32, rest: u32) -> u32
+    ensures { λ r. ⌜ r ≡ spanOf alone left rest ⌝ }
+{
+    if alone {
+        return rest;
+    }
+    limit(left, rest)
+}
+
 // k host steps. The arrays are in locals; a turn lends the partition's parts of them.
 pub fn steps(mut h: House, memory: &mut [u32], k: u32) -> House
     requires { ⌜ Sound (world h (now memory)) ⌝ }
@@ -95,6 +143,7 @@ pub fn steps(mut h: House, memory: &mut [u32], k: u32) -> House
     let mut waiting = h.waiting;
     let mut current = h.current;
     let mut left = h.left;
+    let alone = next(&running, count, current) == current;
     let mut made: u32 = 0;
     while made < k {
         let i = wide(current);
@@ -105,7 +154,7 @@ pub fn steps(mut h: House, memory: &mut [u32], k: u32) -> House
         let d = c + 256;
         let e = i * ENTRIES;
         let f = e + ENTRIES;
-        let n = limit(left, k - made);
+        let n = span(alone, left, k - made);
         let mut latest = p.fault;
         let s = engine::stretch(
             p.processor,
@@ -132,7 +181,7 @@ pub fn steps(mut h: House, memory: &mut [u32], k: u32) -> House
         p.fault = latest;
         p.counter = std::num::wrapping_add_u64(p.counter, s.made as u64);
         parts[i] = p;
-        let t = turn(&running, count, q, current, left, s.made, s.called);
+        let t = later(alone, &running, count, q, current, left, s.made, s.called);
         current = t.current;
         left = t.left;
         made += s.made;

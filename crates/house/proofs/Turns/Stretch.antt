@@ -1,12 +1,12 @@
--- A stretch of the current partition, of at most the steps left, is so many host steps.
+-- A stretch of the current partition, of at most the steps left, or of any number where it is alone, is so many host steps.
 use mathlib.Core.Path.{_≡_, refl, sym, ap, subst, _∙_}
 use mathlib.Core.List.{List}
 use mathlib.Core.Bool.{Bool, true, false}
 use Prim.Native.Nat.{ℕ, zero, suc, _+_, _-_, _*_, _%_, _^_, _<_, _≤_}
-use native.Mathlib.Nat.{add-zero, add-suc}
+use native.Mathlib.Nat.{add-zero, add-suc, sub-zero, zero-mod, mod-eq-of-lt, mod-eq-sub-mod}
 use native.Mathlib.Omega.{arith}
-use borrow.Author.Tests.{eq-eqb, ne-eqb}
-use lib.Dec.{eqb}
+use borrow.Author.Tests.{eq-eqb, ne-eqb, lt-ltb, le-ltb, ltb-true, ltb-false}
+use lib.Dec.{eqb, ltb}
 use lib.ListN.{length, set}
 use lib.Seq.{set-set}
 use Rattle.dlx.specs.declared.partition.Partition.{Partition}
@@ -15,9 +15,10 @@ use Rattle.dlx.specs.Processor.{withCounter}
 use Rattle.dlx.proofs.Kept.{either}
 use Rattle.addresses.specs.Walk.{entries}
 use Rattle.addresses.specs.Memory.{Host, hostMemory}
-use Rattle.dlx.proofs.Tests.{by-eq}
+use Rattle.dlx.specs.Choice.{if_then_else_}
+use Rattle.dlx.proofs.Tests.{by-test, by-eq}
 use Rattle.house.specs.House.{guests, turn, withTurn, withGuests, withQueues, partition, pagesOf, framesOf, queuesOf}
-use Rattle.house.specs.Turns.{withGuest, World, world, turnAfter, guest, guestMemory, requestNow, replyNow, queuesNext, guestStep, queuedOn, counted, countedOn, settledHouse, stepWith, hostStep, hostSteps, stretchedHouse, turnOf}
+use Rattle.house.specs.Turns.{withGuest, World, world, turnAfter, guest, guestMemory, requestNow, replyNow, queuesNext, guestStep, queuedOn, counted, countedOn, settledHouse, stepWith, hostStep, hostSteps, stretchedHouse, nextOf, turnOf, leftAlone, laterOf}
 use Rattle.tickets.specs.Queues.{Queues, desk}
 use Rattle.house.specs.Sound.{Shaped, Sound}
 use Rattle.house.specs.declared.House.{House}
@@ -91,9 +92,15 @@ turn-on h o j called l =
 
 -- ---- a stretch
 
+-- the steps that it made lead to its house, with this turn
+abbrev Ends : World → Stretch Host Queues → Turn → Type 0
+Ends w r t = hostSteps (r .made) w ≡ world (stretchedHouse (w .house) (w .house .current) r t) (r .memory .words)
+
 abbrev Made : World → Stretch Host Queues → Type 0
-Made w r =
-    hostSteps (r .made) w ≡ world (stretchedHouse (w .house) (w .house .current) r (turnAfter (w .house) (r .made) (r .called))) (r .memory .words)
+Made w r = Ends w r (turnAfter (w .house) (r .made) (r .called))
+
+abbrev MadeAlone : World → Stretch Host Queues → Type 0
+MadeAlone w r = Ends w r (turn (w .house .current) (leftAlone (w .house .q) (w .house .left) (r .made) (r .called)))
 
 abbrev once : Bool → Outcome × Host → Queues → Stretch Host Queues
 once b o t = record { made = 1; called = b; core = o .0 .core; memory = o .1; desk = t }
@@ -103,19 +110,19 @@ stretched w k =
     let i = w .house .current in
     stretchFrom (guestMemory (w .house) i) (desk (w .house .count) i) k 0 (guest w i) (queuesOf (w .house))
 
--- the world after one step that does not end the turn
-abbrev hop : World → World
-hop w =
+-- the world after one step behind which the same partition is current, with l left
+abbrev hop : World → ℕ → World
+hop w l =
     let i = w .house .current in
     let o = guestStep w i in
-    world (settledHouse (queuedOn w .house) i o (turn i (w .house .left - 1))) (o .1 .words)
+    world (settledHouse (queuedOn w .house) i o (turn i l)) (o .1 .words)
 
 module _ (w : World) (s : Sound w) where
   made-once : (b : Bool) → guestStep w (w .house .current) .0 .calls ≡ b → Made w (once b (guestStep w (w .house .current)) (queuesNext w (w .house .current)))
   unfolding hostSteps hostStep stepWith turnOf settledHouse stretchedHouse
   made-once b e = simp e
 
-  hop-is : guestStep w (w .house .current) .0 .calls ≡ false → 1 < w .house .left → hostStep w ≡ hop w
+  hop-is : guestStep w (w .house .current) .0 .calls ≡ false → 1 < w .house .left → hostStep w ≡ hop w (w .house .left - 1)
   unfolding hostStep stepWith turnOf
   hop-is e l = simp (e, ne-eqb (w .house .left) 1 (λ q. omega arith))
 
@@ -137,42 +144,45 @@ module _ (w : World) (s : Sound w) where
   unfolding stretchFrom guestStep replyNow requestNow queuesNext
   first-is k e = simp e
 
-  again-is : (k : ℕ) → guest (hop w) (w .house .current) ≡ (guestStep w (w .house .current) .0 .core, guestStep w (w .house .current) .1) → pagesOf (hop w .house) (w .house .current) ≡ pagesOf (w .house) (w .house .current) → stretched (hop w) (suc k) ≡ onwards k 0
-  unfolding settledHouse
-  again-is k g p =
-      let i = w .house .current in
-      ap (λ (n : ℕ). stretchFrom (hostMemory (framesOf (w .house) i) n) (desk (w .house .count) i) (suc k) 0 (guest (hop w) i) (queuesNext w i)) p
-      ∙ ap (λ (m : Core × Host). stretchFrom (guestMemory (w .house) i) (desk (w .house .count) i) (suc k) 0 m (queuesNext w i)) g
+  module _ (l : ℕ) where
+    again-is : (k : ℕ) → guest (hop w l) (w .house .current) ≡ (guestStep w (w .house .current) .0 .core, guestStep w (w .house .current) .1) → pagesOf (hop w l .house) (w .house .current) ≡ pagesOf (w .house) (w .house .current) → stretched (hop w l) (suc k) ≡ onwards k 0
+    unfolding settledHouse
+    again-is k g p =
+        let i = w .house .current in
+        ap (λ (n : ℕ). stretchFrom (hostMemory (framesOf (w .house) i) n) (desk (w .house .count) i) (suc k) 0 (guest (hop w l) i) (queuesNext w i)) p
+        ∙ ap (λ (m : Core × Host). stretchFrom (guestMemory (w .house) i) (desk (w .house .count) i) (suc k) 0 m (queuesNext w i)) g
 
-  stretched-on : (k : ℕ) → guestStep w (w .house .current) .0 .calls ≡ false → stretched w (suc (suc k)) ≡ bumped (stretched (hop w) (suc k))
-  stretched-on k e =
-      let i = w .house .current in
-      let o = guestStep w i in
-      let f : i < 8 = omega (arith, s .here, s .few) in
-      let c = step-keeps w s .shadowed .count in
-      let t = turn i (w .house .left - 1) in
-      first-is k e
-      ∙ made-on (guestMemory (w .house) i) (desk (w .house .count) i) (suc k) 0 (o .0 .core, o .1) (queuesNext w i)
-      ∙ ap bumped (sym (again-is k (hopped (queuedOn w) i (shaped-here w s) f o (step-registers w (s .shaped) f) c t) (settled-pages (queuedOn w .house) i o t i)))
+    stretched-on : (k : ℕ) → guestStep w (w .house .current) .0 .calls ≡ false → stretched w (suc (suc k)) ≡ bumped (stretched (hop w l) (suc k))
+    stretched-on k e =
+        let i = w .house .current in
+        let o = guestStep w i in
+        let f : i < 8 = omega (arith, s .here, s .few) in
+        let c = step-keeps w s .shadowed .count in
+        let t = turn i l in
+        first-is k e
+        ∙ made-on (guestMemory (w .house) i) (desk (w .house .count) i) (suc k) 0 (o .0 .core, o .1) (queuesNext w i)
+        ∙ ap bumped (sym (again-is k (hopped (queuedOn w) i (shaped-here w s) f o (step-registers w (s .shaped) f) c t) (settled-pages (queuedOn w .house) i o t i)))
 
-  hop-sound : guestStep w (w .house .current) .0 .calls ≡ false → 1 < w .house .left → Sound (hop w)
-  hop-sound e l = subst Sound (hop-is e l) (sound-step w s)
+    hop-sound : hostStep w ≡ hop w l → Sound (hop w l)
+    hop-sound e = subst Sound e (sound-step w s)
 
-  made-on-hop : (r : Stretch Host Queues) → guestStep w (w .house .current) .0 .calls ≡ false → 1 < w .house .left → Made (hop w) r → Made w (bumped r)
-  unfolding bumped settledHouse stretchedHouse
-  made-on-hop r e l h =
-      let i = w .house .current in
-      let o = guestStep w i in
-      let f : i < 8 = omega (arith, s .here, s .few) in
-      let t = turn i (w .house .left - 1) in
-      sym (steps-from (r .made) w)
-      ∙ ap (hostSteps (r .made)) (hop-is e l)
-      ∙ h
-      ∙ ap (λ (x : House). world x (r .memory .words))
-      (ap (λ (u : Turn). stretchedHouse (settledHouse (queuedOn w .house) i o t) i r u) (turn-on (queuedOn w .house) o (r .made) (r .called) (s .left))
-      ∙ joined (queuedOn w) i (shaped-here w s) f o (step-registers w (s .shaped) f) (step-keeps w s .shadowed .count) t r (turnAfter (w .house) (suc (r .made)) (r .called)))
+    made-on-hop : (r : Stretch Host Queues) (u : Turn) → hostStep w ≡ hop w l → Ends (hop w l) r u → Ends w (bumped r) u
+    unfolding bumped settledHouse stretchedHouse
+    made-on-hop r u e h =
+        let i = w .house .current in
+        let f : i < 8 = omega (arith, s .here, s .few) in
+        sym (steps-from (r .made) w)
+        ∙ ap (hostSteps (r .made)) e
+        ∙ h
+        ∙ ap (λ (x : House). world x (r .memory .words))
+        (joined (queuedOn w) i (shaped-here w s) f (guestStep w i) (step-registers w (s .shaped) f) (step-keeps w s .shadowed .count) (turn i l) r u)
 
-hop-left : (w : World) (k : ℕ) → suc k < w .house .left → k < hop w .house .left
+  -- where the turn does not end
+  made-goes-on : (r : Stretch Host Queues) → hostStep w ≡ hop w (w .house .left - 1) → Made (hop w (w .house .left - 1)) r → Made w (bumped r)
+  unfolding bumped
+  made-goes-on r e h = subst (Ends w (bumped r)) (turn-on (queuedOn w .house) (guestStep w (w .house .current)) (r .made) (r .called) (s .left)) (made-on-hop (w .house .left - 1) r _ e h)
+
+hop-left : (w : World) (k : ℕ) → suc k < w .house .left → k < hop w (w .house .left - 1) .house .left
 unfolding settledHouse
 hop-left w k l = omega arith
 
@@ -183,11 +193,93 @@ stretch-is zero w s l = go (guestStep w (w .house .current) .0 .calls) refl
     go : (b : Bool) → guestStep w (w .house .current) .0 .calls ≡ b → Made w (stretched w 1)
     go true e = rw (stretched-called w s 0 e) (made-once w s true e)
     go false e = rw (stretched-one w s e) (made-once w s false e)
-stretch-is (suc k) w s l = go (guestStep w (w .house .current) .0 .calls) refl (λ s′ l′. stretch-is k (hop w) s′ l′)
+stretch-is (suc k) w s l = go (guestStep w (w .house .current) .0 .calls) refl (λ s′ l′. stretch-is k (hop w (w .house .left - 1)) s′ l′)
   where
-    go : (b : Bool) → guestStep w (w .house .current) .0 .calls ≡ b → (Sound (hop w) → k < hop w .house .left → Made (hop w) (stretched (hop w) (suc k))) → Made w (stretched w (suc (suc k)))
+    go : (b : Bool) → guestStep w (w .house .current) .0 .calls ≡ b → (Sound (hop w (w .house .left - 1)) → k < hop w (w .house .left - 1) .house .left → Made (hop w (w .house .left - 1)) (stretched (hop w (w .house .left - 1)) (suc k))) → Made w (stretched w (suc (suc k)))
     go true e h = rw (stretched-called w s (suc k) e) (made-once w s true e)
-    go false e h = rw (stretched-on w s k e) (made-on-hop w s _ e (omega arith) (h (hop-sound w s e (omega arith)) (hop-left w k l)))
+    go false e h =
+        let d = w .house .left - 1 in
+        let n = hop-is w s e (omega arith) in
+        rw (stretched-on w s d k e) (made-goes-on w s _ n (h (hop-sound w s d n) (hop-left w k l)))
+
+-- ---- a partition that is alone
+
+-- it is its own next one
+abbrev pub Alone : World → Type 0
+Alone w = nextOf (w .house .running) (w .house .count) (w .house .current) ≡ w .house .current
+
+-- what is left behind one step
+abbrev less : ℕ → ℕ → ℕ
+less q l = if eqb l 1 then q else l - 1
+
+-- one step, and then so many
+less-more : (q l j : ℕ) (calls : Bool) → 0 < l → leftAlone q (less q l) j calls ≡ leftAlone q l (suc j) calls
+unfolding leftAlone
+less-more q l j true h = refl
+less-more q l j false h =
+    by-eq l 1 last more
+  where
+    last : l ≡ 1 → (if ltb j (less q l) then less q l - j else q - (j - less q l) % q) ≡ (if ltb (suc j) l then l - suc j else q - (suc j - l) % q)
+    last e =
+        let d : suc j - l ≡ j = omega arith in
+        by-test (ltb j q)
+        (λ b. simp (eq-eqb l 1 e, b, le-ltb (suc j) l (omega arith), d, mod-eq-of-lt (ltb-true j q b)))
+        (λ b. simp (eq-eqb l 1 e, b, le-ltb (suc j) l (omega arith), d, mod-eq-sub-mod (ltb-false j q b)))
+
+    more : (l ≡ 1 → ⊥) → (if ltb j (less q l) then less q l - j else q - (j - less q l) % q) ≡ (if ltb (suc j) l then l - suc j else q - (suc j - l) % q)
+    more d =
+        let a : l - 1 - j ≡ l - suc j = omega arith in
+        let b : j - (l - 1) ≡ suc j - l = omega arith in
+        by-test (ltb (suc j) l)
+        (λ c. let f = ltb-true (suc j) l c in simp (ne-eqb l 1 d, c, lt-ltb j (l - 1) (omega arith), a))
+        (λ c. let f = ltb-false (suc j) l c in simp (ne-eqb l 1 d, c, le-ltb j (l - 1) (omega arith), b))
+
+-- the turn behind one step
+alone-on : (r : List Bool) (n q c l : ℕ) → nextOf r n c ≡ c → turnOf r n q c l 1 false ≡ turn c (less q l)
+unfolding turnOf
+alone-on r n q c l a = by-test (eqb l 1) (λ b. simp (b, a)) (λ b. simp b)
+
+alone-once : (r : List Bool) (n q c l : ℕ) (calls : Bool) → nextOf r n c ≡ c → 0 < l → turnOf r n q c l 1 calls ≡ turn c (leftAlone q l 1 calls)
+unfolding leftAlone turnOf
+alone-once r n q c l true a h = by-test (eqb l 1) (λ b. simp (b, a)) (λ b. simp (b, a))
+alone-once r n q c l false a h =
+    by-eq l 1
+    (λ e. let d : 1 - l ≡ 0 = omega arith in simp (eq-eqb l 1 e, a, le-ltb 1 l (omega arith), d, zero-mod, sub-zero))
+    (λ d. simp (ne-eqb l 1 d, lt-ltb 1 l (omega arith)))
+
+module _ (w : World) (s : Sound w) (a : Alone w) where
+  alone-hop : guestStep w (w .house .current) .0 .calls ≡ false → hostStep w ≡ hop w (less (w .house .q) (w .house .left))
+  unfolding hostStep stepWith
+  alone-hop e = simp (e, alone-on (w .house .running) (w .house .count) (w .house .q) (w .house .current) (w .house .left) a)
+
+  alone-made : (b : Bool) → guestStep w (w .house .current) .0 .calls ≡ b → MadeAlone w (once b (guestStep w (w .house .current)) (queuesNext w (w .house .current)))
+  alone-made b e = subst (Ends w (once b (guestStep w (w .house .current)) (queuesNext w (w .house .current)))) (alone-once (w .house .running) (w .house .count) (w .house .q) (w .house .current) (w .house .left) b a (s .left)) (made-once w s b e)
+
+  alone-goes-on : (r : Stretch Host Queues) → hostStep w ≡ hop w (less (w .house .q) (w .house .left)) → MadeAlone (hop w (less (w .house .q) (w .house .left))) r → MadeAlone w (bumped r)
+  unfolding bumped settledHouse
+  alone-goes-on r e h =
+      subst (λ (l : ℕ). Ends w (bumped r) (turn (w .house .current) l)) (less-more (w .house .q) (w .house .left) (r .made) (r .called) (s .left))
+      (made-on-hop w s (less (w .house .q) (w .house .left)) r _ e h)
+
+still-alone : (w : World) (l : ℕ) → Alone w → Alone (hop w l)
+unfolding settledHouse
+still-alone w l a = a
+
+-- a stretch of one that is alone is as many host steps as it made
+alone-is : (k : ℕ) (w : World) → Sound w → Alone w → MadeAlone w (stretched w (suc k))
+alone-is zero w s a = go (guestStep w (w .house .current) .0 .calls) refl
+  where
+    go : (b : Bool) → guestStep w (w .house .current) .0 .calls ≡ b → MadeAlone w (stretched w 1)
+    go true e = rw (stretched-called w s 0 e) (alone-made w s a true e)
+    go false e = rw (stretched-one w s e) (alone-made w s a false e)
+alone-is (suc k) w s a = go (guestStep w (w .house .current) .0 .calls) refl (λ s′ a′. alone-is k (hop w (less (w .house .q) (w .house .left))) s′ a′)
+  where
+    go : (b : Bool) → guestStep w (w .house .current) .0 .calls ≡ b → (Sound (hop w (less (w .house .q) (w .house .left))) → Alone (hop w (less (w .house .q) (w .house .left))) → MadeAlone (hop w (less (w .house .q) (w .house .left))) (stretched (hop w (less (w .house .q) (w .house .left))) (suc k))) → MadeAlone w (stretched w (suc (suc k)))
+    go true e h = rw (stretched-called w s (suc k) e) (alone-made w s a true e)
+    go false e h =
+        let d = less (w .house .q) (w .house .left) in
+        let n = alone-hop w s a e in
+        rw (stretched-on w s d k e) (alone-goes-on w s a _ n (h (hop-sound w s d n) (still-alone w d a)))
 
 -- ---- how many steps a stretch makes
 
@@ -222,6 +314,24 @@ turned (suc k) w s p l = record {
   most = omega (arith, made-most (guestMemory (w .house) (w .house .current)) (desk (w .house .count) (w .house .current)) (suc k) 0 (guest w (w .house .current)) (queuesOf (w .house)) .1);
   steps = stretch-is k w s (omega arith);
 }
+
+-- a stretch of n steps at most, where 0 < n, and n is at most the steps left unless it is alone
+pub record Spanned (alone : Bool) (w : World) (n : ℕ) (r : Stretch Host Queues) : Type 0 where
+  pub some : 0 < r .made
+  pub most : r .made ≤ n
+  pub steps : hostSteps (r .made) w ≡ world (stretchedHouse (w .house) (w .house .current) r (laterOf alone (w .house .running) (w .house .count) (w .house .q) (w .house .current) (w .house .left) (r .made) (r .called))) (r .memory .words)
+
+pub spanned : (alone : Bool) (n : ℕ) (w : World) → Sound w → 0 < n → (alone ≡ true → Alone w) → (alone ≡ false → n ≤ w .house .left) → Spanned alone w n (stretched w n)
+unfolding laterOf
+spanned alone zero w s p a l = absurd (omega arith)
+spanned true (suc k) w s p a l = record {
+  some = made-some (guestMemory (w .house) (w .house .current)) (desk (w .house .count) (w .house .current)) k (guest w (w .house .current)) (queuesOf (w .house));
+  most = omega (arith, made-most (guestMemory (w .house) (w .house .current)) (desk (w .house .count) (w .house .current)) (suc k) 0 (guest w (w .house .current)) (queuesOf (w .house)) .1);
+  steps = alone-is k w s (a refl);
+}
+spanned false (suc k) w s p a l =
+    let t = turned (suc k) w s p (l refl) in
+    record { some = t .some; most = t .most; steps = t .steps }
 
 -- ---- steps after steps
 

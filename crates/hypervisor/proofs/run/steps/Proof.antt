@@ -1,11 +1,13 @@
 use Prim.Native.Nat.{ℕ}
-use Rattle.hypervisor.proofs.Turn.{asked-turned, after-turn, asked-sound, limited, current-few, still-some, fits, fits-on, fits-words, starts, ends}
+use Rattle.hypervisor.proofs.Turn.{asked-turned, after-turn, asked-sound, Within, lent-for, alone-told, still-alone, current-few, still-some, fits, fits-on, fits-words, starts, ends}
 use Rattle.addresses.specs.Walk.{entries}
 use Rattle.house.proofs.Turns.Stretch.{steps-add}
 use Rattle.house.proofs.Turns.Kept.{sound-steps}
 use mathlib.Core.Path.{sym, subst}
 use Rattle.house.specs.Sound.{Sound}
-use Rattle.house.specs.Turns.{world, hostSteps, houseAt}
+use Rattle.house.specs.Turns.{world, nextOf, hostSteps, houseAt}
+use mathlib.Core.Bool.{true}
+use lib.Dec.{eqb}
 use lib.ListN.{length}
 use mathlib.Core.Path.{_≡_, refl, _∙_, ap}
 use Prim.Native.Nat.{_-_, _<_, _≤_, zero-le}
@@ -18,18 +20,22 @@ use Rattle.tickets.specs.Queues.{queues}
 use Rattle.house.specs.House.{withQueues}
 
 abbrev Inv-loop : tie.InvT-loop
-Inv-loop h memory₀ k count q running frames parts₀ regs₀ shadows₀ tickets₀ waiting₀ current₀ left₀ made₀ memory parts regs shadows tickets waiting current left made =
+Inv-loop h memory₀ k count q running frames parts₀ regs₀ shadows₀ tickets₀ waiting₀ current₀ left₀ alone made₀ memory parts regs shadows tickets waiting current left made =
     (world (withQueues (houseAt h current left parts regs shadows) (queues tickets waiting)) memory ≡ hostSteps made (world h memory₀))
     × Sound (world (withQueues (houseAt h current left parts regs shadows) (queues tickets waiting)) memory)
     × (made ≤ k)
     × (length memory ≡ length memory₀)
+    × (alone ≡ true → nextOf (h .running) (h .count) current ≡ current)
 
 abbrev μ-loop : tie.MeasureT-loop
-μ-loop h memory₀ k count q running frames parts₀ regs₀ shadows₀ tickets₀ waiting₀ current₀ left₀ made₀ memory parts regs shadows tickets waiting current left made = k - made
+μ-loop h memory₀ k count q running frames parts₀ regs₀ shadows₀ tickets₀ waiting₀ current₀ left₀ alone made₀ memory parts regs shadows tickets waiting current left made = k - made
+
+next-requires : tie.Need-next-requires Inv-loop μ-loop
+next-requires c κs = (c .before .before .before .before .before .before .before .before .before .pre .few, c .before .before .before .before .before .before .before .before .before .pre .here)
 
 loop-holds : tie.Need-loop-holds Inv-loop μ-loop
 unfolding hostSteps
-loop-holds c = (refl, c .before .before .before .before .before .before .before .before .pre, zero-le, refl)
+loop-holds c = (refl, c .before .before .before .before .before .before .before .before .before .before .pre, zero-le, refl, alone-told _ _ _ _ (c .next .ensures))
 
 wide-requires : tie.Need-wide-requires Inv-loop μ-loop
 wide-requires c κs = search needs
@@ -62,11 +68,11 @@ mul-e c = record { fits = fits _ entries (inside (c .before)) (omega arith) }
 add-f : tie.Need-add-f Inv-loop μ-loop
 add-f c = record { fits = fits-on _ entries (inside (c .before)) (omega arith) }
 
-sub-limit : tie.Need-sub-limit Inv-loop μ-loop
-sub-limit c = omega (arith, c .before .before .loop-test .taken)
+sub-span : tie.Need-sub-span Inv-loop μ-loop
+sub-span c = omega (arith, c .before .before .loop-test .taken)
 
-limit-requires : tie.Need-limit-requires Inv-loop μ-loop
-limit-requires c κs = search needs
+span-requires : tie.Need-span-requires Inv-loop μ-loop
+span-requires c κs = search needs
 
 mul-regs : tie.Need-mul-regs Inv-loop μ-loop
 mul-regs c = record { fits = fits-words _ 32 (inside (c .before .before)) (omega arith) }
@@ -111,13 +117,17 @@ slice-aggregate-stretch-2 : tie.Need-slice-aggregate-stretch-2 Inv-loop μ-loop
 slice-aggregate-stretch-2 c = search needs
 
 stretch-requires : tie.Need-stretch-requires Inv-loop μ-loop
-stretch-requires c κs = asked-sound (c .before .before .before .before .before .before .before .before .before .before .before .before .before .before .before .before .before .before .before .before .before .args .h) _ _ _ _ _ _ _ _ _ (c .before .before .before .before .before .before .before .before .before .before .wide .ensures) (c .before .before .before .before .before .before .before .before .before .before .before .before .loop .inv .1)
+stretch-requires c κs = asked-sound (c .before .before .before .before .before .before .before .before .before .before .before .before .before .before .before .before .before .before .before .before .before .before .before .args .h) _ _ _ _ _ _ _ _ _ (c .before .before .before .before .before .before .before .before .before .before .wide .ensures) (c .before .before .before .before .before .before .before .before .before .before .before .before .loop .inv .1)
 
--- the steps that the stretch made: some, no more than were left, and no more than were still to make
-made-some : (c : tie.After-stretch Inv-loop μ-loop) → (0 < c .stretch .result .made) × (c .stretch .result .made ≤ c .before .before .before .before .before .before .before .before .before .before .before .before .before .loop .left) × (c .stretch .result .made ≤ c .before .before .before .before .before .before .before .before .before .before .before .before .before .before .before .before .before .before .before .before .before .before .args .k - c .before .before .before .before .before .before .before .before .before .before .before .before .before .loop .made)
-made-some c = let u = limited _ _ _ (c .before .before .before .before .before .before .before .before .before .limit .ensures) (c .before .before .before .before .before .before .before .before .before .before .before .before .before .loop .inv .1 .left) (still-some _ _ (c .before .before .before .before .before .before .before .before .before .before .before .before .loop-test .taken)) in
-    let d = asked-turned (c .before .before .before .before .before .before .before .before .before .before .before .before .before .before .before .before .before .before .before .before .before .before .args .h) _ _ _ _ _ _ _ _ _ _ _ _ _ _ _ _ _ (c .before .before .before .before .before .before .before .before .before .before .before .wide .ensures) (c .stretch .ensures) (c .before .before .before .before .before .before .before .before .before .before .before .before .before .loop .inv .1) (u .0) (u .1) in
-    (d .some, le-trans (d .most) (u .1), le-trans (d .most) (u .2))
+-- how many steps were asked for, and made: some, no more than were left unless it is alone, and no more than were still to make
+asked-for : (c : tie.After-stretch Inv-loop μ-loop) → Within (eqb (c .before .before .before .before .before .before .before .before .before .before .before .before .before .before .next .result) (c .before .before .before .before .before .before .before .before .before .before .before .before .before .before .before .before .before .before .before .before .before .before .before .before .args .h .current)) (c .before .before .before .before .before .before .before .before .before .before .before .before .before .loop .left) (c .before .before .before .before .before .before .before .before .before .before .before .before .before .before .before .before .before .before .before .before .before .before .before .before .args .k - c .before .before .before .before .before .before .before .before .before .before .before .before .before .loop .made) (c .before .before .before .before .before .before .before .before .before .span .result)
+asked-for c = lent-for _ _ _ _ (c .before .before .before .before .before .before .before .before .before .span .ensures) (c .before .before .before .before .before .before .before .before .before .before .before .before .before .loop .inv .1 .left) (still-some _ _ (c .before .before .before .before .before .before .before .before .before .before .before .before .loop-test .taken))
+
+made-some : (c : tie.After-stretch Inv-loop μ-loop) → Within (eqb (c .before .before .before .before .before .before .before .before .before .before .before .before .before .before .next .result) (c .before .before .before .before .before .before .before .before .before .before .before .before .before .before .before .before .before .before .before .before .before .before .before .before .args .h .current)) (c .before .before .before .before .before .before .before .before .before .before .before .before .before .loop .left) (c .before .before .before .before .before .before .before .before .before .before .before .before .before .before .before .before .before .before .before .before .before .before .before .before .args .k - c .before .before .before .before .before .before .before .before .before .before .before .before .before .loop .made) (c .stretch .result .made)
+made-some c =
+    let u = asked-for c in
+    let d = asked-turned (c .before .before .before .before .before .before .before .before .before .before .before .before .before .before .before .before .before .before .before .before .before .before .before .before .args .h) _ _ _ _ _ _ _ _ _ _ _ _ _ _ _ _ _ _ (c .before .before .before .before .before .before .before .before .before .before .before .wide .ensures) (c .stretch .ensures) (c .before .before .before .before .before .before .before .before .before .before .before .before .before .loop .inv .1) (u .some) (c .before .before .before .before .before .before .before .before .before .before .before .before .before .loop .inv .4) (u .turn) in
+    record { some = d .some; turn = λ e. le-trans (d .most) (u .turn e); most = le-trans (d .most) (u .most) }
 
 cast-wrapping-add-u64 : tie.Need-cast-wrapping-add-u64 Inv-loop μ-loop
 cast-wrapping-add-u64 c = omega (arith, c .struct-known .given)
@@ -131,21 +141,22 @@ mul-parts c = record { fits = fits _ 80 (inside (c .before .before .before .befo
 array-set-from-parts : tie.Need-array-set-from-parts Inv-loop μ-loop
 array-set-from-parts c = inside (c .before .before .before .before .before .before .before .before .before .before .before .before .before .before .before .before .before .before .before .before .before .before)
 
-turn-requires : tie.Need-turn-requires Inv-loop μ-loop
-turn-requires c κs = (c .before .before .before .before .before .before .before .before .before .before .before .before .before .before .before .before .before .before .before .before .before .before .before .before .before .loop .inv .1 .few, (c .before .before .before .before .before .before .before .before .before .before .before .before .before .before .before .before .before .before .before .before .before .before .before .before .before .loop .inv .1 .here, made-some (c .before .before .before .before .before .before .before .before .before .before .before .before) .1))
+later-requires : tie.Need-later-requires Inv-loop μ-loop
+later-requires c κs = let o = c .before .before .before .before .before .before .before .before .before .before .before .before .before .before .before .before .before .before .before .before .before .before .before .before .before .loop .inv .1 in (o .few, (o .here, (o .turns, made-some (c .before .before .before .before .before .before .before .before .before .before .before .before) .turn)))
 
 add-made : tie.Need-add-made Inv-loop μ-loop
-add-made c = let d = made-some (c .before .before .before .before .before .before .before .before .before .before .before .before .before .before) in record { fits = omega (arith, d .2, c .before .before .before .before .before .before .before .before .before .before .before .before .before .before .before .before .before .before .before .before .before .before .before .before .before .before .loop-test .taken, c .before .before .before .before .before .before .before .before .before .before .before .before .before .before .before .before .before .before .before .before .before .before .before .before .before .before .before .before .before .before .before .before .before .before .before .before .good) }
+add-made c = let d = made-some (c .before .before .before .before .before .before .before .before .before .before .before .before .before .before) in record { fits = omega (arith, d .most, c .before .before .before .before .before .before .before .before .before .before .before .before .before .before .before .before .before .before .before .before .before .before .before .before .before .before .loop-test .taken, c .before .before .before .before .before .before .before .before .before .before .before .before .before .before .before .before .before .before .before .before .before .before .before .before .before .before .before .before .before .before .before .before .before .before .before .before .before .before .good) }
 
 loop-less : tie.Need-loop-less Inv-loop μ-loop
-loop-less c = let d = made-some (c .before .before .before .before .before .before .before .before .before .before .before .before .before .before) in omega (arith, d .0, d .2, c .before .before .before .before .before .before .before .before .before .before .before .before .before .before .before .before .before .before .before .before .before .before .before .before .before .before .loop-test .taken)
+loop-less c = let d = made-some (c .before .before .before .before .before .before .before .before .before .before .before .before .before .before) in omega (arith, d .some, d .most, c .before .before .before .before .before .before .before .before .before .before .before .before .before .before .before .before .before .before .before .before .before .before .before .before .before .before .loop-test .taken)
 
 loop-again : tie.Need-loop-again Inv-loop μ-loop
-loop-again c = let i = c .before .before .before .before .before .before .before .before .before .before .before .before .before .before .before .before .before .before .before .before .before .before .before .before .before .before .before .loop .inv in
-    let u = limited _ _ _ (c .before .before .before .before .before .before .before .before .before .before .before .before .before .before .before .before .before .before .before .before .before .before .before .limit .ensures) (c .before .before .before .before .before .before .before .before .before .before .before .before .before .before .before .before .before .before .before .before .before .before .before .before .before .before .before .loop .inv .1 .left) (omega (arith, c .before .before .before .before .before .before .before .before .before .before .before .before .before .before .before .before .before .before .before .before .before .before .before .before .before .before .loop-test .taken)) in
-    let d = asked-turned (c .before .before .before .before .before .before .before .before .before .before .before .before .before .before .before .before .before .before .before .before .before .before .before .before .before .before .before .before .before .before .before .before .before .before .before .before .args .h) _ _ _ _ _ _ _ _ _ _ _ _ _ _ _ _ _ (c .before .before .before .before .before .before .before .before .before .before .before .before .before .before .before .before .before .before .before .before .before .before .before .before .before .wide .ensures) (c .before .before .before .before .before .before .before .before .before .before .before .before .before .before .stretch .ensures) (c .before .before .before .before .before .before .before .before .before .before .before .before .before .before .before .before .before .before .before .before .before .before .before .before .before .before .before .loop .inv .1) (u .0) (u .1) in
-    let w = after-turn (c .before .before .before .before .before .before .before .before .before .before .before .before .before .before .before .before .before .before .before .before .before .before .before .before .before .before .before .before .before .before .before .before .before .before .before .before .args .h) _ _ _ _ _ _ _ _ _ _ _ _ _ _ _ _ _ _ _ (c .before .before .before .before .before .before .before .before .before .before .before .before .before .before .before .before .before .before .before .before .before .before .before .before .before .wide .ensures) d (c .before .turn .ensures) (c .before .before .before .wrapping-add-u64 .ensures) in
-    (w ∙ ap (hostSteps _) (i .0) ∙ steps-add _ _ _, subst Sound (sym w) (sound-steps _ _ (i .1)), omega (arith, d .most, c .before .before .before .before .before .before .before .before .before .before .before .before .before .before .before .before .before .before .before .before .before .before .before .before .before .before .loop-test .taken), omega (arith, i .3))
+loop-again c =
+    let i = c .before .before .before .before .before .before .before .before .before .before .before .before .before .before .before .before .before .before .before .before .before .before .before .before .before .before .before .loop .inv in
+    let u = asked-for (c .before .before .before .before .before .before .before .before .before .before .before .before .before .before) in
+    let d = asked-turned (c .before .before .before .before .before .before .before .before .before .before .before .before .before .before .before .before .before .before .before .before .before .before .before .before .before .before .before .before .before .before .before .before .before .before .before .before .before .before .args .h) _ _ _ _ _ _ _ _ _ _ _ _ _ _ _ _ _ _ (c .before .before .before .before .before .before .before .before .before .before .before .before .before .before .before .before .before .before .before .before .before .before .before .before .before .wide .ensures) (c .before .before .before .before .before .before .before .before .before .before .before .before .before .before .stretch .ensures) (i .1) (u .some) (i .4) (u .turn) in
+    let w = after-turn (c .before .before .before .before .before .before .before .before .before .before .before .before .before .before .before .before .before .before .before .before .before .before .before .before .before .before .before .before .before .before .before .before .before .before .before .before .before .before .args .h) _ _ _ _ _ _ _ _ _ _ _ _ _ _ _ _ _ _ _ _ (c .before .before .before .before .before .before .before .before .before .before .before .before .before .before .before .before .before .before .before .before .before .before .before .before .before .wide .ensures) d (c .before .later .ensures) (c .before .before .before .wrapping-add-u64 .ensures) in
+    (w ∙ ap (hostSteps _) (i .0) ∙ steps-add _ _ _, subst Sound (sym w) (sound-steps _ _ (i .1)), omega (arith, d .most, u .most, c .before .before .before .before .before .before .before .before .before .before .before .before .before .before .before .before .before .before .before .before .before .before .before .before .before .before .loop-test .taken), omega (arith, i .3), still-alone _ _ _ _ _ _ _ _ _ (c .before .later .ensures) (i .4))
 
 same-length : tie.Need-same-length Inv-loop μ-loop
 same-length c = omega (arith, c .before .loop .inv .3)
@@ -153,7 +164,7 @@ same-length c = omega (arith, c .before .loop .inv .3)
 returns : tie.Need-returns Inv-loop μ-loop
 returns c = let i = c .before .loop .inv in
     let e = le-antisymm (i .2) (c .loop-test .left) in
-    i .0 ∙ ap (λ (n : ℕ). hostSteps n (world (c .before .before .before .before .before .before .before .before .before .before .args .h) (c .before .before .before .before .before .before .before .before .before .before .args .memory .now))) e
+    i .0 ∙ ap (λ (n : ℕ). hostSteps n (world (c .before .before .before .before .before .before .before .before .before .before .before .before .args .h) (c .before .before .before .before .before .before .before .before .before .before .before .before .args .memory .now))) e
 
 pub steps-spec : {M : Type 1} → statement M
 steps-spec =
@@ -161,6 +172,7 @@ steps-spec =
     (tie.spec
     Inv-loop
     μ-loop
+    next-requires
     loop-holds
     wide-requires
     mul-p
@@ -171,8 +183,8 @@ steps-spec =
     add-d
     mul-e
     add-f
-    sub-limit
-    limit-requires
+    sub-span
+    span-requires
     mul-regs
     sub-stretch
     part-regs-start
@@ -192,7 +204,7 @@ steps-spec =
     wrapping-add-u64-requires
     mul-parts
     array-set-from-parts
-    turn-requires
+    later-requires
     add-made
     loop-less
     loop-again
