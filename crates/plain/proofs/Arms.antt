@@ -3,6 +3,7 @@ use mathlib.Core.Path.{_≡_, refl, sym, subst, ap, _∙_}
 use mathlib.Core.Bool.{Bool, true, false}
 use mathlib.Core.List.{List}
 use Prim.Native.Nat.{ℕ, _+_, _-_, _*_, _/_, _%_, _^_, _<_, _≤_}
+use native.Mathlib.Omega.{arith}
 use lib.Dec.{eqb}
 use lib.ListN.{getD}
 use Rattle.dlx.specs.Choice.{if_then_else_}
@@ -91,6 +92,12 @@ module _ (fr : List ℕ) (n : ℕ) (p : Processor) (t : Table) (page y : ℕ) (r
 
     pub calm-register : (op : Operation) (v y′ : ℕ) (regs′ : List ℕ) → registerType w ≡ Register op (rdRegister w) (rs1 w) (rs2 w) → overflowsOf op a b ≡ false → v ≡ valueOf op a b → regs′ ≡ written regs d v → y′ ≡ plus y 4 → Registers regs′ y′
     calm-register op v y′ regs′ e f j g h = next-does fr n p t page y regs regs′ ws sh d v y′ (λ k c. effectOf c t k regs (registerType w)) (λ dpc k. register-calm w t regs d a b q x z op v e f j (pairOf p dpc (plus y page)) k) g h
+
+    pub test-register : (k v y′ : ℕ) (regs′ : List ℕ) → function w ≡ 40 + k → k < 8 → v ≡ testOf k a b → regs′ ≡ written regs d v → y′ ≡ plus y 4 → Registers regs′ y′
+    unfolding overflowsOf valueOf
+    test-register k v y′ regs′ f l j g h =
+        let m : k ≡ w % 64 - 40 = omega (arith, f) in
+        calm-register (Test (w % 64 - 40)) v y′ regs′ (f-test w (omega (arith, f)) (omega (arith, f))) refl (j ∙ ap (λ (n : ℕ). testOf n a b) m) g h
 
     pub special-register : (y′ : ℕ) (regs′ : List ℕ) → function w ≡ 16 → user p ≡ false → sa w < 10 → regs′ ≡ written regs d (specialOf p t noTimer (sa w)) → y′ ≡ plus y 4 → Registers regs′ y′
     special-register y′ regs′ h u l g e = next-does fr n p t page y regs regs′ ws sh d (specialOf p t noTimer (sa w)) y′ (λ k c. effectOf c t k regs (registerType w)) (λ dpc k. special-asks w p t regs d (specialOf p t noTimer (sa w)) q h u l refl dpc (plus y page) k) g e

@@ -22,7 +22,7 @@ use Rattle.dlx.specs.declared.execute.Change.{Change}
 use Rattle.dlx.specs.declared.execute.Change.the-variants.{Plain}
 use Rattle.dlx.specs.declared.execute.Effect.{Effect}
 use Rattle.dlx.specs.declared.execute.Effect.the-variants.{Done, Load, Store}
-use Rattle.dlx.proofs.Tests.{by-test}
+use Rattle.dlx.proofs.Tests.{by-test, and-left}
 use Rattle.tickets.specs.Queues.{Queues, desk}
 use Rattle.addresses.specs.Entries.{number, valid, protection, fault, found}
 use Rattle.addresses.specs.Walk.{direct}
@@ -38,6 +38,10 @@ not-true false e = refl
 pub not-false : (b : Bool) → not b ≡ false → b ≡ true
 not-false true e = refl
 not-false false e = sym e
+
+-- what a test of the address says of its alignment
+pub fits-left : (o a : ℕ) (r : Bool) → r ≡ (aligned (width o) a && ltb a 4194304) → not r ≡ false → aligned (width o) a ≡ true
+fits-left o a r e n = and-left (aligned (width o) a) (ltb a 4194304) (sym e ∙ not-false r n)
 
 -- ---- what is seen
 

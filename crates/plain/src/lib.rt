@@ -1,17 +1,18 @@
 // One plain instruction: one that changes nothing but DPC, PC, a register, or a word of a frame that does not hold the table, and needs no walk.
 ghost use mathlib.Core.Path.{_≡_};
-ghost use mathlib.Core.Bool.{true, false, _||_};
+ghost use mathlib.Core.Bool.{true, false, _&&_, _||_};
 ghost use mathlib.Core.List.{List};
-ghost use Prim.Native.Nat.{ℕ, _-_, _≤_, _<_};
+ghost use Prim.Native.Nat.{ℕ, _-_, _*_, _%_, _≤_, _<_};
+ghost use lib.Dec.{eqb, ltb};
 ghost use lib.ListN.{length};
 ghost use Rattle.dlx.specs.Choice.{if_then_else_};
 ghost use Rattle.dlx.specs.Fields.{aligned, loading, storing, width};
-ghost use Rattle.dlx.specs.Words.{plus, minus, rs1 as rs1Of, rs2 as rs2Of, testOf};
+ghost use Rattle.dlx.specs.Words.{plus, minus, rs1 as rs1Of, rdImmediate, extended, testOf};
 ghost use Rattle.dlx.specs.Processor.{user, noTimer, specialOf};
-ghost use Rattle.dlx.specs.Execute.{effectOf, written, operated, loads, stores, reg};
+ghost use Rattle.dlx.specs.Execute.{effectOf, written, operated, valueOf, loads, stores, reg};
 ghost use Rattle.dlx.specs.Instructions.{instructionOf, registerType};
 ghost use Rattle.dlx.specs.declared.partition.Table.{Table};
-ghost use Rattle.dlx.specs.declared.instruction.Operation.the-variants.{Add, Sub};
+ghost use Rattle.dlx.specs.declared.instruction.Operation.the-variants.{Add, Sub, And, Or, Xor};
 ghost use Rattle.dlx.specs.declared.execute.Change.the-variants.{Plain};
 ghost use Rattle.dlx.specs.declared.execute.Effect.the-variants.{Done};
 ghost use Rattle.addresses.specs.Walk.{entries};
@@ -53,6 +54,25 @@ pub fn held(frames: &[u32], pages: u32, t: Table) -> u32
     frames[wide(pto)]
 }
 
+// The fields of a word with an immediate: the register that it reads, the register behind it, and the immediate.
+fn first(w: u32) -> usize
+    ensures { λ r. ⌜ r ≡ rs1Of w ⌝ }
+{
+    wide(w / 2097152 % 32)
+}
+
+fn second(w: u32) -> usize
+    ensures { λ r. ⌜ r ≡ rdImmediate w ⌝ }
+{
+    wide(w / 65536 % 32)
+}
+
+fn near(w: u32) -> u32
+    ensures { λ r. ⌜ r ≡ extended 16 w ⌝ }
+{
+    processor::words::extend(0x8000, w)
+}
+
 // Register rd becomes v.
 fn put(regs: &mut [u32], rd: usize, v: u32, y: u32, target: &mut u32) -> bool
     requires { ⌜ rd < length (now regs) ⌝ }
@@ -92,12 +112,13 @@ fn link(regs: &mut [u32], page: u32, y: u32)
     processor::execute::write(regs, 31, std::num::wrapping_add_u32(pc, 4));
 }
 
-// Whether an opcode may reach an address: its lowest two bits are how many bytes it reaches, less one.
+// Whether an opcode may reach an address, its lowest two bits being how many bytes it reaches, less one, and the address is of a page below LIMIT, as every page of
+// a guest is: one test of the address.
 fn fits(o: u32, a: u32) -> bool
     requires { ⌜ (loading o || storing o) ≡ true ⌝ }
-    ensures { λ r. ⌜ r ≡ aligned (width o) a ⌝ }
+    ensures { λ r. ⌜ r ≡ (aligned (width o) a && ltb a 4194304) ⌝ }
 {
-    a & o % 4 == 0
+    (a & o % 4 == 0) & (a < 4194304)
 }
 
 // A load by an opcode, if its entry is seen.
@@ -243,14 +264,14 @@ fn register_type(
     t: Table,
     w: u32,
     regs: &mut [u32],
-    rs1: usize,
-    rs2: usize,
     y: u32,
     target: &mut u32,
 ) -> bool
-    requires { ⌜ length (now regs) ≡ 32 ⌝ ∗ ⌜ rs1 ≡ rs1Of w ⌝ ∗ ⌜ rs2 ≡ rs2Of w ⌝ ∗ ⌜ Numbered (now specials) p t ⌝ }
+    requires { ⌜ length (now regs) ≡ 32 ⌝ ∗ ⌜ Numbered (now specials) p t ⌝ }
     ensures { λ r. ⌜ (r ≡ true → (fr : List ℕ) (n page : ℕ) (ws sh : List ℕ) → Does fr n p t page y (now (target .exit)) (now (regs .entry)) (now (regs .exit)) ws ws sh (λ k c. effectOf c t k (now (regs .entry)) (registerType w))) × (r ≡ false → now (regs .exit) ≡ now (regs .entry)) ⌝ }
 {
+    let rs1 = first(w);
+    let rs2 = second(w);
     let a = regs[rs1];
     let b = regs[rs2];
     let rd = wide(w / 2048 % 32);
@@ -262,30 +283,72 @@ fn register_type(
         37 => put(regs, rd, a | b, y, target),
         38 => put(regs, rd, a ^ b, y, target),
         16 => read_special(specials, p, t, regs, rd, w / 64 % 32, y, target),
-        _ => {
-            if function < 40 {
-                return false;
-            }
-            if function >= 48 {
-                return false;
-            }
-            put(regs, rd, test(function - 40, a, b), y, target)
-        }
+        40 => put(regs, rd, test(0, a, b), y, target),
+        41 => put(regs, rd, test(1, a, b), y, target),
+        42 => put(regs, rd, test(2, a, b), y, target),
+        43 => put(regs, rd, test(3, a, b), y, target),
+        44 => put(regs, rd, test(4, a, b), y, target),
+        45 => put(regs, rd, test(5, a, b), y, target),
+        46 => put(regs, rd, test(6, a, b), y, target),
+        47 => put(regs, rd, test(7, a, b), y, target),
+        0 => false,
+        1 => false,
+        2 => false,
+        3 => false,
+        4 => false,
+        5 => false,
+        6 => false,
+        7 => false,
+        8 => false,
+        9 => false,
+        10 => false,
+        11 => false,
+        12 => false,
+        13 => false,
+        14 => false,
+        15 => false,
+        17 => false,
+        18 => false,
+        19 => false,
+        20 => false,
+        21 => false,
+        22 => false,
+        23 => false,
+        24 => false,
+        25 => false,
+        26 => false,
+        27 => false,
+        28 => false,
+        29 => false,
+        30 => false,
+        31 => false,
+        33 => false,
+        35 => false,
+        39 => false,
+        48 => false,
+        49 => false,
+        50 => false,
+        51 => false,
+        52 => false,
+        53 => false,
+        54 => false,
+        55 => false,
+        56 => false,
+        57 => false,
+        58 => false,
+        59 => false,
+        60 => false,
+        61 => false,
+        62 => false,
+        63 => false,
+        _ => false,
     }
 }
 
 // The tests of opcodes 24 to 31.
-fn test_type(
-    opcode: u32,
-    regs: &mut [u32],
-    rs1: usize,
-    rd: usize,
-    imm: u32,
-    y: u32,
-    target: &mut u32,
-) -> bool
-    requires { ⌜ length (now regs) ≡ 32 ⌝ ∗ ⌜ rs1 < 32 ⌝ ∗ ⌜ rd < 32 ⌝ }
-    ensures { λ r. ⌜ (r ≡ true → (24 ≤ opcode) × (opcode < 32) × (now (regs .exit) ≡ written (now (regs .entry)) rd (testOf (opcode - 24) (reg (now (regs .entry)) rs1) imm)) × (now (target .exit) ≡ plus y 4)) × (r ≡ false → now (regs .exit) ≡ now (regs .entry)) ⌝ }
+fn test_type(opcode: u32, regs: &mut [u32], w: u32, y: u32, target: &mut u32) -> bool
+    requires { ⌜ length (now regs) ≡ 32 ⌝ }
+    ensures { λ r. ⌜ (r ≡ true → (24 ≤ opcode) × (opcode < 32) × (now (regs .exit) ≡ written (now (regs .entry)) (rdImmediate w) (testOf (opcode - 24) (reg (now (regs .entry)) (rs1Of w)) (extended 16 w))) × (now (target .exit) ≡ plus y 4)) × (r ≡ false → now (regs .exit) ≡ now (regs .entry)) ⌝ }
 {
     if opcode < 24 {
         return false;
@@ -293,8 +356,185 @@ fn test_type(
     if opcode >= 32 {
         return false;
     }
+    let rs1 = first(w);
+    let rd = second(w);
+    let imm = near(w);
     let a = regs[rs1];
     put(regs, rd, test(opcode - 24, a, imm), y, target)
+}
+
+// The words of one opcode each. Each reads its own fields of the word, so that no step reads fields that it does not use.
+fn load_word(
+    p: Processor,
+    pages: u32,
+    regs: &mut [u32],
+    frames: &[u32],
+    shadow: &[u32],
+    words: &[u32],
+    o: u32,
+    w: u32,
+    y: u32,
+    target: &mut u32,
+) -> bool
+    requires { ⌜ length (now regs) ≡ 32 ⌝ ∗ ⌜ Placed (now frames) pages (length (now words)) ⌝ ∗ ⌜ Shadowed (now frames) pages (now shadow) ⌝ ∗ ⌜ loading o ≡ true ⌝ }
+    ensures { λ r. ⌜ (r ≡ true → (page : ℕ) (t : Table) → Does (now (frames .entry)) pages p t page y (now (target .exit)) (now (regs .entry)) (now (regs .exit)) (now (words .entry)) (now (words .entry)) (now (shadow .entry)) (λ _ _. loads o (rdImmediate w) (reg (now (regs .entry)) (rs1Of w)) (extended 16 w))) × (r ≡ false → now (regs .exit) ≡ now (regs .entry)) ⌝ }
+{
+    let rs1 = first(w);
+    let rd = second(w);
+    let imm = near(w);
+    let x = regs[rs1];
+    load(
+        p,
+        pages,
+        regs,
+        frames,
+        shadow,
+        words,
+        o,
+        rd,
+        x,
+        imm,
+        y,
+        target,
+    )
+}
+
+fn store_word(
+    p: Processor,
+    t: Table,
+    held: u32,
+    pages: u32,
+    regs: &[u32],
+    frames: &[u32],
+    shadow: &[u32],
+    words: &mut [u32],
+    o: u32,
+    w: u32,
+    y: u32,
+    target: &mut u32,
+) -> bool
+    requires { ⌜ length (now regs) ≡ 32 ⌝ ∗ ⌜ Placed (now frames) pages (length (now words)) ⌝ ∗ ⌜ Shadowed (now frames) pages (now shadow) ⌝ ∗ ⌜ storing o ≡ true ⌝ ∗ ⌜ held ≡ heldOf (now frames) pages t ⌝ }
+    ensures { λ r. ⌜ (r ≡ true → (page : ℕ) (rs : List ℕ) → Does (now (frames .entry)) pages p t page y (now (target .exit)) rs rs (now (words .entry)) (now (words .exit)) (now (shadow .entry)) (λ _ _. stores o (reg (now (regs .entry)) (rdImmediate w)) (reg (now (regs .entry)) (rs1Of w)) (extended 16 w))) × (r ≡ false → now (words .exit) ≡ now (words .entry)) ⌝ }
+{
+    let rs1 = first(w);
+    let rd = second(w);
+    let imm = near(w);
+    let x = regs[rs1];
+    let v = regs[rd];
+    store(
+        p,
+        t,
+        held,
+        pages,
+        frames,
+        shadow,
+        words,
+        o,
+        v,
+        x,
+        imm,
+        y,
+        target,
+    )
+}
+
+fn add_word(sr: u32, regs: &mut [u32], w: u32, y: u32, target: &mut u32) -> bool
+    requires { ⌜ length (now regs) ≡ 32 ⌝ }
+    ensures { λ r. ⌜ (r ≡ true → (now (regs .exit) ≡ written (now (regs .entry)) (rdImmediate w) (plus (reg (now (regs .entry)) (rs1Of w)) (extended 16 w))) × (now (target .exit) ≡ plus y 4) × ((next : ℕ) → operated Add (rdImmediate w) (reg (now (regs .entry)) (rs1Of w)) (extended 16 w) sr next ≡ Done (Plain (rdImmediate w) (plus (reg (now (regs .entry)) (rs1Of w)) (extended 16 w)) next))) × (r ≡ false → now (regs .exit) ≡ now (regs .entry)) ⌝ }
+{
+    let rs1 = first(w);
+    let rd = second(w);
+    let imm = near(w);
+    let x = regs[rs1];
+    add(sr, regs, rd, x, imm, y, target)
+}
+
+fn sub_word(sr: u32, regs: &mut [u32], w: u32, y: u32, target: &mut u32) -> bool
+    requires { ⌜ length (now regs) ≡ 32 ⌝ }
+    ensures { λ r. ⌜ (r ≡ true → (now (regs .exit) ≡ written (now (regs .entry)) (rdImmediate w) (minus (reg (now (regs .entry)) (rs1Of w)) (extended 16 w))) × (now (target .exit) ≡ plus y 4) × ((next : ℕ) → operated Sub (rdImmediate w) (reg (now (regs .entry)) (rs1Of w)) (extended 16 w) sr next ≡ Done (Plain (rdImmediate w) (minus (reg (now (regs .entry)) (rs1Of w)) (extended 16 w)) next))) × (r ≡ false → now (regs .exit) ≡ now (regs .entry)) ⌝ }
+{
+    let rs1 = first(w);
+    let rd = second(w);
+    let imm = near(w);
+    let x = regs[rs1];
+    sub(sr, regs, rd, x, imm, y, target)
+}
+
+fn and_word(regs: &mut [u32], w: u32, y: u32, target: &mut u32) -> bool
+    requires { ⌜ length (now regs) ≡ 32 ⌝ }
+    ensures { λ r. ⌜ (r ≡ true) × (now (regs .exit) ≡ written (now (regs .entry)) (rdImmediate w) (valueOf And (reg (now (regs .entry)) (rs1Of w)) (extended 16 w))) × (now (target .exit) ≡ plus y 4) ⌝ }
+{
+    let rs1 = first(w);
+    let rd = second(w);
+    let imm = near(w);
+    let x = regs[rs1];
+    put(regs, rd, x & imm, y, target)
+}
+
+fn or_word(regs: &mut [u32], w: u32, y: u32, target: &mut u32) -> bool
+    requires { ⌜ length (now regs) ≡ 32 ⌝ }
+    ensures { λ r. ⌜ (r ≡ true) × (now (regs .exit) ≡ written (now (regs .entry)) (rdImmediate w) (valueOf Or (reg (now (regs .entry)) (rs1Of w)) (extended 16 w))) × (now (target .exit) ≡ plus y 4) ⌝ }
+{
+    let rs1 = first(w);
+    let rd = second(w);
+    let imm = near(w);
+    let x = regs[rs1];
+    put(regs, rd, x | imm, y, target)
+}
+
+fn xor_word(regs: &mut [u32], w: u32, y: u32, target: &mut u32) -> bool
+    requires { ⌜ length (now regs) ≡ 32 ⌝ }
+    ensures { λ r. ⌜ (r ≡ true) × (now (regs .exit) ≡ written (now (regs .entry)) (rdImmediate w) (valueOf Xor (reg (now (regs .entry)) (rs1Of w)) (extended 16 w))) × (now (target .exit) ≡ plus y 4) ⌝ }
+{
+    let rs1 = first(w);
+    let rd = second(w);
+    let imm = near(w);
+    let x = regs[rs1];
+    put(regs, rd, x ^ imm, y, target)
+}
+
+fn high_word(regs: &mut [u32], w: u32, y: u32, target: &mut u32) -> bool
+    requires { ⌜ length (now regs) ≡ 32 ⌝ }
+    ensures { λ r. ⌜ (r ≡ true) × (now (regs .exit) ≡ written (now (regs .entry)) (rdImmediate w) (extended 16 w % 65536 * 65536)) × (now (target .exit) ≡ plus y 4) ⌝ }
+{
+    let rd = second(w);
+    let imm = near(w);
+    put(regs, rd, imm % 65536 * 65536, y, target)
+}
+
+// A branch where register rs1 is 0, or where it is not.
+fn branch(regs: &[u32], zero: bool, w: u32, y: u32, target: &mut u32) -> bool
+    requires { ⌜ length (now regs) ≡ 32 ⌝ }
+    ensures { λ r. ⌜ (r ≡ true) × (now (target .exit) ≡ (if eqb (reg (now (regs .entry)) (rs1Of w)) 0 then (if zero then plus y (extended 16 w) else plus y 4) else (if zero then plus y 4 else plus y (extended 16 w)))) ⌝ }
+{
+    let rs1 = first(w);
+    let imm = near(w);
+    let x = regs[rs1];
+    let far = std::num::wrapping_add_u32(y, imm);
+    let next = std::num::wrapping_add_u32(y, 4);
+    if zero {
+        return either(x == 0, far, next, target);
+    }
+    either(x == 0, next, far, target)
+}
+
+fn jump(regs: &[u32], w: u32, page: u32, target: &mut u32) -> bool
+    requires { ⌜ length (now regs) ≡ 32 ⌝ }
+    ensures { λ r. ⌜ (r ≡ true) × (plus (now (target .exit)) page ≡ reg (now (regs .entry)) (rs1Of w)) ⌝ }
+{
+    let rs1 = first(w);
+    let x = regs[rs1];
+    to(std::num::wrapping_sub_u32(x, page), target)
+}
+
+fn jump_linked(regs: &mut [u32], w: u32, page: u32, y: u32, target: &mut u32) -> bool
+    requires { ⌜ length (now regs) ≡ 32 ⌝ }
+    ensures { λ r. ⌜ (r ≡ true) × (now (regs .exit) ≡ written (now (regs .entry)) 31 (plus (plus y page) 4)) × (plus (now (target .exit)) page ≡ reg (now (regs .entry)) (rs1Of w)) ⌝ }
+{
+    let rs1 = first(w);
+    let x = regs[rs1];
+    link(regs, page, y);
+    to(std::num::wrapping_sub_u32(x, page), target)
 }
 
 // The instruction w, if it is plain. PC and the target are told from the page's first address.
@@ -316,89 +556,33 @@ pub fn act(
     requires { ⌜ length (now regs) ≡ 32 ⌝ ∗ ⌜ Placed (now frames) pages (length (now words)) ⌝ ∗ ⌜ Shadowed (now frames) pages (now shadow) ⌝ ∗ ⌜ Numbered (now specials) p t ⌝ ∗ ⌜ held ≡ heldOf (now frames) pages t ⌝ }
     ensures { λ r. ⌜ (r ≡ true → Does (now (frames .entry)) pages p t page y (now (target .exit)) (now (regs .entry)) (now (regs .exit)) (now (words .entry)) (now (words .exit)) (now (shadow .entry)) (λ k c. effectOf c t k (now (regs .entry)) (instructionOf w))) × (r ≡ false → (now (regs .exit) ≡ now (regs .entry)) × (now (words .exit) ≡ now (words .entry))) ⌝ }
 {
-    let rs1 = wide(w / 2097152 % 32);
-    let rd = wide(w / 65536 % 32);
-    let imm = processor::words::extend(0x8000, w);
     let opcode = w / 67108864;
     match opcode {
-        35 => {
-            let x = regs[rs1];
-            load(
-                p,
-                pages,
-                regs,
-                frames,
-                shadow,
-                words,
-                35,
-                rd,
-                x,
-                imm,
-                y,
-                target,
-            )
-        }
-        43 => {
-            let x = regs[rs1];
-            let v = regs[rd];
-            store(
-                p,
-                t,
-                held,
-                pages,
-                frames,
-                shadow,
-                words,
-                43,
-                v,
-                x,
-                imm,
-                y,
-                target,
-            )
-        }
-        8 => {
-            let x = regs[rs1];
-            add(p.sr, regs, rd, x, imm, y, target)
-        }
-        10 => {
-            let x = regs[rs1];
-            sub(p.sr, regs, rd, x, imm, y, target)
-        }
-        12 => {
-            let x = regs[rs1];
-            put(regs, rd, x & imm, y, target)
-        }
-        13 => {
-            let x = regs[rs1];
-            put(regs, rd, x | imm, y, target)
-        }
-        14 => {
-            let x = regs[rs1];
-            put(regs, rd, x ^ imm, y, target)
-        }
-        15 => put(regs, rd, imm % 65536 * 65536, y, target),
-        4 => {
-            let x = regs[rs1];
-            let near = std::num::wrapping_add_u32(y, imm);
-            let next = std::num::wrapping_add_u32(y, 4);
-            either(x == 0, near, next, target)
-        }
-        5 => {
-            let x = regs[rs1];
-            let near = std::num::wrapping_add_u32(y, imm);
-            let next = std::num::wrapping_add_u32(y, 4);
-            either(x == 0, next, near, target)
-        }
-        22 => {
-            let x = regs[rs1];
-            to(std::num::wrapping_sub_u32(x, page), target)
-        }
-        23 => {
-            let x = regs[rs1];
-            link(regs, page, y);
-            to(std::num::wrapping_sub_u32(x, page), target)
-        }
+        35 => load_word(p, pages, regs, frames, shadow, words, 35, w, y, target),
+        43 => store_word(
+            p,
+            t,
+            held,
+            pages,
+            regs,
+            frames,
+            shadow,
+            words,
+            43,
+            w,
+            y,
+            target,
+        ),
+        8 => add_word(p.sr, regs, w, y, target),
+        10 => sub_word(p.sr, regs, w, y, target),
+        12 => and_word(regs, w, y, target),
+        13 => or_word(regs, w, y, target),
+        14 => xor_word(regs, w, y, target),
+        15 => high_word(regs, w, y, target),
+        4 => branch(regs, true, w, y, target),
+        5 => branch(regs, false, w, y, target),
+        22 => jump(regs, w, page, target),
+        23 => jump_linked(regs, w, page, y, target),
         2 => {
             let far = processor::words::extend(0x200_0000, w);
             to(std::num::wrapping_add_u32(y, far), target)
@@ -408,121 +592,47 @@ pub fn act(
             link(regs, page, y);
             to(std::num::wrapping_add_u32(y, far), target)
         }
-        0 => register_type(specials, p, t, w, regs, rs1, rd, y, target),
-        32 => {
-            let x = regs[rs1];
-            load(
-                p,
-                pages,
-                regs,
-                frames,
-                shadow,
-                words,
-                32,
-                rd,
-                x,
-                imm,
-                y,
-                target,
-            )
-        }
-        33 => {
-            let x = regs[rs1];
-            load(
-                p,
-                pages,
-                regs,
-                frames,
-                shadow,
-                words,
-                33,
-                rd,
-                x,
-                imm,
-                y,
-                target,
-            )
-        }
-        36 => {
-            let x = regs[rs1];
-            load(
-                p,
-                pages,
-                regs,
-                frames,
-                shadow,
-                words,
-                36,
-                rd,
-                x,
-                imm,
-                y,
-                target,
-            )
-        }
-        37 => {
-            let x = regs[rs1];
-            load(
-                p,
-                pages,
-                regs,
-                frames,
-                shadow,
-                words,
-                37,
-                rd,
-                x,
-                imm,
-                y,
-                target,
-            )
-        }
-        40 => {
-            let x = regs[rs1];
-            let v = regs[rd];
-            store(
-                p,
-                t,
-                held,
-                pages,
-                frames,
-                shadow,
-                words,
-                40,
-                v,
-                x,
-                imm,
-                y,
-                target,
-            )
-        }
-        41 => {
-            let x = regs[rs1];
-            let v = regs[rd];
-            store(
-                p,
-                t,
-                held,
-                pages,
-                frames,
-                shadow,
-                words,
-                41,
-                v,
-                x,
-                imm,
-                y,
-                target,
-            )
-        }
-        24 => test_type(opcode, regs, rs1, rd, imm, y, target),
-        25 => test_type(opcode, regs, rs1, rd, imm, y, target),
-        26 => test_type(opcode, regs, rs1, rd, imm, y, target),
-        27 => test_type(opcode, regs, rs1, rd, imm, y, target),
-        28 => test_type(opcode, regs, rs1, rd, imm, y, target),
-        29 => test_type(opcode, regs, rs1, rd, imm, y, target),
-        30 => test_type(opcode, regs, rs1, rd, imm, y, target),
-        31 => test_type(opcode, regs, rs1, rd, imm, y, target),
+        0 => register_type(specials, p, t, w, regs, y, target),
+        32 => load_word(p, pages, regs, frames, shadow, words, 32, w, y, target),
+        33 => load_word(p, pages, regs, frames, shadow, words, 33, w, y, target),
+        36 => load_word(p, pages, regs, frames, shadow, words, 36, w, y, target),
+        37 => load_word(p, pages, regs, frames, shadow, words, 37, w, y, target),
+        40 => store_word(
+            p,
+            t,
+            held,
+            pages,
+            regs,
+            frames,
+            shadow,
+            words,
+            40,
+            w,
+            y,
+            target,
+        ),
+        41 => store_word(
+            p,
+            t,
+            held,
+            pages,
+            regs,
+            frames,
+            shadow,
+            words,
+            41,
+            w,
+            y,
+            target,
+        ),
+        24 => test_type(opcode, regs, w, y, target),
+        25 => test_type(opcode, regs, w, y, target),
+        26 => test_type(opcode, regs, w, y, target),
+        27 => test_type(opcode, regs, w, y, target),
+        28 => test_type(opcode, regs, w, y, target),
+        29 => test_type(opcode, regs, w, y, target),
+        30 => test_type(opcode, regs, w, y, target),
+        31 => test_type(opcode, regs, w, y, target),
         1 => false,
         6 => false,
         7 => false,

@@ -11,7 +11,7 @@ use lib.Seq.{getD-take, getD-drop, length-take-le}
 use Rattle.dlx.specs.Choice.{if_then_else_}
 use Rattle.dlx.specs.Words.{plus}
 use Rattle.dlx.specs.Fields.{aligned, width, brought, placed}
-use Rattle.dlx.specs.Processor.{user, wentTo, behind}
+use Rattle.dlx.specs.Processor.{user, wentTo, behind, specialOf}
 use Rattle.dlx.specs.Instructions.{instructionOf}
 use Rattle.dlx.specs.Execute.{effectOf, reached, written, loads, stores}
 use Rattle.dlx.specs.Machine.{Ops, Core, core, executed, afterRead, afterWrite, fetched, loaded, stored, accessed, requestOf, Desk, accessedAt}
@@ -30,7 +30,7 @@ use Rattle.addresses.specs.Walk.{direct}
 use Rattle.addresses.specs.Memory.{wordIn, updated, Host, host, hosted, looked, served, hostRead, hostReads, hostWritten, hostWrites, emptied, hostMemory}
 use Rattle.addresses.specs.Premises.{Placed, Shadowed}
 use Rattle.translate.proofs.Served.{served-inside}
-use Rattle.plain.specs.Plain.{seenOf, pairOf, performed, Does}
+use Rattle.plain.specs.Plain.{seenOf, Numbered, pairOf, performed, Does}
 use Rattle.plain.proofs.Laws.{not-false, seen-served, seen-inside}
 use Rattle.quick.specs.Quick.{awayOf, Cached, Goes, Found}
 
@@ -169,6 +169,26 @@ module _ (fr : List ℕ) (n : ℕ) (t : Table) (sh : List ℕ) (k : ℕ) (p : Pr
 
   pub found-none : (q : Processor) (regs ws : List ℕ) → Found fr n t sh q regs ws 0
   found-none q regs ws l = absurd (omega (arith, l))
+
+  -- steps in one page, and then in another
+  pub goes-more : (d q d′ q′ rest rest′ : ℕ) (regs₀ ws₀ regs ws regs′ ws′ : List ℕ) → Goes fr n t sh k rest p regs₀ ws₀ (pairOf p d q) regs ws → Goes fr n t sh rest rest′ (pairOf p d q) regs ws (pairOf p d′ q′) regs′ ws′ → Goes fr n t sh k rest′ p regs₀ ws₀ (pairOf p d′ q′) regs′ ws′
+  goes-more d q d′ q′ rest rest′ regs₀ ws₀ regs ws regs′ ws′ g f =
+      let l : rest ≤ k = g .0 in
+      let m : rest′ ≤ rest = f .0 in (
+        omega (arith, l, m),
+        λ latest count i made c z.
+            let a : made + (k - rest) + (rest - rest′) ≡ made + (k - rest′) = omega (arith, l, m) in
+            let b : c .tcount - (k - rest) - (rest - rest′) ≡ c .tcount - (k - rest′) = omega (arith, l, m) in
+            ap (λ (j : ℕ). spellFrom (hostMemory fr n) (desk count i) rest′ j (core (pairOf p d′ q′) regs′ latest (sunk c (k - rest′)), host t ws′ sh) z) (sym a)
+            ∙ ap (λ (j : ℕ). spellFrom (hostMemory fr n) (desk count i) rest′ (made + (k - rest) + (rest - rest′)) (core (pairOf p d′ q′) regs′ latest (record { tcount = j; tload = c .tload }), host t ws′ sh) z) (sym b)
+            ∙ f .1 latest count i (made + (k - rest)) (sunk c (k - rest)) z
+            ∙ g .1 latest count i made c z,
+      )
+
+-- the special registers are the same at another pair
+pub numbered-pair : (s : List ℕ) (p : Processor) (t : Table) (d q : ℕ) → Numbered s p t → Numbered s (pairOf p d q) t
+unfolding specialOf
+numbered-pair s p t d q e = e
 
 -- ---- the page of an address
 

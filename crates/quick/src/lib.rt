@@ -114,29 +114,51 @@ pub fn plain(
     requires { ⌜ length (now regs) ≡ 32 ⌝ ∗ ⌜ Placed (now frames) pages (length (now words)) ⌝ ∗ ⌜ Shadowed (now frames) pages (now shadow) ⌝ ∗ ⌜ Numbered (now specials) p t ⌝ }
     ensures { λ r. ⌜ (Goes (now (frames .entry)) pages t (now (shadow .entry)) k (r .rest) p (now (regs .entry)) (now (words .entry)) (pairOf p (r .dpc) (r .pc)) (now (regs .exit)) (now (words .exit))) × (length (now (regs .exit)) ≡ length (now (regs .entry))) × (length (now (words .exit)) ≡ length (now (words .entry))) × (Found (now (frames .entry)) pages t (now (shadow .entry)) (pairOf p (r .dpc) (r .pc)) (now (regs .exit)) (now (words .exit)) (r .word)) ⌝ }
 {
-    let dpc = p.dpc;
-    let e = plain::seen(frames, shadow, pages, p.mode == 1, dpc);
-    if e / 2048 % 2 != 1 {
-        return Quick {
-            dpc,
-            pc: p.pc,
-            rest: k,
-            word: 0,
-        };
+    let mut dpc = p.dpc;
+    let mut pc = p.pc;
+    let mut rest = k;
+    while rest > 0 {
+        let e = plain::seen(frames, shadow, pages, p.mode == 1, dpc);
+        if e / 2048 % 2 != 1 {
+            return Quick {
+                dpc,
+                pc,
+                rest,
+                word: 0,
+            };
+        }
+        let page = dpc - dpc % 4096;
+        let base = wide(e / 4096) * 1024;
+        let mut r = p;
+        r.dpc = dpc;
+        r.pc = pc;
+        let q = in_page(
+            specials,
+            r,
+            t,
+            pages,
+            page,
+            base,
+            regs,
+            frames,
+            shadow,
+            words,
+            rest,
+        );
+        if q.word != 0 {
+            return q;
+        }
+        if q.rest == rest {
+            return q;
+        }
+        dpc = q.dpc;
+        pc = q.pc;
+        rest = q.rest;
     }
-    let page = dpc / 4096 * 4096;
-    let base = wide(e / 4096) * 1024;
-    in_page(
-        specials,
-        p,
-        t,
-        pages,
-        page,
-        base,
-        regs,
-        frames,
-        shadow,
-        words,
-        k,
-    )
+    Quick {
+        dpc,
+        pc,
+        rest,
+        word: 0,
+    }
 }

@@ -1,4 +1,4 @@
-use Rattle.plain.proofs.Laws.{seen-inside, load-does, not-false}
+use Rattle.plain.proofs.Laws.{seen-inside, load-does, fits-left}
 use Rattle.processor.proofs.Opcodes.{or-left}
 use Rattle.dlx.specs.Fields.{loading, storing}
 use Rattle.addresses.proofs.Entries.{placed-listed}
@@ -66,7 +66,7 @@ shared-slice-read-w c = let s = c .before .before .before .before .before .befor
 
 -- src/lib.rt:144:19
 bring-requires : tie.Need-bring-requires
-bring-requires c κs = (c .before .before .before .before .before .before .before .before .before .before .before .before .before .before .pre .1 .1 .1 .0, sym (c .before .before .before .before .before .before .before .before .fits2 .ensures) ∙ not-false _ (c .before .before .before .before .before .before .before .if1 .left))
+bring-requires c κs = (c .before .before .before .before .before .before .before .before .before .before .before .before .before .before .pre .1 .1 .1 .0, fits-left _ _ _ (c .before .before .before .before .before .before .before .before .fits2 .ensures) (c .before .before .before .before .before .before .before .if1 .left))
 
 -- src/lib.rt:144:5
 put-requires : tie.Need-put-requires
@@ -80,7 +80,7 @@ same-length c = search needs
 returns-3 : tie.Need-returns-3
 returns-3 c = let e = c .before .before .put .ensures in
     let s = c .before .before .before .before .before .before .before .before .before .before .before .before .before .before .before .before .before .before .before in
-    (λ _ page t. load-does _ _ (s .args .p) t page (s .args .y) (s .args .regs .now) (s .args .words .now) _ (s .args .o) (s .args .x) (s .args .imm) _ _ (c .before .before .before .before .before .before .before .before .before .before .before .before .before .before .wrapping-add-u32 .ensures) (sym (not-false _ (c .before .before .before .before .before .before .before .before .before .before .before .before .if1 .left)) ∙ c .before .before .before .before .before .before .before .before .before .before .before .before .before .fits2 .ensures) (c .before .before .before .before .before .before .before .before .before .before .seen .ensures) (eq-eqb _ _ (c .before .before .before .before .before .before .before .before .before .if2 .left)) _ _ _ _ _ (simp (c .before .before .before .before .before .before .before .wide2 .ensures, c .before .before .before .before .before .before .before .before .wide .ensures)) (c .before .before .before .before .bring .ensures) (e .1) (e .2), λ q. absurd (true≢false (sym (e .0) ∙ q)))
+    (λ _ page t. load-does _ _ (s .args .p) t page (s .args .y) (s .args .regs .now) (s .args .words .now) _ (s .args .o) (s .args .x) (s .args .imm) _ _ (c .before .before .before .before .before .before .before .before .before .before .before .before .before .before .wrapping-add-u32 .ensures) (sym (fits-left (s .args .o) _ _ (c .before .before .before .before .before .before .before .before .before .before .before .before .before .fits2 .ensures) (c .before .before .before .before .before .before .before .before .before .before .before .before .if1 .left))) (c .before .before .before .before .before .before .before .before .before .before .seen .ensures) (eq-eqb _ _ (c .before .before .before .before .before .before .before .before .before .if2 .left)) _ _ _ _ _ (simp (c .before .before .before .before .before .before .before .wide2 .ensures, c .before .before .before .before .before .before .before .before .wide .ensures)) (c .before .before .before .before .bring .ensures) (e .1) (e .2), λ q. absurd (true≢false (sym (e .0) ∙ q)))
 
 pub load-spec : {M : Type 1} → statement M
 load-spec =

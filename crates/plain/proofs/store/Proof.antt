@@ -1,4 +1,4 @@
-use Rattle.plain.proofs.Laws.{seen-inside, store-does, not-held, not-false}
+use Rattle.plain.proofs.Laws.{seen-inside, store-does, not-held, fits-left}
 use Rattle.processor.proofs.Opcodes.{or-right}
 use Rattle.dlx.specs.Fields.{loading, storing}
 use Rattle.addresses.proofs.Entries.{placed-listed}
@@ -70,7 +70,7 @@ slice-read-place c = let s = c .before .before .before .before .before .before .
 
 -- src/lib.rt:178:16
 place-requires : tie.Need-place-requires
-place-requires c κs = (c .before .before .before .before .before .before .before .before .before .before .before .before .before .pre .1 .1 .0, sym (c .before .before .before .before .before .before .before .before .fits2 .ensures) ∙ not-false _ (c .before .before .before .before .before .before .before .if1 .left))
+place-requires c κs = (c .before .before .before .before .before .before .before .before .before .before .before .before .before .pre .1 .1 .0, fits-left _ _ _ (c .before .before .before .before .before .before .before .before .fits2 .ensures) (c .before .before .before .before .before .before .before .if1 .left))
 
 -- src/lib.rt:178:5
 mul-words : tie.Need-mul-words
@@ -93,7 +93,7 @@ same-length c = search needs
 -- src/lib.rt:148:1
 returns-4 : tie.Need-returns-4
 returns-4 c = let s = c .before .before .before .before .before .before .before .before .before .before .before .before .before .before .before in
-    (λ _ page rs. store-does _ _ (s .args .p) (s .args .t) page (s .args .y) rs (s .args .words .now) _ (s .args .o) (s .args .x) (s .args .imm) _ _ (c .before .before .before .before .before .before .before .before .before .before .before .wrapping-add-u32 .ensures) (sym (not-false _ (c .before .before .before .before .before .before .before .before .before .if1 .left)) ∙ c .before .before .before .before .before .before .before .before .before .before .fits2 .ensures) (c .before .before .before .before .before .before .before .seen .ensures) (eq-eqb (c .before .before .before .before .before .before .before .seen .result / 2 ^ 11 % 2) 1 (omega (arith, c .before .before .before .before .before .before .if2 .left))) (s .args .v) _ (c .before .before .before .before .wide .result * 1024 + c .before .before .before .wide2 .result) _ (ne-eqb (c .before .before .before .before .before .before .before .seen .result / 2 ^ 10 % 2) 1 (λ q. omega (arith, q, c .before .before .before .before .before .before .if2 .left))) (not-held _ _ _ _ _ (s .pre .1 .1 .1) (c .before .before .before .before .before .if3 .left)) (simp (c .before .before .before .wide2 .ensures, c .before .before .before .before .wide .ensures)) (simp (c .before .place .ensures)) (c .wrapping-add-u322 .ensures), λ e. absurd (true≢false e))
+    (λ _ page rs. store-does _ _ (s .args .p) (s .args .t) page (s .args .y) rs (s .args .words .now) _ (s .args .o) (s .args .x) (s .args .imm) _ _ (c .before .before .before .before .before .before .before .before .before .before .before .wrapping-add-u32 .ensures) (sym (fits-left (s .args .o) _ _ (c .before .before .before .before .before .before .before .before .before .before .fits2 .ensures) (c .before .before .before .before .before .before .before .before .before .if1 .left))) (c .before .before .before .before .before .before .before .seen .ensures) (eq-eqb (c .before .before .before .before .before .before .before .seen .result / 2 ^ 11 % 2) 1 (omega (arith, c .before .before .before .before .before .before .if2 .left))) (s .args .v) _ (c .before .before .before .before .wide .result * 1024 + c .before .before .before .wide2 .result) _ (ne-eqb (c .before .before .before .before .before .before .before .seen .result / 2 ^ 10 % 2) 1 (λ q. omega (arith, q, c .before .before .before .before .before .before .if2 .left))) (not-held _ _ _ _ _ (s .pre .1 .1 .1) (c .before .before .before .before .before .if3 .left)) (simp (c .before .before .before .wide2 .ensures, c .before .before .before .before .wide .ensures)) (simp (c .before .place .ensures)) (c .wrapping-add-u322 .ensures), λ e. absurd (true≢false e))
 
 pub store-spec : {M : Type 1} → statement M
 store-spec =
