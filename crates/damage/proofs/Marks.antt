@@ -1,6 +1,6 @@
 -- Laws of the marks: what a frame's mark says of the lists, and that the looks by marks are the definition's searches.
 use mathlib.Core.Path.{_≡_, refl, sym, subst, ap, _∙_}
-use mathlib.Core.Bool.{Bool, true, false, not, Bool·not-not, _&&_, _||_, or-true}
+use mathlib.Core.Bool.{Bool, true, false, not, Bool·not-not, _&&_, _||_, or-true, true≢false, false≢true}
 use mathlib.Core.List.{List, [], _∷_}
 use Prim.Native.Nat.{ℕ, zero, suc, _+_, _-_, _*_, _/_, _%_, _<_, _≤_}
 use native.Mathlib.Numerals.{add-one}
@@ -30,6 +30,35 @@ use Rattle.damage.specs.Marks.{Within, shadowMarked, shadowOutside, page
 pub part-is : (l : List ℕ) (i : ℕ) → take (i * 256 + 256 - i * 256) (drop (i * 256) l) ≡ partAt l i
 unfolding inner
 part-is l i = simp add-sub-cancel-left
+
+-- ---- an entry by one test of its bits
+
+-- not valid, of a frame that no memory has, or with something in its unused bits
+abbrev pub loose : ℕ → Bool
+loose e = not (eqb (e / 2048 % 2) 1) || leb 4194304 e || not (eqb (e % 1024) 0)
+
+module _ (o : List ℕ) (tag e : ℕ) where
+  pub loose-marked : length o ≡ 1024 → 0 < tag → (e ≡ 0 → ⊥) → loose e ≡ true → true ≡ entryMarked o tag e
+  loose-marked l p z h =
+      by-test (eqb (e / 2048 % 2) 1)
+      (λ a. by-test (eqb (e % 1024) 0)
+      (λ b. by-test (leb 4194304 e)
+      (λ c. let f : 4194304 ≤ e = leb-true 4194304 e c in
+      let y : getD o (e / 4096) 0 ≡ 0 = List·getD-eq-default o 0 (omega (arith, l, f)) in
+      simp (a, y, ne-eqb 0 tag (λ q. omega (arith, p, q))))
+      (λ c. absurd (false≢true (simp (a, b, c) at h))))
+      (λ b. by-test (eqb (getD o (e / 4096) 0) tag) (λ c. simp (a, b, c)) (λ c. simp (a, b, c))))
+      (λ a. simp (a, ne-eqb e 0 z))
+
+  pub tight-marked : loose e ≡ false → (e < 4194304) × (not (eqb (getD o (e / 4096) 0) tag) ≡ entryMarked o tag e)
+  tight-marked h =
+      by-test (eqb (e / 2048 % 2) 1)
+      (λ a. by-test (leb 4194304 e)
+      (λ b. absurd (true≢false (simp (a, b) at h)))
+      (λ b. by-test (eqb (e % 1024) 0)
+      (λ c. (leb-false 4194304 e b, by-test (eqb (getD o (e / 4096) 0) tag) (λ d. simp (a, c, d)) (λ d. simp (a, c, d))))
+      (λ c. absurd (true≢false (simp (a, b, c) at h)))))
+      (λ a. absurd (true≢false (simp a at h)))
 
 -- ---- all lists: a frame's mark is the number + 1 of the last partition that has it
 

@@ -204,7 +204,7 @@ fn registers_wrong(parts: [Partition; 8], regs: &[u32], n: usize) -> bool
     false
 }
 
-// A shadow entry of the owner with this tag is wrong.
+// A shadow entry of the owner with this tag is wrong. Whether it is valid, of a frame below 1,024, with nothing in its unused bits, is one test of its bits.
 fn entry_wrong(e: u32, tag: u32, owners: &[u32; 1024]) -> bool
     requires { ⌜ (0 < tag) × (length (now owners) ≡ 1024) ⌝ }
     ensures { λ r. ⌜ r ≡ entryMarked (now (owners .entry)) tag e ⌝ }
@@ -212,17 +212,11 @@ fn entry_wrong(e: u32, tag: u32, owners: &[u32; 1024]) -> bool
     if e == 0 {
         return false;
     }
-    if e / 2048 % 2 != 1 {
+    if (e / 2048 % 2 != 1) | (e >= 4194304) | (e % 1024 != 0) {
         return true;
     }
     let frame = wide(e / 4096);
-    if frame >= 1024 {
-        return true;
-    }
-    if owners[frame] != tag {
-        return true;
-    }
-    e % 1024 != 0
+    owners[frame] != tag
 }
 
 // Anything but 0 in the size places from base on. All bits are gathered, with no way out between: the compiler takes several places at a time.
