@@ -11,7 +11,7 @@ use lib.ListN.{length, length-append}
 use Rattle.decimal.specs.Decimals.{digit, decimalIn, decimal}
 
 -- a test decided either way, with its equation
-by-test : {P : Type 0} (b : Bool) → (b ≡ true → P) → (b ≡ false → P) → P
+pub by-test : {P : Type 0} (b : Bool) → (b ≡ true → P) → (b ≡ false → P) → P
 by-test true f g = f refl
 by-test false f g = g refl
 

@@ -2,7 +2,7 @@
 use mathlib.Core.Path.{_≡_, refl, sym, ap, subst, _∙_}
 use mathlib.Core.Bool.{Bool, true, false, cond}
 use mathlib.Core.List.{List, [], _∷_, _++_}
-use Prim.Native.Nat.{ℕ, suc, _+_, _*_, _/_, _^_, _<_, _≤_}
+use Prim.Native.Nat.{ℕ, suc, _+_, _-_, _*_, _/_, _^_, _<_, _≤_}
 use native.Mathlib.Nat.{add-zero, mul-suc}
 use native.Mathlib.Numerals.{add-one}
 use native.Mathlib.Omega.{arith}
@@ -10,9 +10,9 @@ use borrow.Author.Tests.{lt-ltb, le-ltb}
 use lib.Dec.{ltb}
 use lib.ListN.{length, getD, set, take, drop, length-append, length-set, drop-of-length-le}
 use lib.Seq.{drop-cons, sets, sets-eq}
-use Rattle.decimal.specs.Decimals.{digit, decimal}
+use Rattle.decimal.specs.Decimals.{digit, decimal, signedText}
 use Rattle.decimal.specs.Texts.{joined, Text, text, put, Puts}
-use Rattle.decimal.proofs.Decimals.{one-digit, more-digits, few-digits}
+use Rattle.decimal.proofs.Decimals.{by-test, one-digit, more-digits, few-digits}
 
 put-more : (t : Text) (a b : List ℕ) → put t (a ++ b) ≡ put (put t a) b
 unfolding put
@@ -53,6 +53,17 @@ decimal-one t n l f = rw (one-digit n l) f
 
 pub decimal-more : {o : List ℕ} {r : ℕ} {t′ : Text} (t : Text) (n : ℕ) → 10 ≤ n → text o r ≡ put t (decimal (n / 10)) → t′ ≡ put (text o r) (digit n ∷ []) → t′ ≡ put t (decimal n)
 decimal-more t n l f g = rw (more-digits n l) (put-behind t (decimal (n / 10)) (digit n ∷ []) f g)
+
+-- ---- with a sign
+
+module _ (m v : ℕ) (t : Text) {t′ : Text} where
+  pub signed-low : v < m / 2 → t′ ≡ put t (decimal v) → t′ ≡ put t (signedText m v)
+  unfolding signedText
+  signed-low l e = rw (lt-ltb v (m / 2) l, signedText) e
+
+  pub signed-high : {r : ℕ} {o : List ℕ} → m / 2 ≤ v → text o r ≡ put t (45 ∷ []) → t′ ≡ put (text o r) (decimal (m - v)) → t′ ≡ put t (signedText m v)
+  unfolding signedText
+  signed-high l e f = rw (le-ltb v (m / 2) l, signedText) (put-behind t (45 ∷ []) (decimal (m - v)) e f)
 
 -- ---- where a text ends, and when nothing is left out
 
@@ -115,6 +126,17 @@ nothing = record { stands = refl; short = omega arith }
 -- a number of 64 bits has at most 20 digits
 pub decimal-puts : {out o : List ℕ} {at r : ℕ} (n : ℕ) → n < 2 ^ 64 → text o r ≡ put (text out at) (decimal n) → Puts out at o r (decimal n) 20
 decimal-puts n l e = puts e (few-digits 19 n (omega arith))
+
+-- a word with its sign has at most 10 digits, and a minus
+signed-short : (w : ℕ) → w < 2 ^ 32 → length (signedText (2 ^ 32) w) ≤ 11
+unfolding signedText
+signed-short w l =
+    by-test (ltb w (2 ^ 32 / 2))
+    (λ e. rw (e, signedText) (omega (arith, few-digits 9 w (omega arith))))
+    (λ e. rw (e, signedText) (omega (arith, few-digits 9 (2 ^ 32 - w) (omega arith))))
+
+pub signed-puts : {out o : List ℕ} {at r : ℕ} (w : ℕ) → w < 2 ^ 32 → text o r ≡ put (text out at) (signedText (2 ^ 32) w) → Puts out at o r (signedText (2 ^ 32) w) 11
+signed-puts w l e = puts e (signed-short w l)
 
 -- ---- parts that a loop puts: before the first, with one part more, and all
 

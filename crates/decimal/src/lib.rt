@@ -2,7 +2,8 @@
 // what has no room in the buffer is left out.
 ghost use mathlib.Core.Path.{_≡_};
 ghost use mathlib.Core.List.{[], _∷_};
-ghost use Rattle.decimal.specs.Decimals.{digit, decimal};
+ghost use Prim.Native.Nat.{_<_};
+ghost use Rattle.decimal.specs.Decimals.{digit, decimal, signedText};
 ghost use Rattle.decimal.specs.Raw.{lowFirst};
 ghost use Rattle.decimal.specs.Texts.{Puts, same, text, put};
 
@@ -62,6 +63,18 @@ pub fn put_decimal(out: &mut [u8], at: usize, n: u64) -> usize
     }
     let last = put_decimal(out, at, n / 10);
     put_digit(out, last, n)
+}
+
+// A number of so many values with a sign: in decimals, and behind a minus where it stands for v less the size.
+pub fn put_signed(out: &mut [u8], at: usize, size: u64, v: u64) -> usize
+    requires { ⌜ v < size ⌝ }
+    ensures { λ r. ⌜ text (now (out .exit)) r ≡ put (text (now (out .entry)) at) (signedText size v) ⌝ }
+{
+    if v < size / 2 {
+        return put_decimal(out, at, v);
+    }
+    let digits = put_byte(out, at, 45);
+    put_decimal(out, digits, size - v)
 }
 
 // A word's four bytes, the lowest first.

@@ -7,11 +7,11 @@ use native.Mathlib.Omega.{arith}
 use lib.ListN.{length, getD}
 use Rattle.dlx.specs.Choice.{if_then_else_}
 use Rattle.dlx.specs.Instructions.{instructionOf, registerType, partType}
-use Rattle.decimal.specs.Decimals.{decimal, decimalIn}
+use Rattle.decimal.specs.Decimals.{decimal, decimalIn, signedText}
 use Rattle.decimal.specs.Texts.{ascii, same}
 use Rattle.lines.specs.Table.{operands, operandAt, named, unnamed, rowAt}
-use Rattle.lines.specs.Lines.{written, signedText, operandText, textBy, codeOf, bareOf, made, remade, within, fits, placeFrom, column, coded, placeOf, lineOf, scanned, scanFrom, marked, lettersOf, lettered, candidateBy, candidate, right}
-use Rattle.lines.specs.Listings.{listing, linesBehind, linesOf, wrongFrom, wordsOf, endedFrom, ended, answer, assembled, listed}
+use Rattle.lines.specs.Lines.{written, operandText, textBy, codeOf, bareOf, made, remade, within, fits, placeFrom, column, coded, placeOf, lineOf, scanned, scanFrom, marked, lettersOf, lettered, candidateBy, candidate, right}
+use Rattle.lines.specs.Listings.{listing, linesBehind, linesOf, wordsOf, endedFrom, answer, assembled, wrongBy}
 use Rattle.lines.specs.Called.{legal, testName, registerRow, rowFor, valuesIn, wordOf, textOf}
 use Rattle.lines.proofs.Least.{zeroed-least, legal-line, other-line}
 use Rattle.lines.proofs.Lines.{right-exactly, line-injective}
@@ -49,12 +49,12 @@ three-short = listing-short three (7 ∷ 8 ∷ []) three-words (omega arith)
 
 -- of a text whose second line is wrong, and its third too, the first line is right and the second is not
 pub second-wrong : FirstWrong (linesOf (ascii "rfe\nrfe 0\nnop\n")) 1
-unfolding ascii same decimal decimalIn lineOf placeOf coded codeOf bareOf column placeFrom fits within remade made textBy operandText written signedText operandAt operands named unnamed rowAt scanned scanFrom marked lettersOf lettered candidateBy candidate right linesBehind wrongFrom
+unfolding ascii same decimal decimalIn lineOf placeOf coded codeOf bareOf column placeFrom fits within remade made textBy operandText written signedText operandAt operands named unnamed rowAt scanned scanFrom marked lettersOf lettered candidateBy candidate right linesBehind wrongBy
 second-wrong = first-wrong 1 (linesOf (ascii "rfe\nrfe 0\nnop\n")) refl
 
 -- a text that is taken without its last newline is a listing but for that newline
 pub newline-missing : listing (wordsOf (linesOf (ascii "jr r31\nrfe"))) ≡ ascii "jr r31\nrfe\n"
-unfolding ascii same decimal decimalIn lineOf placeOf coded codeOf bareOf column placeFrom fits within remade made textBy operandText written signedText operandAt operands named unnamed rowAt scanned scanFrom marked lettersOf lettered candidateBy candidate right linesBehind wrongFrom endedFrom
+unfolding ascii same decimal decimalIn lineOf placeOf coded codeOf bareOf column placeFrom fits within remade made textBy operandText written signedText operandAt operands named unnamed rowAt scanned scanFrom marked lettersOf lettered candidateBy candidate right linesBehind wrongBy endedFrom
 newline-missing = taken-listing (ascii "jr r31\nrfe") refl
 
 -- rfe with an ignored bit is not the least word that is read so: it is written as a number

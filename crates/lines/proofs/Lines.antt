@@ -10,12 +10,12 @@ use borrow.Author.Tests.{eqb-true, ltb-true, ltb-false, le-leb, ne-eqb}
 use lib.Dec.{eqb, leb, ltb}
 use lib.ListN.{length, length-append}
 use Rattle.dlx.proofs.Tests.{by-test, and-left}
-use Rattle.decimal.specs.Decimals.{digit, decimal}
+use Rattle.decimal.specs.Decimals.{digit, decimal, signedText}
 use Rattle.decimal.specs.Texts.{same}
 use Rattle.decimal.proofs.Decimals.{one-digit, more-digits, few-digits}
 use Rattle.decimal.proofs.Same.{and-right, same-refl, same-eq}
 use Rattle.lines.specs.Table.{Style, absent, number, register, signed, operandAt, operands, Row, named, unnamed, rowAt}
-use Rattle.lines.specs.Lines.{written, signedText, fieldOf, operandText, textBy, codeOf, bareOf, made, remade, within, fits, placeFrom, column, coded, placeOf, lineOf, start, scanFrom, marked, styleOf, lettersOf, lettered, lastOf, candidateBy, candidate, right}
+use Rattle.lines.specs.Lines.{written, fieldOf, operandText, textBy, codeOf, bareOf, made, remade, within, fits, placeFrom, column, coded, placeOf, lineOf, start, scanFrom, marked, styleOf, lettersOf, lettered, lastOf, candidateBy, candidate, right}
 use Rattle.lines.specs.declared.Scan.{Scan}
 use Rattle.lines.proofs.Scans.{scan-more, passed, scan-written, letters-passed}
 use Rattle.lines.proofs.Tables.{sized, size-some, size-word, size-style, present, plainly, shaped, shaped-at, clean, name-plus, name-clean, name-short, letters-back}

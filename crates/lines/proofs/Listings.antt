@@ -11,7 +11,7 @@ use lib.Seq.{take-append-seam}
 use Rattle.dlx.proofs.Tests.{by-test, and-left}
 use Rattle.decimal.proofs.Same.{and-right}
 use Rattle.lines.specs.Lines.{lineOf, right}
-use Rattle.lines.specs.Listings.{listing, linesBehind, linesOf, wrongFrom, wordsOf, endedFrom, ended, answer, assembled, listed}
+use Rattle.lines.specs.Listings.{listing, linesBehind, linesOf, wrongFrom, wordsOf, endedFrom, ended, answer, assembled, listed, wrongBy, wordsBy, readBy}
 use Rattle.lines.proofs.Tables.{clean}
 use Rattle.lines.proofs.Lines.{candidate-line, right-line, right-taken, line-clean}
 
@@ -40,12 +40,12 @@ abbrev pub Words : List ℕ → Type 0
 Words ws = (i : ℕ) → getD ws i 0 < 2 ^ 32
 
 each-right : (n : ℕ) (ws : List ℕ) → Words ws → wrongFrom n (each ws) ≡ 0
-unfolding wrongFrom
+unfolding wrongBy
 each-right n [] h = refl
-each-right n (w ∷ ws) h = rw (right-line w (h 0), wrongFrom) (each-right (suc n) ws (λ i. h (suc i)))
+each-right n (w ∷ ws) h = rw (right-line w (h 0), wrongBy) (each-right (suc n) ws (λ i. h (suc i)))
 
 each-words : (ws : List ℕ) → Words ws → wordsOf (each ws) ≡ ws
-unfolding wordsOf
+unfolding wordsBy
 each-words [] h = refl
 each-words (w ∷ ws) h = rw (candidate-line w (h 0)) (ap (λ (x : List ℕ). w ∷ x) (each-words ws (λ i. h (suc i))))
 
@@ -55,13 +55,13 @@ each-length (w ∷ ws) = ap suc (each-length ws)
 
 -- THEOREM: assembling a listing gives the words back
 pub listing-assembled : (ws out : List ℕ) → Words ws → length ws ≤ length out → assembled (listing ws) out ≡ answer 0 0 (length ws) (ws ++ drop (length ws) out)
-unfolding assembled
+unfolding readBy
 listing-assembled ws out h l =
     simp (lines-listing ws, each-right 1 ws h, each-length ws, each-words ws h, le-ltb (length out) (length ws) l)
 
 -- THEOREM: unless they have no room
 pub listing-short : (ws out : List ℕ) → Words ws → length out < length ws → assembled (listing ws) out ≡ answer 13 0 0 out
-unfolding assembled
+unfolding readBy
 listing-short ws out h l = simp (lines-listing ws, each-right 1 ws h, each-length ws, lt-ltb (length out) (length ws) l)
 
 -- THEOREM: what the lister put into an output that was long enough is assembled to the words that it was given
@@ -84,12 +84,12 @@ together [] = []
 together (l ∷ ls) = l ++ (10 ∷ together ls)
 
 right-together : (n : ℕ) (ls : List (List ℕ)) → wrongFrom (suc n) ls ≡ 0 → listing (wordsOf ls) ≡ together ls
-unfolding wrongFrom listing wordsOf together
+unfolding wrongBy listing wordsBy together
 right-together n [] e = refl
 right-together n (l ∷ ls) e =
     by-test (right l)
-    (λ q. rw (right-taken l q) (ap (λ (x : List ℕ). l ++ (10 ∷ x)) (right-together (suc n) ls (rw (q, wrongFrom) at e))))
-    (λ q. absurd (let z : suc n ≡ 0 = rw (q, wrongFrom) at e in omega arith))
+    (λ q. rw (right-taken l q) (ap (λ (x : List ℕ). l ++ (10 ∷ x)) (right-together (suc n) ls (rw (q, wrongBy) at e))))
+    (λ q. absurd (let z : suc n ≡ 0 = rw (q, wrongBy) at e in omega arith))
 
 begun : List ℕ → Bool
 begun [] = false
@@ -123,14 +123,14 @@ pub record FirstWrong (ls : List (List ℕ)) (i : ℕ) : Type 0 where
   pub before : (j : ℕ) → j < i → right (getD ls j []) ≡ true
 
 wrong-from : (k n : ℕ) (ls : List (List ℕ)) → wrongFrom (suc k) ls ≡ suc n → (i : ℕ) × (n ≡ k + i) × FirstWrong ls i
-unfolding wrongFrom
+unfolding wrongBy
 wrong-from k n [] e = absurd (let z : _≡_ {A = ℕ} 0 (suc n) = e in omega arith)
 wrong-from k n (l ∷ ls) e =
     by-test (right l)
     (λ q.
-    let (i, s, f) = wrong-from (suc k) n ls (rw (q, wrongFrom) at e) in
+    let (i, s, f) = wrong-from (suc k) n ls (rw (q, wrongBy) at e) in
     (suc i, omega arith, record { there = omega (arith, f .there); wrong = f .wrong; before = earlier q (f .before) }))
-    (λ q. let z : suc k ≡ suc n = rw (q, wrongFrom) at e in (0, omega arith, record { there = omega arith; wrong = q; before = λ j h. absurd (omega arith) }))
+    (λ q. let z : suc k ≡ suc n = rw (q, wrongBy) at e in (0, omega arith, record { there = omega arith; wrong = q; before = λ j h. absurd (omega arith) }))
   where
     earlier : right l ≡ true → {i : ℕ} → ((j : ℕ) → j < i → right (getD ls j []) ≡ true) → (j : ℕ) → j < suc i → right (getD (l ∷ ls) j []) ≡ true
     earlier q f zero h = q
@@ -142,12 +142,12 @@ first-wrong n ls e = let (i, s, f) = wrong-from 0 n ls e in let z : i ≡ n = om
 
 -- THEOREM: and where there is none every line is right
 pub none-wrong : (n : ℕ) (ls : List (List ℕ)) → wrongFrom (suc n) ls ≡ 0 → (j : ℕ) → j < length ls → right (getD ls j []) ≡ true
-unfolding wrongFrom
+unfolding wrongBy
 none-wrong n [] e j h = absurd (omega arith)
 none-wrong n (l ∷ ls) e j h =
     by-test (right l)
-    (λ q. each-of q (none-wrong (suc n) ls (rw (q, wrongFrom) at e)) j h)
-    (λ q. absurd (let z : suc n ≡ 0 = rw (q, wrongFrom) at e in omega arith))
+    (λ q. each-of q (none-wrong (suc n) ls (rw (q, wrongBy) at e)) j h)
+    (λ q. absurd (let z : suc n ≡ 0 = rw (q, wrongBy) at e in omega arith))
   where
     each-of : right l ≡ true → ((j : ℕ) → j < length ls → right (getD ls j []) ≡ true) → (j : ℕ) → j < length (l ∷ ls) → right (getD (l ∷ ls) j []) ≡ true
     each-of q f zero h = q

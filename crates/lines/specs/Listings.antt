@@ -33,14 +33,22 @@ unfoldable pub lineLength : List ℕ → ℕ
 lineLength [] = 0
 lineLength (b ∷ bs) = elim (eqb b 10) [ true ↦ 0 | false ↦ suc (lineLength bs) ]
 
--- the number of the first wrong line where the next one has the number n; 0 for none
-unfoldable pub wrongFrom : ℕ → List (List ℕ) → ℕ
-wrongFrom n [] = 0
-wrongFrom n (l ∷ ls) = elim (right l) [ true ↦ wrongFrom (suc n) ls | false ↦ n ]
+-- by what a right line is: the number of the first wrong one where the next one has the number n; 0 for none
+unfoldable pub wrongBy : (List ℕ → Bool) → ℕ → List (List ℕ) → ℕ
+wrongBy f n [] = 0
+wrongBy f n (l ∷ ls) = elim (f l) [ true ↦ wrongBy f (suc n) ls | false ↦ n ]
 
-unfoldable pub wordsOf : List (List ℕ) → List ℕ
-wordsOf [] = []
-wordsOf (l ∷ ls) = candidate l ∷ wordsOf ls
+-- by the word of a line: the words of all
+unfoldable pub wordsBy : (List ℕ → ℕ) → List (List ℕ) → List ℕ
+wordsBy w [] = []
+wordsBy w (l ∷ ls) = w l ∷ wordsBy w ls
+
+-- of a listing's lines
+abbrev pub wrongFrom : ℕ → List (List ℕ) → ℕ
+wrongFrom n ls = wrongBy right n ls
+
+abbrev pub wordsOf : List (List ℕ) → List ℕ
+wordsOf ls = wordsBy candidate ls
 
 -- ---- a text with a newline at its end, unless it is empty
 
@@ -69,11 +77,15 @@ pub record Answer : Type 0 where
 abbrev pub answer : ℕ → ℕ → ℕ → List ℕ → Answer
 answer n d k o = record { number = n; detail = d; count = k; out = o }
 
-unfoldable pub assembled : List ℕ → List ℕ → Answer
-assembled t out =
-    if not (eqb (wrongFrom 1 (linesOf t)) 0) then answer 18 (wrongFrom 1 (linesOf t)) 0 out else
+-- the words of a text's lines, by what a right line and its word are
+unfoldable pub readBy : (List ℕ → Bool) → (List ℕ → ℕ) → List ℕ → List ℕ → Answer
+readBy f w t out =
+    if not (eqb (wrongBy f 1 (linesOf t)) 0) then answer 18 (wrongBy f 1 (linesOf t)) 0 out else
     if ltb (length out) (length (linesOf t)) then answer 13 0 0 out else
-    answer 0 0 (length (linesOf t)) (wordsOf (linesOf t) ++ drop (length (linesOf t)) out)
+    answer 0 0 (length (linesOf t)) (wordsBy w (linesOf t) ++ drop (length (linesOf t)) out)
+
+abbrev pub assembled : List ℕ → List ℕ → Answer
+assembled t out = readBy right candidate t out
 
 unfoldable pub listed : List ℕ → List ℕ → Answer
 listed ws out =

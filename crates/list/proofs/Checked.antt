@@ -1,11 +1,11 @@
 -- The examples hold: the single claim about the rules.
 use mathlib.Core.Path.{_≡_, refl}
 use mathlib.Core.Bool.{true}
-use Rattle.decimal.specs.Decimals.{decimalIn, decimal}
+use Rattle.decimal.specs.Decimals.{decimalIn, decimal, signedText}
 use Rattle.decimal.specs.Texts.{ascii, same}
 use Rattle.decimal.specs.Examples.{all}
 use Rattle.lines.specs.Table.{operands, operandAt, named, unnamed, rowAt}
-use Rattle.lines.specs.Lines.{written, signedText, operandText, textBy, codeOf, bareOf, made, remade, within, fits, placeFrom, column, coded, placeOf, lineOf}
+use Rattle.lines.specs.Lines.{written, operandText, textBy, codeOf, bareOf, made, remade, within, fits, placeFrom, column, coded, placeOf, lineOf}
 use Rattle.lines.specs.Listings.{listing}
 use Rattle.dlx.specs.Parts.{inner}
 use Rattle.report.specs.Report.{field, line, refusedText}

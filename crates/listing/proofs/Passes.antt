@@ -13,7 +13,7 @@ use Rattle.dlx.proofs.Tests.{by-test}
 use Rattle.decimal.specs.Texts.{Text, text, put}
 use Rattle.decimal.proofs.Texts.{put-behind, exactly, whole}
 use Rattle.lines.specs.Lines.{lineOf, candidate, right}
-use Rattle.lines.specs.Listings.{listing, lastLine, linesBehind, linesOf, lineLength, wrongFrom, wordsOf, Surveyed, answer, assembled, listed}
+use Rattle.lines.specs.Listings.{listing, lastLine, linesBehind, linesOf, lineLength, wrongFrom, wordsOf, Surveyed, answer, assembled, listed, wrongBy, wordsBy, readBy}
 
 -- ---- words
 
@@ -126,19 +126,19 @@ module _ (t : List ℕ) (a e n : ℕ) (h : a < length t) (ends : e ≡ a + lineL
 
 module _ (ls : List (List ℕ)) (k : ℕ) (l : List ℕ) (rest now : List (List ℕ)) (first : now ≡ l ∷ rest) where
   pub over-on : right l ≡ true → wrongFrom (k + 1) now ≡ wrongFrom 1 ls → wrongFrom (k + 1 + 1) rest ≡ wrongFrom 1 ls
-  unfolding wrongFrom
-  over-on y e = let z : suc (k + 1) ≡ k + 1 + 1 = omega arith in rw (first, y, wrongFrom, z) at e
+  unfolding wrongBy
+  over-on y e = let z : suc (k + 1) ≡ k + 1 + 1 = omega arith in rw (first, y, wrongBy, z) at e
 
   pub over-count : k + length now ≡ length ls → k + 1 + length rest ≡ length ls
   over-count e = omega (arith, ap length first)
 
   pub over-wrong : right l ≡ false → wrongFrom (k + 1) now ≡ wrongFrom 1 ls → Surveyed ls (k + 1) (k + 1)
-  unfolding wrongFrom
-  over-wrong y e = record { wrong = rw (first, y, wrongFrom) at e; count = λ z. absurd (omega arith) }
+  unfolding wrongBy
+  over-wrong y e = record { wrong = rw (first, y, wrongBy) at e; count = λ z. absurd (omega arith) }
 
 pub over-done : (t : List ℕ) (k a : ℕ) → length t ≤ a → wrongFrom (k + 1) (linesOf (drop a t)) ≡ wrongFrom 1 (linesOf t) → k + length (linesOf (drop a t)) ≡ length (linesOf t)
     → Surveyed (linesOf t) k 0
-unfolding wrongFrom linesBehind
+unfolding wrongBy linesBehind
 over-done t k a h e f =
     let z : drop a t ≡ [] = drop-of-length-le t h in
     record { wrong = rw z at e; count = λ _. let q : k + 0 ≡ length (linesOf t) = rw z at f in omega arith }
@@ -147,39 +147,39 @@ over-done t k a h e f =
 
 module _ (l : List ℕ) (rest now : List (List ℕ)) (first : now ≡ l ∷ rest) where
   pub words-on : {o : List ℕ} {w : ℕ} (out : List ℕ) (k : ℕ) → w ≡ candidate l → sets out k (wordsOf now) ≡ o → sets (set out k w) (k + 1) (wordsOf rest) ≡ o
-  unfolding wordsOf
+  unfolding wordsBy
   words-on out k f e = rw (add-one k, f) (rw first at e)
 
 pub words-done : {o : List ℕ} (t out : List ℕ) (k a : ℕ) → length t ≤ a → sets out k (wordsOf (linesOf (drop a t))) ≡ o → out ≡ o
-unfolding wordsOf linesBehind
+unfolding wordsBy linesBehind
 words-done t out k a h e = rw (drop-of-length-le t h) at e
 
-words-length : (ls : List (List ℕ)) → length (wordsOf ls) ≡ length ls
-unfolding wordsOf
-words-length [] = refl
-words-length (l ∷ ls) = ap suc (words-length ls)
+words-length : (f : List ℕ → ℕ) (ls : List (List ℕ)) → length (wordsBy f ls) ≡ length ls
+unfolding wordsBy
+words-length f [] = refl
+words-length f (l ∷ ls) = ap suc (words-length f ls)
 
-pub words-all : {o : List ℕ} (ls : List (List ℕ)) (out : List ℕ) → length ls ≤ length out → o ≡ sets out 0 (wordsOf ls) → o ≡ wordsOf ls ++ drop (length ls) out
-words-all ls out h e =
-    let n = words-length ls in
-    let z : 0 + length (wordsOf ls) ≡ length ls = omega arith in
-    let q : sets out 0 (wordsOf ls) ≡ wordsOf ls ++ drop (0 + length (wordsOf ls)) out = sets-eq (wordsOf ls) out 0 (omega arith) in
+pub words-all : {o : List ℕ} (f : List ℕ → ℕ) (ls : List (List ℕ)) (out : List ℕ) → length ls ≤ length out → o ≡ sets out 0 (wordsBy f ls) → o ≡ wordsBy f ls ++ drop (length ls) out
+words-all f ls out h e =
+    let n = words-length f ls in
+    let z : 0 + length (wordsBy f ls) ≡ length ls = omega arith in
+    let q : sets out 0 (wordsBy f ls) ≡ wordsBy f ls ++ drop (0 + length (wordsBy f ls)) out = sets-eq (wordsBy f ls) out 0 (omega arith) in
     e ∙ q ∙ rw z
 
 -- ---- the call
 
 module _ (t out : List ℕ) {n w : ℕ} (s : Surveyed (linesOf t) n w) where
   pub assembled-wrong : (w ≡ 0 → ⊥) → answer 18 w 0 out ≡ assembled t out
-  unfolding assembled
+  unfolding readBy
   assembled-wrong z = rw (← (s .wrong), ne-eqb w 0 z)
 
   module _ (z : w ≡ 0) where
     pub assembled-short : length out < n → answer 13 0 0 out ≡ assembled t out
-    unfolding assembled
+    unfolding readBy
     assembled-short h = rw (← (s .wrong), eq-eqb w 0 z, ← (s .count z), lt-ltb (length out) n h)
 
     pub assembled-done : {o : List ℕ} → n ≤ length out → o ≡ wordsOf (linesOf t) ++ drop (length (linesOf t)) out → answer 0 0 n o ≡ assembled t out
-    unfolding assembled
+    unfolding readBy
     assembled-done h e = let q : n ≡ length (linesOf t) = s .count z in rw (← (s .wrong), eq-eqb w 0 z, ← q, le-ltb (length out) n h) (rw (e, ← q))
 
     pub assembled-room : n ≤ length out → length (linesOf t) ≤ length out

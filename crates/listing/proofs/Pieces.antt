@@ -10,11 +10,11 @@ use borrow.Author.Tests.{eq-eqb, ne-eqb, lt-ltb, le-ltb, le-leb, lt-leb}
 use lib.Dec.{eqb, ltb}
 use lib.ListN.{length, getD, take, drop, drop-of-length-le, length-append}
 use lib.Seq.{drop-cons, take-at}
-use Rattle.decimal.specs.Decimals.{decimal}
+use Rattle.decimal.specs.Decimals.{decimal, signedText}
 use Rattle.decimal.specs.Texts.{Text, text, put, same}
 use Rattle.decimal.proofs.Texts.{put-behind, exactly, whole}
 use Rattle.lines.specs.Table.{Style, absent, number, register, signed, styleNumber, operandAt, Row, named, rowAt}
-use Rattle.lines.specs.Lines.{signedText, written, fieldOf, operandText, textBy, codeOf, bareOf, placed, made, remade, within, fits, coded, placeOf, lineOf, scanned, scanFrom, start, lettered, lastOf, candidateBy, candidate, right}
+use Rattle.lines.specs.Lines.{written, fieldOf, operandText, textBy, codeOf, bareOf, placed, made, remade, within, fits, coded, placeOf, lineOf, scanned, scanFrom, start, lettered, lastOf, candidateBy, candidate, right}
 use Rattle.lines.specs.declared.Scan.{Scan}
 use Rattle.lines.proofs.Tables.{size-some, field-word}
 use Rattle.lines.proofs.Lines.{coded-bound, field-below, line-short}
@@ -87,15 +87,6 @@ module _ (w : ℕ) {row code : ℕ} {b : Bool} (e : row ≡ coded code) (q : cod
   place-unnamed t = (rw (← fits-code, t), omega arith)
 
 -- ---- text
-
-module _ (m v : ℕ) (t : Text) {t′ : Text} where
-  pub signed-low : v < m / 2 → t′ ≡ put t (decimal v) → t′ ≡ put t (signedText m v)
-  unfolding signedText
-  signed-low l e = rw (lt-ltb v (m / 2) l, signedText) e
-
-  pub signed-high : {r : ℕ} {o : List ℕ} → m / 2 ≤ v → text o r ≡ put t (45 ∷ []) → t′ ≡ put (text o r) (decimal (m - v)) → t′ ≡ put t (signedText m v)
-  unfolding signedText
-  signed-high l e f = rw (le-ltb v (m / 2) l, signedText) (put-behind t (45 ∷ []) (decimal (m - v)) e f)
 
 -- what is written, by the number of the style
 module _ (m v : ℕ) where

@@ -2,7 +2,7 @@
 ghost use mathlib.Core.Path.{_≡_};
 ghost use Prim.Native.Nat.{_/_, _^_, _<_, _≤_};
 ghost use Rattle.lines.specs.Table.{operandAt, rowAt};
-ghost use Rattle.lines.specs.Lines.{signedText, operandText, fieldOf, codeOf, bareOf, placed, made, remade, within, fits, placeOf, lineOf};
+ghost use Rattle.lines.specs.Lines.{operandText, fieldOf, codeOf, bareOf, placed, made, remade, within, fits, placeOf, lineOf};
 ghost use Rattle.decimal.specs.Texts.{text, put};
 use crate::table::code_of;
 use crate::table::first_of;
@@ -16,6 +16,7 @@ use crate::table::style_of;
 use crate::table::third_of;
 use decimal::put_byte;
 use decimal::put_decimal;
+use decimal::put_signed;
 
 // The longest line of a word has at most so many bytes.
 pub const LONGEST: usize = 42;
@@ -120,18 +121,6 @@ fn place_of(w: u32) -> usize
 }
 
 // ---- text
-
-// An operand that has a sign, of so many values.
-fn put_signed(out: &mut [u8], at: usize, size: u64, v: u64) -> usize
-    requires { ⌜ v < size ⌝ }
-    ensures { λ r. ⌜ text (now (out .exit)) r ≡ put (text (now (out .entry)) at) (signedText size v) ⌝ }
-{
-    if v < size / 2 {
-        return put_decimal(out, at, v);
-    }
-    let digits = put_byte(out, at, 45);
-    put_decimal(out, digits, size - v)
-}
 
 fn put_operand(out: &mut [u8], at: usize, kind: u32, w: u32) -> usize
     ensures { λ r. ⌜ text (now (out .exit)) r ≡ put (text (now (out .entry)) at) (operandText kind w) ⌝ }

@@ -1,3 +1,0 @@
-pub mod Checked
-pub mod Pieces
-pub mod Whole

@@ -1,0 +1,5 @@
+pub mod Back
+pub mod Checked
+pub mod Said
+pub mod Pieces
+pub mod Whole

@@ -1,0 +1,41 @@
+use Rattle.texts.proofs.Pieces.{took-wrong, took-end, took-more}
+use borrow.Author.Needs.{needs}
+use Rattle.texts.proofs.reading.took.Statement.{statement}
+use Rattle.texts.proofs.reading.took.Tie as tie
+
+returns : tie.Need-returns
+returns c = (took-wrong (c .before .before .before .before .args .decimals) _ (c .before .before .before .before .args .b) (c .if1 .taken), c .before .before .before .before .pre)
+
+ended-requires : tie.Need-ended-requires
+ended-requires c κs = search needs
+
+same-length : tie.Need-same-length
+same-length c = search needs
+
+same-length-2 : tie.Need-same-length-2
+same-length-2 c = search needs
+
+returns-2 : tie.Need-returns-2
+returns-2 c = (took-end (c .before .before .before .before .before .before .before .before .before .before .args .decimals) _ (c .before .before .before .before .before .before .before .before .before .before .args .b) (c .before .before .before .before .before .before .if1 .left) (c .before .before .before .before .before .if2 .taken) (c .before .before .ended .ensures .0), c .before .before .ended .ensures .1)
+
+longer-requires : tie.Need-longer-requires
+longer-requires c κs = search needs
+
+same-length-3 : tie.Need-same-length-3
+same-length-3 c = search needs
+
+returns-3 : tie.Need-returns-3
+returns-3 c = (took-more (c .before .before .before .before .before .before .before .before .before .args .decimals) _ (c .before .before .before .before .before .before .before .before .before .args .b) (c .before .before .before .before .before .if1 .left) (c .before .before .before .before .if2 .left) (c .before .before .longer .ensures .0 (c .before .before .before .before .before .before .before .before .before .args .words .now)), c .before .before .longer .ensures .1)
+
+pub took-spec : {M : Type 1} → statement M
+took-spec =
+    tie.close
+    (tie.spec
+    returns
+    ended-requires
+    same-length
+    same-length-2
+    returns-2
+    longer-requires
+    same-length-3
+    returns-3)

@@ -1,0 +1,69 @@
+// What a line is: a word in decimals, or an instruction of a listing.
+ghost use mathlib.Core.Path.{_≡_};
+ghost use Prim.Native.Nat.{_^_, _<_, _≤_};
+ghost use Rattle.texts.specs.Numbers.{negated, wordSaid, rightBy, wordBy};
+use command::Number;
+use command::number_in;
+use listing::reading::candidate;
+use listing::reading::right;
+
+// The word of the number with a minus before it.
+fn negated(n: Number) -> Number
+    requires { ⌜ n .value ≤ 2 ^ 31 ⌝ }
+    ensures { λ r. ⌜ r ≡ negated n ⌝ }
+    ensures { λ r. ⌜ r .value < 2 ^ 32 ⌝ }
+{
+    if !n.said {
+        return Number {
+            said: false,
+            value: 0,
+        };
+    }
+    Number {
+        said: true,
+        value: (4294967296 - n.value) % 4294967296,
+    }
+}
+
+// The word that a line says in decimals, if it says one.
+pub fn word_in(line: &[u8]) -> Number
+    ensures { λ r. ⌜ r ≡ wordSaid (now (line .entry)) ⌝ }
+    ensures { λ r. ⌜ r .value < 2 ^ 32 ⌝ }
+{
+    let n = line.len();
+    if n == 0 {
+        return Number {
+            said: false,
+            value: 0,
+        };
+    }
+    if line[0] == 45 {
+        return negated(number_in(&line[1..n], 2147483648));
+    }
+    number_in(line, 4294967295)
+}
+
+// The line is right: it has at most 80 bytes, and is one of those that are asked for.
+pub fn right_by(decimals: bool, line: &[u8]) -> bool
+    ensures { λ r. ⌜ r ≡ rightBy decimals (now (line .entry)) ⌝ }
+{
+    if !decimals {
+        return right(line);
+    }
+    if line.len() > 80 {
+        return false;
+    }
+    let n = word_in(line);
+    n.said
+}
+
+// Its word, where it is right.
+pub fn word_by(decimals: bool, line: &[u8]) -> u32
+    ensures { λ r. ⌜ r ≡ wordBy decimals (now (line .entry)) ⌝ }
+{
+    if !decimals {
+        return candidate(line);
+    }
+    let n = word_in(line);
+    n.value as u32
+}
