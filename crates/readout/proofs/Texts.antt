@@ -22,7 +22,7 @@ use Rattle.housefile.specs.Records.{number}
 use Rattle.decimal.specs.Raw.{lowFirst}
 use Rattle.report.specs.Put.{put}
 use Rattle.report.specs.Report.{refusedText}
-use Rattle.readout.specs.Printed.{wordText, wordsText, wordsFrom, readText, noWords, printed, ToldBehind}
+use Rattle.readout.specs.Printed.{wordText, wordsText, wordsFrom, refusedOut, readText, noWords, printed, readRefusal, refusalOf, ToldBehind}
 use Rattle.night_run.specs.Ran.{eitherFile, Told}
 use Rattle.night_run.specs.declared.input.Taken.{Taken}
 use Rattle.decimal.specs.Texts.{joined}
@@ -40,25 +40,25 @@ joined-from f a (suc n) =
     let e : a + suc n ≡ suc (a + n) = omega arith in
     rw e (ap (λ (l : List ℕ). l ++ f (a + n)) (joined-from f a n) ∙ append-assoc (joined f a) (joined (λ i. f (a + i)) n) (f (a + n)))
 
-pub pieces-are : (raw : Bool) (words : List ℕ) (from n rest : ℕ)
-    → wordsText raw words (from + n + rest) ≡ wordsText raw words from ++ (wordsFrom raw words from n ++ wordsFrom raw words (from + n) rest)
+pub pieces-are : (want : Want) (words : List ℕ) (from n rest : ℕ)
+    → wordsText want words (from + n + rest) ≡ wordsText want words from ++ (wordsFrom want words from n ++ wordsFrom want words (from + n) rest)
 unfolding wordsText wordsFrom
-pieces-are raw words from n rest =
-    let f : ℕ → List ℕ = λ i. wordText raw (getD words i 0) in
+pieces-are want words from n rest =
+    let f : ℕ → List ℕ = λ i. wordText want (getD words i 0) in
     joined-from f (from + n) rest
     ∙ ap (λ (l : List ℕ). l ++ joined (λ i. f (from + n + i)) rest) (joined-from f from n)
     ∙ append-assoc (joined f from) (joined (λ i. f (from + i)) n) (joined (λ i. f (from + n + i)) rest)
 
 -- n words behind so many that are printed
 pub behind-told : (want : Want) (t : Taken) (words : List ℕ) (from at n count : ℕ) (piece : List ℕ) → at ≡ from → from + n ≤ count → count ≤ 262144
-    → Told eitherFile (printed want) t (wordsText (want .raw) words count) → piece ≡ wordsFrom (want .raw) words at n → ToldBehind want t from n piece
+    → Told eitherFile (printed want) t (wordsText want words count) → piece ≡ wordsFrom want words at n → ToldBehind want t from n piece
 behind-told want t words from at n count piece e l m h p = record {
   words = words;
   count = count;
   fits = l;
   most = m;
   text = h;
-  part = p ∙ ap (λ (k : ℕ). wordsFrom (want .raw) words k n) e;
+  part = p ∙ ap (λ (k : ℕ). wordsFrom want words k n) e;
 }
 
 -- while a piece is to come, and where none is
@@ -76,6 +76,9 @@ all-shown k count failed r e t f =
 
 -- ---- the read-out
 
+pub not-12 : (n : ℕ) → n ≡ 12 → n ≡ 0 → ⊥
+not-12 n e z = omega arith
+
 -- one that is done has room for its words
 abbrev Roomy : List ℕ → ℕ → Verdict → Type 0
 Roomy out count v = v .number ≡ 0 → count ≤ length out
@@ -89,6 +92,21 @@ done-roomy w i a count out =
     either (Roomy out count) (beyondOf (pagesOf (w .house) i) a count) (λ _ e. absurd (omega arith)) λ _.
     either (Roomy out count) (ltb (length out) count) (λ _ e. absurd (omega arith)) λ t e.
     ltb-false (length out) count t
+
+abbrev Told12 : ℕ → Verdict → Type 0
+Told12 i v = v .number ≡ 12 → i < 8
+
+there-12 : (w : World) (i a count : ℕ) (out : List ℕ) → Told12 i (readVerdict w i a count out)
+unfolding readVerdict firstOf
+there-12 w i a count out =
+    let h = w .house in
+    either (Told12 i) (damaged h) (λ _ e. absurd (omega arith)) λ d.
+    either (Told12 i) (not (eqb (length (w .memory)) (h .words))) (λ _ e. absurd (omega arith)) λ _.
+    either (Told12 i) (leb (h .count) i) (λ _ e. absurd (omega arith)) λ k.
+    either (Told12 i) (beyondOf (pagesOf h i) a count)
+    (λ _ e. omega (arith, leb-false (h .count) i k, undamaged-gives h d .few))
+    (λ _.
+    either (Told12 i) (ltb (length out) count) (λ _ e. absurd (omega arith)) (λ _ e. absurd (omega arith)))
 
 -- The refusal 13, an output that is too short, never comes: the output holds the largest partition.
 abbrev NotShort : Verdict → Type 0
@@ -115,11 +133,20 @@ never-short w i a count out l =
     (λ _ e. omega arith)
 
 module _ (want : Want) (w : World) (out : List ℕ) (n d : ℕ) (h : House) (o : List ℕ) (e : read (verdict n d) h o ≡ readCall w (want .partition) (want .address) (want .count) out) where
-  pub read-refused : (n ≡ 0 → ⊥) → refusedText n d ≡ readText want w out
+  pub read-refused : (n ≡ 0 → ⊥) → refusedOut want (verdict n d) ≡ readText want w out
   unfolding readText
   read-refused z = sym (rw (← e, ne-eqb n 0 z))
 
-  pub read-done : n ≡ 0 → wordsText (want .raw) o (want .count) ≡ readText want w out
+  pub read-told : (n ≡ 0 → ⊥) → refusedText n d ≡ readRefusal want w out
+  unfolding readRefusal
+  read-told z = sym (rw (← e, ne-eqb n 0 z))
+
+  -- 12 tells of a partition that is there
+  pub read-there : n ≡ 12 → want .partition < 8
+  unfolding readCall
+  read-there z = subst (λ (r : Read). Told12 (want .partition) (r .verdict)) (sym e) (there-12 w (want .partition) (want .address) (want .count) out) z
+
+  pub read-done : n ≡ 0 → wordsText want o (want .count) ≡ readText want w out
   unfolding readText
   read-done z = sym (rw (← e, eq-eqb n 0 z))
 
@@ -129,13 +156,26 @@ module _ (want : Want) (w : World) (out : List ℕ) (n d : ℕ) (h : House) (o :
       let v : Roomy out (want .count) (verdict n d) = subst (λ (r : Read). Roomy out (want .count) (r .verdict)) (sym e) (done-roomy w (want .partition) (want .address) (want .count) out) in
       omega (arith, l, v z)
 
-pub text-refused : (want : Want) (n d : ℕ) (w : World) → (n ≡ 0 → ⊥) → refusedText n d ≡ printed want (answered (verdict n d) w)
+pub text-refused : (want : Want) (n d : ℕ) (w : World) → (n ≡ 0 → ⊥) → refusedOut want (verdict n d) ≡ printed want (answered (verdict n d) w)
 unfolding printed
 text-refused want n d w z = rw (ne-eqb n 0 z)
+
+pub text-told : (want : Want) (n d : ℕ) (w : World) → (n ≡ 0 → ⊥) → refusedText n d ≡ refusalOf want (answered (verdict n d) w)
+unfolding refusalOf
+text-told want n d w z = rw (ne-eqb n 0 z)
+
+-- where no raw words are asked for the refusal is printed
+pub text-shown : (want : Want) (n d : ℕ) → want .raw ≡ false → refusedOut want (verdict n d) ≡ refusedText n d
+unfolding refusedOut
+text-shown want n d e = rw e
 
 pub text-done : (want : Want) (n d : ℕ) (w : World) → n ≡ 0 → readText want w (replicate 262144 0) ≡ printed want (answered (verdict n d) w)
 unfolding printed noWords
 text-done want n d w z = sym (rw (eq-eqb n 0 z))
+
+pub text-read : (want : Want) (n d : ℕ) (w : World) → n ≡ 0 → readRefusal want w (replicate 262144 0) ≡ refusalOf want (answered (verdict n d) w)
+unfolding refusalOf noWords
+text-read want n d w z = sym (rw (eq-eqb n 0 z))
 
 -- raw words are little-endian: the house file's reading gives them back
 pub raw-reads : (w : ℕ) → w < 2 ^ 32 → number (lowFirst w) ≡ w

@@ -1,18 +1,19 @@
-// readout FILE PARTITION ADDRESS COUNT [raw]: reads a house file, boots and runs its house as night does, and prints COUNT words of one partition's pages, from
-// the untranslated guest byte address ADDRESS on: in decimals, one to a line, or raw, four bytes each, the lowest first. Or `refused N D`. Of a saved file it
-// prints the words that were saved, and runs nothing.
+// readout FILE PARTITION ADDRESS COUNT [raw | signed]: reads a house file, boots and runs its house as night does, and prints COUNT words of one partition's pages, from
+// the untranslated guest byte address ADDRESS on: in decimals, one to a line, as two's complement numbers where that is asked for, or raw, four bytes each, the lowest
+// first. Or `refused N D`, on standard error alone where raw words are asked for. Of a saved file it prints the words that were saved, and runs nothing.
 mod shown;
 mod words;
 
 ghost use mathlib.Core.Path.{_≡_};
 ghost use mathlib.Core.Bool.{false};
-ghost use Prim.Native.Nat.{_+_, _<_, _≤_};
+ghost use Prim.Native.Nat.{_+_, _%_, _<_, _≤_};
+ghost use Rattle.house.specs.House.{pagesOf};
 ghost use Rattle.house.specs.Boot.{verdict};
 ghost use Rattle.house.specs.Turns.{world};
 ghost use Rattle.house.specs.Calls.{answered};
 ghost use Rattle.report.specs.Report.{refusedText};
 ghost use Rattle.night_run.specs.Ran.{noFrames, eitherFile, Told};
-ghost use Rattle.readout.specs.Printed.{wordsText, readText, printed};
+ghost use Rattle.readout.specs.Printed.{wordsText, refusedOut, readText, printed, readRefusal, refusalOf};
 use command::Number;
 use command::asks_help;
 use command::fail;
@@ -20,6 +21,7 @@ use command::number_in;
 use command::open;
 use command::wrong;
 use decimal::is;
+use dlx::words::wide;
 use house::House;
 use hypervisor::calls::read_out;
 use libc::STDERR_FILENO;
@@ -40,6 +42,7 @@ pub struct Want {
     pub address: u32,
     pub count: u64,
     pub raw: bool,
+    pub signed: bool,
 }
 
 // The memory that is lent to a file.
@@ -47,8 +50,10 @@ const LENT: usize = night_run::WORDS;
 
 // ---- what is printed
 
-// Says a refusal on standard error too: raw words are told from one by it.
-fn say(number: u32, detail: u64) {
+// Says a refusal on standard error, where raw words are asked for: the refusal of the file that was read, or of the read-out.
+fn say(t: Taken, w: Want, number: u32, detail: u64)
+    requires { ⌜ Told eitherFile (refusalOf w) t (refusedText number detail) ⌝ }
+{
     io::write_all(STDERR_FILENO, b"refused: ");
     io::print_decimal(STDERR_FILENO, number as u64);
     io::write_all(STDERR_FILENO, b" ");
@@ -65,25 +70,71 @@ fn show_refusal(t: Taken, w: Want, text: &[u8])
     }
 }
 
-// Prints a refusal.
+// Prints a refusal, or says it.
 fn tell_refusal(t: Taken, w: Want, number: u32, detail: u64)
-    requires { ⌜ Told eitherFile (printed w) t (refusedText number detail) ⌝ }
+    requires { ⌜ Told eitherFile (printed w) t (refusedOut w (verdict number detail)) ⌝ ∗ ⌜ Told eitherFile (refusalOf w) t (refusedText number detail) ⌝ }
 {
     if w.raw {
-        say(number, detail);
+        say(t, w, number, detail);
+        return;
     }
     let mut out = [0u8; 1024];
     let n = refused(number, detail, &mut out);
     show_refusal(t, w, &out[..n]);
 }
 
+// ---- which of its two reasons 12 has, on standard error
+
+fn say_odd(address: u32)
+    requires { ⌜ (address % 4 ≡ 0 → ⊥) ⌝ }
+{
+    io::write_all(STDERR_FILENO, b"the address is not a multiple of 4\n");
+}
+
+fn say_pages(house: House, i: u32, address: u32, pages: u32)
+    requires { ⌜ address % 4 ≡ 0 ⌝ ∗ ⌜ pages ≡ pagesOf house i ⌝ }
+{
+    io::write_all(STDERR_FILENO, b"the partition has ");
+    io::print_decimal(STDERR_FILENO, pages as u64);
+    io::write_all(STDERR_FILENO, b" page");
+    if pages != 1 {
+        io::write_all(STDERR_FILENO, b"s");
+    }
+    io::write_all(STDERR_FILENO, b": addresses below ");
+    io::print_decimal(STDERR_FILENO, 4096 * pages as u64);
+    io::write_all(STDERR_FILENO, b"\n");
+}
+
+fn pages_of(house: House, i: u32) -> u32
+    requires { ⌜ i < 8 ⌝ }
+    ensures { λ r. ⌜ r ≡ pagesOf house i ⌝ }
+{
+    let parts = house.parts;
+    let p = parts[wide(i)];
+    return p.pages;
+}
+
+fn tell_reason(w: Want, house: House)
+    requires { ⌜ w .partition < 8 ⌝ }
+{
+    let address = w.address;
+    let i = w.partition;
+    if address % 4 != 0 {
+        say_odd(address);
+        return;
+    }
+    say_pages(house, i, address, pages_of(house, i));
+}
+
+// ---- the words
+
 // Prints n of the words, those behind the ones that are printed.
 fn show_words(t: Taken, w: Want, words: &[u32; WORDS], s: Shown, n: usize, count: usize) -> Shown
-    requires { ⌜ s .words + n ≤ count ⌝ ∗ ⌜ n ≤ 4096 ⌝ ∗ ⌜ count ≤ 262144 ⌝ ∗ ⌜ Told eitherFile (printed w) t (wordsText (w .raw) (now words) count) ⌝ }
+    requires { ⌜ s .words + n ≤ count ⌝ ∗ ⌜ n ≤ 4096 ⌝ ∗ ⌜ count ≤ 262144 ⌝ ∗ ⌜ Told eitherFile (printed w) t (wordsText w (now words) count) ⌝ }
     ensures { λ r. ⌜ r .words ≡ s .words + n ⌝ }
 {
     let mut out = [0u8; ROOM];
-    let k = put_words(words, s.words(), n, w.raw, &mut out);
+    let k = put_words(words, s.words(), n, w, &mut out);
     show(s, t, w, n, &out[..k])
 }
 
@@ -99,7 +150,7 @@ fn least(a: usize, b: usize) -> usize
 
 // Prints the words, piece by piece: all of them, but where a write fails.
 fn tell_words(t: Taken, w: Want, words: &[u32; WORDS], count: usize) -> Shown
-    requires { ⌜ count ≤ 262144 ⌝ ∗ ⌜ Told eitherFile (printed w) t (wordsText (w .raw) (now words) count) ⌝ }
+    requires { ⌜ count ≤ 262144 ⌝ ∗ ⌜ Told eitherFile (printed w) t (wordsText w (now words) count) ⌝ }
     ensures { λ r. ⌜ (r .failed ≡ false → r .words ≡ count) ⌝ }
 {
     let mut s = Shown::none();
@@ -112,9 +163,14 @@ fn tell_words(t: Taken, w: Want, words: &[u32; WORDS], count: usize) -> Shown
 
 // Reads the words of the house out over these zeros, and prints them.
 fn tell_read(t: Taken, w: Want, house: House, memory: &[u32], words: &mut [u32; WORDS])
-    requires { ⌜ Told eitherFile (printed w) t (readText w (world house (now memory)) (now words)) ⌝ }
+    requires { ⌜ Told eitherFile (printed w) t (readText w (world house (now memory)) (now words)) ⌝ ∗ ⌜ Told eitherFile (refusalOf w) t (readRefusal w (world house (now memory)) (now words)) ⌝ }
 {
     let a = read_out(house, memory, w.partition, w.address, w.count, words);
+    if a.number == 12 {
+        tell_refusal(t, w, a.number, a.detail);
+        tell_reason(w, house);
+        return;
+    }
     if a.number != 0 {
         tell_refusal(t, w, a.number, a.detail);
         return;
@@ -124,7 +180,7 @@ fn tell_read(t: Taken, w: Want, house: House, memory: &[u32], words: &mut [u32; 
 
 // Prints the text for an answer.
 fn tell(t: Taken, w: Want, number: u32, detail: u64, house: House, memory: &[u32])
-    requires { ⌜ Told eitherFile (printed w) t (printed w (answered (verdict number detail) (world house (now memory)))) ⌝ }
+    requires { ⌜ Told eitherFile (printed w) t (printed w (answered (verdict number detail) (world house (now memory)))) ⌝ ∗ ⌜ Told eitherFile (refusalOf w) t (refusalOf w (answered (verdict number detail) (world house (now memory)))) ⌝ }
 {
     if number != 0 {
         tell_refusal(t, w, number, detail);
@@ -153,15 +209,15 @@ fn readout(fd: i32, name: &[u8], w: Want) {
 fn help() {
     io::write_all(
         STDOUT_FILENO,
-        b"readout FILE PARTITION ADDRESS COUNT [raw]: reads a house file (- for standard input), boots and runs its house, or reads a saved file, and prints COUNT words of a\n",
+        b"readout FILE PARTITION ADDRESS COUNT [raw | signed]: reads a house file (- for standard input), boots and runs its house, or reads a saved file, and prints COUNT words of a\n",
     );
     io::write_all(
         STDOUT_FILENO,
-        b"partition's pages from a byte address on, in decimals, one to a line, or raw, four bytes each, the lowest first;\n",
+        b"partition's pages from a byte address on, in decimals, one to a line, with a minus where bit 31 is set and signed is asked for, or raw, four bytes each, the lowest first;\n",
     );
     io::write_all(
         STDOUT_FILENO,
-        b"or `refused N D`: docs/FILES.md and docs/CALLS.md tell what it means\n",
+        b"or `refused N D`, on standard error where raw words are asked for: docs/FILES.md and docs/CALLS.md tell what it means\n",
     );
 }
 
@@ -179,10 +235,11 @@ fn number_at(i: usize, expected: &[u8], most: u64) -> Number
     n
 }
 
-// The words' form: in decimals, or raw where the fifth word says so.
+// The words' form: in decimals, or as the fifth word says.
 struct Form {
     said: bool,
     raw: bool,
+    signed: bool,
 }
 
 // The form that the fifth word asks for, if there is one. Where it asks for none, that is told.
@@ -191,6 +248,7 @@ fn asked_form(given: usize) -> Form {
         return Form {
             said: true,
             raw: false,
+            signed: false,
         };
     }
     let mut word = io::buffer();
@@ -199,12 +257,21 @@ fn asked_form(given: usize) -> Form {
         return Form {
             said: true,
             raw: true,
+            signed: false,
         };
     }
-    wrong(b"nothing behind COUNT, or raw", &word[..length]);
+    if is(&word[..length], b"signed") {
+        return Form {
+            said: true,
+            raw: false,
+            signed: true,
+        };
+    }
+    wrong(b"nothing behind COUNT, raw or signed", &word[..length]);
     Form {
         said: false,
         raw: false,
+        signed: false,
     }
 }
 
@@ -246,6 +313,7 @@ fn with_words(path: &[u8], given: usize) {
         address: a,
         count: count.value,
         raw: f.raw,
+        signed: f.signed,
     };
     open_and_read(path, w);
 }
@@ -259,11 +327,17 @@ fn main() {
     }
     let given = os::arg_count();
     if given < 5 {
-        wrong(b"FILE PARTITION ADDRESS COUNT [raw]", b"fewer words");
+        wrong(
+            b"FILE PARTITION ADDRESS COUNT [raw | signed]",
+            b"fewer words",
+        );
         return;
     }
     if given > 6 {
-        wrong(b"FILE PARTITION ADDRESS COUNT [raw]", b"more words");
+        wrong(
+            b"FILE PARTITION ADDRESS COUNT [raw | signed]",
+            b"more words",
+        );
         return;
     }
     with_words(&path[..length], given);

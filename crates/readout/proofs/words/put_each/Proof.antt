@@ -10,13 +10,13 @@ use Rattle.readout.proofs.words.put_each.Statement.{statement}
 use Rattle.readout.proofs.words.put_each.Tie as tie
 
 abbrev Inv-loop : tie.InvT-loop
-Inv-loop words from n raw out₀ end₀ i₀ out end i = Puts out₀ 0 out end (joined (λ k. wordText raw (getD words (from + k) 0)) i) (11 * i) × (i ≤ n) × (length out ≡ length out₀)
+Inv-loop words from n want out₀ end₀ i₀ out end i = Puts out₀ 0 out end (joined (λ k. wordText want (getD words (from + k) 0)) i) (12 * i) × (i ≤ n) × (length out ≡ length out₀)
 
 abbrev μ-loop : tie.MeasureT-loop
-μ-loop words from n raw out₀ end₀ i₀ out end i = n - i
+μ-loop words from n want out₀ end₀ i₀ out end i = n - i
 
 loop-holds : tie.Need-loop-holds Inv-loop μ-loop
-loop-holds c = (parts-begin _ 11, omega arith, refl)
+loop-holds c = (parts-begin _ 12, omega arith, refl)
 
 add-put-one : tie.Need-add-put-one Inv-loop μ-loop
 add-put-one c = omega (arith, c .before .before .before .before .pre)
@@ -37,14 +37,14 @@ loop-less : tie.Need-loop-less Inv-loop μ-loop
 loop-less c = omega arith
 
 loop-again : tie.Need-loop-again Inv-loop μ-loop
-loop-again c = let l = c .before .before .before .before .before .before .loop in let a = c .before .before .before .before .before .before .before .before .args in (parts-on (λ (k : ℕ). wordText (a .raw) (getD (a .words .now) (a .from + k) 0)) 11 (l .i) (l .inv .0) (c .before .before .put-one .ensures), omega arith, omega (arith, l .inv .2, c .before .before .put-one .kept))
+loop-again c = let l = c .before .before .before .before .before .before .loop in let a = c .before .before .before .before .before .before .before .before .args in (parts-on (λ (k : ℕ). wordText (a .want) (getD (a .words .now) (a .from + k) 0)) 12 (l .i) (l .inv .0) (c .before .before .put-one .ensures), omega arith, omega (arith, l .inv .2, c .before .before .put-one .kept))
 
 same-length : tie.Need-same-length Inv-loop μ-loop
 same-length c = search needs
 
 returns : tie.Need-returns Inv-loop μ-loop
 unfolding wordsFrom
-returns c = parts-end _ 11 (c .before .loop .i) (c .before .before .before .args .n) (c .before .loop .inv .1) (c .loop-test .left) (c .before .loop .inv .0)
+returns c = parts-end _ 12 (c .before .loop .i) (c .before .before .before .args .n) (c .before .loop .inv .1) (c .loop-test .left) (c .before .loop .inv .0)
 
 pub put-each-spec : {M : Type 1} → statement M
 put-each-spec =

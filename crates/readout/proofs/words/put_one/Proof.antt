@@ -13,19 +13,38 @@ same-length c = search needs
 
 returns : tie.Need-returns
 unfolding wordText
-returns c = rw (c .before .before .before .before .if1 .taken) (roomy 11 (c .before .before .put-raw .ensures) (omega arith))
+returns c = rw (c .before .before .before .before .if1 .taken) (roomy 12 (c .before .before .put-raw .ensures) (omega arith))
 
-put-word-requires : tie.Need-put-word-requires
-put-word-requires c κs = search needs
+put-with-sign-requires : tie.Need-put-with-sign-requires
+put-with-sign-requires c κs = search needs
 
 same-length-2 : tie.Need-same-length-2
 same-length-2 c = search needs
 
 returns-2 : tie.Need-returns-2
 unfolding wordText
-returns-2 c = rw (c .before .before .before .before .if1 .left) (c .before .before .put-word .ensures)
+returns-2 c = rw (c .before .before .before .before .before .if1 .left, c .before .before .before .before .if2 .taken) (c .before .before .put-with-sign .ensures)
+
+put-word-requires : tie.Need-put-word-requires
+put-word-requires c κs = search needs
+
+same-length-3 : tie.Need-same-length-3
+same-length-3 c = search needs
+
+returns-3 : tie.Need-returns-3
+unfolding wordText
+returns-3 c = rw (c .before .before .before .before .before .if1 .left, c .before .before .before .before .if2 .left) (roomy 12 (c .before .before .put-word .ensures) (omega arith))
 
 pub put-one-spec : {M : Type 1} → statement M
 put-one-spec =
     tie.close
-    (tie.spec put-raw-requires same-length returns put-word-requires same-length-2 returns-2)
+    (tie.spec
+    put-raw-requires
+    same-length
+    returns
+    put-with-sign-requires
+    same-length-2
+    returns-2
+    put-word-requires
+    same-length-3
+    returns-3)

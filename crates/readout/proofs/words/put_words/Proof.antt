@@ -11,7 +11,7 @@ put-each-requires : tie.Need-put-each-requires
 put-each-requires c κs = c .before .pre .0
 
 returns : tie.Need-returns
-returns c = let a = c .before .before .args in let n : length (a .out .now) ≡ 45056 = search (needs, c .before .put-each-arg) in let e = whole-is (c .put-each .ensures) (omega (arith, n, c .before .before .pre .1)) in let t = wordsFrom (a .raw) (a .words .now) (a .from) (a .n) in (put-as t t _ _ _ (e .0 .0) (e .0 .1) refl, e .1)
+returns c = let a = c .before .before .args in let n : length (a .out .now) ≡ 49152 = search (needs, c .before .put-each-arg) in let e = whole-is (c .put-each .ensures) (omega (arith, n, c .before .before .pre .1)) in let t = wordsFrom (a .want) (a .words .now) (a .from) (a .n) in (put-as t t _ _ _ (e .0 .0) (e .0 .1) refl, e .1)
 
 pub put-words-spec : {M : Type 1} → statement M
 put-words-spec =
