@@ -1,5 +1,5 @@
 use mathlib.Core.Path.{refl, sym, _∙_}
-use Rattle.audit.specs.Printed.{printed}
+use Rattle.audit.specs.Printed.{printed, named}
 use lib.Seq.{length-take-le}
 use Rattle.night_run.specs.Ran.{eitherFile, noFrames}
 use Rattle.night_run.proofs.Files.{told-answer}
@@ -27,7 +27,7 @@ slice-aggregate-tell : tie.Need-slice-aggregate-tell
 slice-aggregate-tell c = sym (length-take-le _ _ (c .before .before .before .before .before .read-file .ensures .1))
 
 tell-requires : tie.Need-tell-requires
-tell-requires c κs = told-answer eitherFile printed (c .before .before .before .before .before .read-file .result) _ (c .before .before .before .before .before .read-file .ensures .0) (sym (c .before .before .before .failed .ensures) ∙ c .before .before .if1 .left)
+tell-requires c κs = (told-answer eitherFile printed (c .before .before .before .before .before .read-file .result) _ (c .before .before .before .before .before .read-file .ensures .0) (sym (c .before .before .before .failed .ensures) ∙ c .before .before .if1 .left), told-answer eitherFile named (c .before .before .before .before .before .read-file .result) _ (c .before .before .before .before .before .read-file .ensures .0) (sym (c .before .before .before .failed .ensures) ∙ c .before .before .if1 .left))
 
 returns-2 : tie.Need-returns-2
 returns-2 c = tt

@@ -16,7 +16,10 @@ slice-aggregate-show : tie.Need-slice-aggregate-show
 slice-aggregate-show c = search needs
 
 show-requires : tie.Need-show-requires
-show-requires c κs = subst (Told eitherFile printed (c .before .before .before .before .args .t)) (sym (put-there _ _ _ _ (c .before .text-of .ensures .0))) (c .before .before .before .before .pre)
+show-requires c κs = subst (Told eitherFile printed (c .before .before .before .before .args .t)) (sym (put-there _ _ _ _ (c .before .text-of .ensures .0))) (c .before .before .before .before .pre .0)
+
+name-first-requires : tie.Need-name-first-requires
+name-first-requires c κs = c .before .before .before .before .before .pre .1
 
 returns : tie.Need-returns
 returns c = search needs
@@ -29,4 +32,5 @@ tell-spec =
     array-share-prefix-out
     slice-aggregate-show
     show-requires
+    name-first-requires
     returns)
