@@ -1,4 +1,4 @@
-// readout FILE PARTITION ADDRESS COUNT [raw | signed]: reads a house file, boots and runs its house as night does, and prints COUNT words of one partition's pages, from
+// readout FILE PARTITION ADDRESS COUNT [raw|signed]: reads a house file, boots and runs its house as night does, and prints COUNT words of one partition's pages, from
 // the untranslated guest byte address ADDRESS on: in decimals, one to a line, as two's complement numbers where that is asked for, or raw, four bytes each, the lowest
 // first. Or `refused N D`, on standard error alone where raw words are asked for. Of a saved file it prints the words that were saved, and runs nothing.
 mod shown;
@@ -209,7 +209,7 @@ fn readout(fd: i32, name: &[u8], w: Want) {
 fn help() {
     io::write_all(
         STDOUT_FILENO,
-        b"readout FILE PARTITION ADDRESS COUNT [raw | signed]: reads a house file (- for standard input), boots and runs its house, or reads a saved file, and prints COUNT words of a\n",
+        b"readout FILE PARTITION ADDRESS COUNT [raw|signed]: reads a house file (- for standard input), boots and runs its house, or reads a saved file, and prints COUNT words of a\n",
     );
     io::write_all(
         STDOUT_FILENO,
@@ -327,17 +327,11 @@ fn main() {
     }
     let given = os::arg_count();
     if given < 5 {
-        wrong(
-            b"FILE PARTITION ADDRESS COUNT [raw | signed]",
-            b"fewer words",
-        );
+        wrong(b"FILE PARTITION ADDRESS COUNT [raw|signed]", b"fewer words");
         return;
     }
     if given > 6 {
-        wrong(
-            b"FILE PARTITION ADDRESS COUNT [raw | signed]",
-            b"more words",
-        );
+        wrong(b"FILE PARTITION ADDRESS COUNT [raw|signed]", b"more words");
         return;
     }
     with_words(&path[..length], given);

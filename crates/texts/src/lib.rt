@@ -1,6 +1,6 @@
 // A text in, and the words that its lines are out: raw, four bytes each, the lowest first; or nothing, and `refused: N D` on standard error. A line is an instruction of a
 // listing, or a word in decimals, as is asked for.
-pub mod numbers;
+mod numbers;
 mod reading;
 
 ghost use mathlib.Core.Path.{_≡_};
