@@ -1,18 +1,20 @@
 -- The words that a text in decimals gives, with their signs or without, are the words that were written.
 use mathlib.Core.Path.{_≡_, refl, sym, ap, _∙_}
-use mathlib.Core.Bool.{Bool, true, false, not, _&&_}
-use mathlib.Core.List.{List, [], _∷_, _++_, append-assoc}
+use mathlib.Core.Bool.{Bool, true, false, not, _&&_, _||_}
+use mathlib.Core.List.{List, [], _∷_, _++_, append-nil, append-assoc}
 use Prim.Native.Nat.{ℕ, zero, suc, _+_, _-_, _*_, _/_, _%_, _^_, _<_, _≤_}
 use native.Mathlib.Omega.{arith}
-use borrow.Author.Tests.{eq-eqb, ne-eqb, le-leb, ltb-true, ltb-false}
+use borrow.Author.Tests.{eq-eqb, ne-eqb, le-leb, eqb-true, ltb-true, ltb-false}
 use lib.Dec.{eqb, ltb, leb}
 use lib.ListN.{length}
-use Rattle.dlx.proofs.Tests.{by-test}
+use Rattle.dlx.proofs.Tests.{by-test, and-left}
 use Rattle.decimal.specs.Decimals.{digit, decimal, signedText}
+use Rattle.decimal.specs.Texts.{ascii, same}
+use Rattle.decimal.proofs.Same.{and-right, same-eq}
 use Rattle.decimal.proofs.Decimals.{one-digit, more-digits, few-digits}
 use Rattle.command.specs.Words.{number, withDigit, withDigits, numberOf}
 use Rattle.command.specs.declared.Number.{Number}
-use Rattle.texts.specs.Numbers.{negated, wordSaid, rightBy, wordBy}
+use Rattle.texts.specs.Numbers.{negated, wordSaid, idle, baredFrom, bared}
 
 -- ---- a number in decimals says itself
 
@@ -96,3 +98,26 @@ signed-said w l =
     by-test (ltb w (2 ^ 32 / 2))
     (λ q. rw (q, signedText) (decimal-said w l))
     (λ q. rw (q, signedText) (minus-said w (omega (arith, ltb-false w (2 ^ 32 / 2) q)) l))
+
+-- ---- zeros before a word
+
+idle-said : (k : List ℕ) (b : ℕ) (l : List ℕ) → idle true k b ≡ true → wordSaid (k ++ l) ≡ wordSaid (k ++ (b ∷ l))
+unfolding idle wordSaid numberOf withDigits withDigit negated ascii
+idle-said k b l e =
+    let zero-byte : b ≡ 48 = eqb-true b 48 (and-left (eqb b 48) _ e) in
+    let zeros = and-right (eqb b 48) (same k (48 ∷ []) || same k (45 ∷ 48 ∷ [])) e in
+    by-test (same k (48 ∷ []))
+    (λ q. let z : k ≡ 48 ∷ [] = same-eq k (48 ∷ []) q in rw (z, zero-byte))
+    (λ q. let z : k ≡ 45 ∷ 48 ∷ [] = same-eq k (45 ∷ 48 ∷ []) (rw q at zeros) in rw (z, zero-byte))
+
+from-said : (k l : List ℕ) → wordSaid (baredFrom true k l) ≡ wordSaid (k ++ l)
+unfolding baredFrom
+from-said k [] = ap wordSaid (sym (append-nil k))
+from-said k (b ∷ l) =
+    by-test (idle true k b)
+    (λ q. rw q (from-said k l ∙ idle-said k b l q))
+    (λ q. rw q (from-said (k ++ (b ∷ [])) l ∙ ap wordSaid (append-assoc k (b ∷ []) l)))
+
+-- THEOREM: a line without the zeros before its number says what the line says
+pub bared-said : (l : List ℕ) → wordSaid (bared true l) ≡ wordSaid l
+bared-said l = from-said [] l

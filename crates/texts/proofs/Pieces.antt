@@ -14,7 +14,7 @@ use Rattle.decimal.specs.Raw.{lowFirst, raw}
 use Rattle.decimal.specs.Texts.{Text, text, put}
 use Rattle.decimal.proofs.Texts.{put-behind, exactly, whole}
 use Rattle.lines.specs.Listings.{Answer, answer}
-use Rattle.texts.specs.Numbers.{rightBy, wordBy}
+use Rattle.texts.specs.Numbers.{idle, rightBy, wordBy}
 use Rattle.texts.specs.Reading.{noWords, Going, going, start, held, Fits, longer, ended, took, fed, finished, answerOf, Behind, Whole, wordsOf, Told}
 use Rattle.texts.specs.declared.reading.At.{At}
 use Rattle.texts.proofs.Whole.{read-whole}
@@ -70,9 +70,14 @@ module _ (d : Bool) (g : Going) (b : ℕ) where
     unfolding took
     took-end n e = rw (eq-eqb (g .wrong) 0 z, eq-eqb b 10 n) e
 
-    pub took-more : {x : Going} → (b ≡ 10 → ⊥) → x ≡ longer g b → x ≡ took d g b
-    unfolding took
-    took-more n e = rw (eq-eqb (g .wrong) 0 z, ne-eqb b 10 n) e
+    module _ (n : b ≡ 10 → ⊥) {r : Bool} (q : r ≡ idle d (g .line) b) where
+      pub took-idle : r ≡ true → g ≡ took d g b
+      unfolding took
+      took-idle t = rw (eq-eqb (g .wrong) 0 z, ne-eqb b 10 n, ← q, t)
+
+      pub took-more : {x : Going} → r ≡ false → x ≡ longer g b → x ≡ took d g b
+      unfolding took
+      took-more f e = rw (eq-eqb (g .wrong) 0 z, ne-eqb b 10 n, ← q, f) e
 
 -- ---- a piece: what is left from here is what was to do from the start
 

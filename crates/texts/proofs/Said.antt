@@ -1,6 +1,6 @@
 -- What a line is, as laws over plain variables.
 use mathlib.Core.Path.{_≡_, refl, ap, _∙_}
-use mathlib.Core.Bool.{Bool, true, false, _&&_}
+use mathlib.Core.Bool.{Bool, true, false, _&&_, _||_}
 use mathlib.Core.List.{List, [], _∷_}
 use Prim.Native.Nat.{ℕ, suc, _-_, _%_, _^_, _<_, _≤_}
 use native.Mathlib.Omega.{arith}
@@ -8,10 +8,11 @@ use borrow.Author.Tests.{eq-eqb, ne-eqb, lt-leb, le-leb}
 use lib.Dec.{eqb, leb}
 use lib.ListN.{length, getD, take, drop}
 use lib.Seq.{take-all}
+use Rattle.decimal.specs.Texts.{ascii, same}
 use Rattle.command.specs.Words.{number, noNumber, numberOf}
 use Rattle.command.specs.declared.Number.{Number}
 use Rattle.lines.specs.Lines.{candidate, right}
-use Rattle.texts.specs.Numbers.{negated, wordSaid, rightBy, wordBy}
+use Rattle.texts.specs.Numbers.{negated, wordSaid, idle, rightBy, wordBy}
 
 module _ (n : Number) where
   pub negated-none : n .said ≡ false → noNumber ≡ negated n
@@ -38,6 +39,25 @@ pub said-plain : (l : List ℕ) (r : Number) → (length l ≡ 0 → ⊥) → (g
 unfolding wordSaid
 said-plain [] r z e f = absurd (z refl)
 said-plain (b ∷ bs) r z e f = rw (ne-eqb b 45 e) f
+
+module _ (d : Bool) (l : List ℕ) (b : ℕ) where
+  pub idle-listed : d ≡ false → false ≡ idle d l b
+  unfolding idle
+  idle-listed e = rw (e, idle)
+
+  module _ (e : d ≡ true) where
+    pub idle-other : (b ≡ 48 → ⊥) → false ≡ idle d l b
+    unfolding idle
+    idle-other n = rw (e, idle, ne-eqb b 48 n)
+
+    module _ (n : b ≡ 48) {r : Bool} (q : r ≡ same l (ascii "0")) where
+      pub idle-zero : r ≡ true → true ≡ idle d l b
+      unfolding idle
+      idle-zero t = rw (e, idle, eq-eqb b 48 n, ← q, t)
+
+      pub idle-minus : {s : Bool} → r ≡ false → s ≡ same l (ascii "-0") → s ≡ idle d l b
+      unfolding idle
+      idle-minus f g = rw (e, idle, eq-eqb b 48 n, ← q, f) g
 
 module _ (d : Bool) (l : List ℕ) where
   pub right-listed : {r : Bool} → d ≡ false → r ≡ right l → r ≡ rightBy d l

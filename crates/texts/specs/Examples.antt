@@ -6,7 +6,7 @@ use Prim.Native.String.{String}
 use lib.Dec.{eqb}
 use lib.ListN.{replicate}
 use Rattle.decimal.specs.Texts.{ascii, same}
-use Rattle.texts.specs.Numbers.{rightBy, wordBy}
+use Rattle.texts.specs.Numbers.{bared, rightBy, wordBy}
 use Rattle.texts.specs.Reading.{Going, going, fed, finished}
 
 -- the lines, the wrong one, the line at hand and the words, over an output of three words, each 9
@@ -33,10 +33,10 @@ texts =
 
 -- a line says this word, or none
 unfoldable pub says : List ℕ → ℕ → Bool
-says l w = rightBy true l && eqb (wordBy true l) w
+says l w = let k = bared true l in rightBy true k && eqb (wordBy true k) w
 
 unfoldable pub saysNone : List ℕ → Bool
-saysNone l = not (rightBy true l)
+saysNone l = not (rightBy true (bared true l))
 
 unfoldable pub numbers : List Bool
 numbers =
@@ -68,12 +68,17 @@ numbers =
     ∷ saysNone (ascii "0x10")
     ∷ saysNone (ascii "1/")
     ∷ saysNone (ascii ":1")
-    -- [a long line] 80 bytes are right, and 81 are not, though they say the same
-    ∷ says (replicate 79 48 ++ (55 ∷ [])) 7
-    ∷ saysNone (replicate 80 48 ++ (55 ∷ []))
+    -- [a long line] 89 zeros and a number, with a minus and without; 89 digits that are no zeros; 89 zeros and something else
+    ∷ says (replicate 89 48 ++ (55 ∷ [])) 7
+    ∷ says (45 ∷ replicate 89 48 ++ (55 ∷ [])) (2 ^ 32 - 7)
+    ∷ says (replicate 89 48) 0
+    ∷ saysNone (replicate 89 49)
+    ∷ saysNone (replicate 89 48 ++ (45 ∷ []))
+    ∷ saysNone (replicate 89 48 ++ ascii "4294967296")
+    ∷ saysNone (48 ∷ 45 ∷ replicate 89 48)
     ∷ []
 
--- [texts of numbers] cut inside a line, with and without the last newline; an empty line; the line that is none of these; more than there is room for
+-- [texts of numbers] cut inside a line, with and without the last newline; an empty line; an instruction; 89 zeros before a number; 89 other digits; more than there is room for
 unfoldable pub inDecimals : List Bool
 inDecimals =
     comes true [] [] 0 0 [] (9 ∷ 9 ∷ 9 ∷ [])
@@ -81,7 +86,8 @@ inDecimals =
     ∷ comes true (ascii "11800\n-") (ascii "1\n") 2 0 [] (11800 ∷ (2 ^ 32 - 1) ∷ 9 ∷ [])
     ∷ comes true (ascii "1\n") (ascii "\n2\n") 2 2 [] (1 ∷ 9 ∷ 9 ∷ [])
     ∷ comes true (ascii "1\nrf") (ascii "e\n2\n-\n") 2 2 (ascii "rfe") (1 ∷ 9 ∷ 9 ∷ [])
-    ∷ comes true (replicate 80 48) (replicate 9 48) 1 1 (replicate 81 48) (9 ∷ 9 ∷ 9 ∷ [])
+    ∷ comes true (replicate 80 48) (replicate 9 48 ++ ascii "7\n-0") 2 0 [] (7 ∷ 0 ∷ 9 ∷ [])
+    ∷ comes true (replicate 80 49) (replicate 9 49) 1 1 (replicate 81 49) (9 ∷ 9 ∷ 9 ∷ [])
     ∷ comes true (ascii "1\n2\n3\n") (ascii "4\n") 4 0 [] (1 ∷ 2 ∷ 3 ∷ [])
     ∷ []
 

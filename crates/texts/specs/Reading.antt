@@ -8,7 +8,7 @@ use lib.ListN.{length, set, take, drop, replicate}
 use Rattle.dlx.specs.Choice.{if_then_else_}
 use Rattle.decimal.specs.Raw.{raw}
 use Rattle.lines.specs.Listings.{Answer, answer, readBy}
-use Rattle.texts.specs.Numbers.{rightBy, wordBy}
+use Rattle.texts.specs.Numbers.{idle, bared, rightBy, wordBy}
 use Rattle.texts.specs.declared.reading.At.{At}
 
 -- the output has as many words as the largest partition, 256 pages of 1,024
@@ -39,9 +39,9 @@ ended d g =
     let n = (g .lines + 1) % 2 ^ 64 in
     if rightBy d (g .line) then going [] n 0 (set (g .words) (g .lines) (wordBy d (g .line))) else going (g .line) n n (g .words)
 
--- behind a wrong line nothing is looked at
+-- behind a wrong line nothing is looked at; of zeros before a word one is kept
 unfoldable pub took : Bool → Going → ℕ → Going
-took d g b = if not (eqb (g .wrong) 0) then g else if eqb b 10 then ended d g else longer g b
+took d g b = if not (eqb (g .wrong) 0) then g else if eqb b 10 then ended d g else if idle d (g .line) b then g else longer g b
 
 unfoldable pub fed : Bool → Going → List ℕ → Going
 fed d g [] = g
@@ -76,7 +76,7 @@ Whole d g = (text : List ℕ) × (length text + 1 < 2 ^ 64) × (g ≡ finished d
 
 -- what the words of a whole text come to
 unfoldable pub wordsOf : Bool → List ℕ → Answer
-wordsOf d t = readBy (rightBy d) (wordBy d) t noWords
+wordsOf d t = readBy (λ l. rightBy d (bared d l)) (λ l. wordBy d (bared d l)) t noWords
 
 -- the answer for the text that was read
 abbrev pub Told : Bool → ℕ → ℕ → ℕ → List ℕ → Type 0

@@ -1,9 +1,10 @@
 // What a line is: a word in decimals, or an instruction of a listing.
 ghost use mathlib.Core.Path.{_≡_};
 ghost use Prim.Native.Nat.{_^_, _<_, _≤_};
-ghost use Rattle.texts.specs.Numbers.{negated, wordSaid, rightBy, wordBy};
+ghost use Rattle.texts.specs.Numbers.{negated, wordSaid, idle, rightBy, wordBy};
 use command::Number;
 use command::number_in;
+use decimal::is;
 use listing::reading::candidate;
 use listing::reading::right;
 
@@ -43,7 +44,23 @@ pub fn word_in(line: &[u8]) -> Number
     number_in(line, 4294967295)
 }
 
-// The line is right: it has at most 80 bytes, and is one of those that are asked for.
+// The byte is a zero that tells nothing: a zero behind a first zero, with a minus before it or not.
+pub fn idle(decimals: bool, line: &[u8], b: u8) -> bool
+    ensures { λ r. ⌜ r ≡ idle decimals (now (line .entry)) b ⌝ }
+{
+    if !decimals {
+        return false;
+    }
+    if b != 48 {
+        return false;
+    }
+    if is(line, b"0") {
+        return true;
+    }
+    is(line, b"-0")
+}
+
+// The line, without zeros that tell nothing, is right: it has at most 80 bytes, and is one of those that are asked for.
 pub fn right_by(decimals: bool, line: &[u8]) -> bool
     ensures { λ r. ⌜ r ≡ rightBy decimals (now (line .entry)) ⌝ }
 {

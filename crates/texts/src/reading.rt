@@ -3,7 +3,9 @@ ghost use mathlib.Core.Path.{_≡_};
 ghost use mathlib.Core.List.{List};
 ghost use Prim.Native.Nat.{ℕ, _≤_};
 ghost use lib.ListN.{length, set};
+ghost use Rattle.texts.specs.Numbers.{idle};
 ghost use Rattle.texts.specs.Reading.{held, Fits, longer, ended, took, fed, finished};
+use crate::numbers::idle;
 use crate::numbers::right_by;
 use crate::numbers::word_by;
 
@@ -67,6 +69,15 @@ fn ended(decimals: bool, a: At, line: &[u8], words: &mut [u32]) -> At
     }
 }
 
+// The byte is a zero that tells nothing, behind the line so far.
+fn idle_behind(decimals: bool, a: At, line: &[u8], b: u8) -> bool
+    requires { ⌜ Fits a (now line) ⌝ }
+    ensures { λ r. ⌜ ((words : List ℕ) → r ≡ idle decimals (held a (now (line .entry)) words .line) b) ⌝ }
+{
+    let n = a.length;
+    idle(decimals, &line[..n], b)
+}
+
 fn took(decimals: bool, a: At, line: &mut [u8], words: &mut [u32], b: u8) -> At
     requires { ⌜ Fits a (now line) ⌝ }
     ensures { λ x. ⌜ held x (now (line .exit)) (now (words .exit)) ≡ took decimals (held a (now (line .entry)) (now (words .entry))) b ⌝ }
@@ -77,6 +88,9 @@ fn took(decimals: bool, a: At, line: &mut [u8], words: &mut [u32], b: u8) -> At
     }
     if b == 10 {
         return ended(decimals, a, line, words);
+    }
+    if idle_behind(decimals, a, line, b) {
+        return a;
     }
     longer(a, line, b)
 }
