@@ -190,7 +190,7 @@ module _ (head : List ℕ) (n : ℕ) (m : List ℕ) (frames : ℕ) (fits : Piece
 
 -- ---- the head
 
-joined-records : (k : ℕ) (f : ℕ → List ℕ) (g : ℕ → List ℕ) (n : ℕ) → ((i : ℕ) → g i ≡ recordOf k (f i)) → parts g n ≡ records k f n
+pub joined-records : (k : ℕ) (f : ℕ → List ℕ) (g : ℕ → List ℕ) (n : ℕ) → ((i : ℕ) → g i ≡ recordOf k (f i)) → parts g n ≡ records k f n
 unfolding parts records
 joined-records k f g zero h = refl
 joined-records k f g (suc n) h = rw (joined-records k f g n h, h n)
