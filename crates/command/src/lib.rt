@@ -37,7 +37,7 @@ impl Number {
 }
 
 // The number with one digit more. No sum is made that could wrap.
-fn with_digit(most: u64, n: Number, b: u8) -> Number
+pub fn with_digit(most: u64, n: Number, b: u8) -> Number
     ensures { λ r. ⌜ r ≡ withDigit most n b ⌝ }
 {
     if !n.said {

@@ -1,0 +1,3 @@
+// What noon is asked for: its words, one after the other.
+pub mod asked;
+pub mod words;
