@@ -39,7 +39,7 @@ unfolding listWords inner
 list-put {s} {o} {u} {r} pages frames i from to ef et l long p =
     let y : to - from ≡ getD pages i 0 = omega arith in
     let n : length (take (getD pages i 0) (drop (offset pages i) frames)) ≡ getD pages i 0 =
-        inner-length frames (offset pages i) (getD pages i 0) (omega (arith, offset-in pages i)) in
+    inner-length frames (offset pages i) (getD pages i 0) (omega (arith, offset-in pages i)) in
     let p′ : Puts s u o r (recordOf 2 (take (getD pages i 0) (drop (offset pages i) frames))) (6 + 4 * length (take (getD pages i 0) (drop (offset pages i) frames))) = rw (y, ef) at p in
     roomy 1030 p′ (omega arith)
 
@@ -60,8 +60,8 @@ all-put {out} {o} {a₁} {a₂} {a₃} {r} f listed room p₁ p₂ p₃ p₄ =
     let E = little 4 0 ++ little 2 4 in
     let bs = T ++ (joined L c ++ (joined F 16 ++ E)) in
     let e : bs ≡ (T ++ records 2 (listWords (f .pages) (f .frames)) c) ++ (records 3 (frameWords (f .memory)) 16 ++ recordOf 4 []) =
-        rw (joined-records 2 (listWords (f .pages) (f .frames)) L c (λ i. refl), joined-records 3 (frameWords (f .memory)) F 16 (λ i. refl), last-record)
-        (sym (append-assoc T (records 2 (listWords (f .pages) (f .frames)) c) (records 3 (frameWords (f .memory)) 16 ++ recordOf 4 []))) in
+    rw (joined-records 2 (listWords (f .pages) (f .frames)) L c (λ i. refl), joined-records 3 (frameWords (f .memory)) F 16 (λ i. refl), last-record)
+    (sym (append-assoc T (records 2 (listWords (f .pages) (f .frames)) c) (records 3 (frameWords (f .memory)) 16 ++ recordOf 4 []))) in
     let p = roomy 73956 (p₁ then p₂ then p₃ then p₄) (omega (arith, listed .few)) in
     let w = whole p (omega arith) in
     let z : r ≡ length bs = w .0 ∙ omega arith in

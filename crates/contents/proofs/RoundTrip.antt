@@ -159,7 +159,7 @@ module _ (f : File) (s : Sayable f) where
       let ws = listWords (f .pages) (f .frames) i in
       let n : length (allBytes ws) / 4 ≡ getD (f .pages) i 0 = omega (arith, length-bytes ws, list-length i) in
       let back : wordsOf (getD (f .pages) i 0) (allBytes ws) ≡ ws =
-          ap (λ (k : ℕ). wordsOf k (allBytes ws)) (sym (list-length i)) ∙ ap (wordsOf (length ws)) (sym (append-nil (allBytes ws))) ∙ words-bytes ws [] (list-below i) in
+      ap (λ (k : ℕ). wordsOf k (allBytes ws)) (sym (list-length i)) ∙ ap (wordsOf (length ws)) (sym (append-nil (allBytes ws))) ∙ words-bytes ws [] (list-below i) in
       ap (λ (k : ℕ). file (f .q) (f .run) (take i (f .pages) ++ (k ∷ [])) (take (offset (f .pages) i) (f .frames) ++ wordsOf k (allBytes ws)) zeros) n
       ∙ ap (λ (x : List ℕ). file (f .q) (f .run) (take i (f .pages) ++ (getD (f .pages) i 0 ∷ [])) (take (offset (f .pages) i) (f .frames) ++ x) zeros) back
       ∙ ap (λ (x : List ℕ). file (f .q) (f .run) x (take (offset (f .pages) i) (f .frames) ++ ws) zeros) (sym (take-suc (f .pages) i 0 l))
@@ -170,8 +170,8 @@ module _ (f : File) (s : Sayable f) where
   frame-taken i l =
       let ws = inner (i * 1024) 1024 (f .memory) in
       let back : wordsOf 1024 (allBytes ws) ≡ ws =
-          ap (λ (k : ℕ). wordsOf k (allBytes ws)) (sym (frame-length i l)) ∙ ap (wordsOf (length ws)) (sym (append-nil (allBytes ws)))
-          ∙ words-bytes ws [] (part-below (f .memory) (i * 1024) 1024 (s .memory)) in
+      ap (λ (k : ℕ). wordsOf k (allBytes ws)) (sym (frame-length i l)) ∙ ap (wordsOf (length ws)) (sym (append-nil (allBytes ws)))
+      ∙ words-bytes ws [] (part-below (f .memory) (i * 1024) 1024 (s .memory)) in
       ap (λ (k : ℕ). file (f .q) (f .run) (f .pages) (f .frames) (outer (k * 1024) 1024 (joined (i * 1024) (f .memory) zeros) (wordsOf 1024 (allBytes ws)))) (number-bytes i (omega arith))
       ∙ ap (λ (x : List ℕ). file (f .q) (f .run) (f .pages) (f .frames) (outer (i * 1024) 1024 (joined (i * 1024) (f .memory) zeros) x)) back
       ∙ ap (λ (x : List ℕ). file (f .q) (f .run) (f .pages) (f .frames) x)
@@ -306,9 +306,9 @@ module _ (f : File) (s : Sayable f) where
   pub fits : length (contentsFile f) ≤ 73956
   fits =
       let lists = records-most 2 (listWords (f .pages) (f .frames)) 1030 c λ i l.
-          omega (arith, record-length 2 (listWords (f .pages) (f .frames) i) (omega arith) (omega (arith, list-length i, s .listed .pages i)), list-length i, s .listed .pages i) in
+      omega (arith, record-length 2 (listWords (f .pages) (f .frames) i) (omega arith) (omega (arith, list-length i, s .listed .pages i)), list-length i, s .listed .pages i) in
       let frames = records-most 3 (frameWords (f .memory)) 4106 16 λ i l.
-          omega (arith, record-length 3 (frameWords (f .memory) i) (omega arith) (frame-few i l), frame-count i l) in
+      omega (arith, record-length 3 (frameWords (f .memory) i) (omega arith) (frame-few i l), frame-count i l) in
       omega (arith, ap length whole-is, all-length, first-length, last-length, lists, frames, s .listed .few)
 
   bytes : Below 256 (contentsFile f)
