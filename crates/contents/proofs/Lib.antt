@@ -1,2 +1,4 @@
 pub mod RoundTrip
 pub mod Put
+pub mod Checked
+pub mod Instances
