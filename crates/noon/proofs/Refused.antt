@@ -19,7 +19,7 @@ use Rattle.boot.proofs.Places.{fitting}
 use Rattle.hypervisor.proofs.Refusals.{run-plain}
 use Rattle.contents.specs.Contents.{Listed, Sayable}
 use Rattle.contents.proofs.RoundTrip.{says-all}
-use Rattle.noon.specs.Noon.{refusalOf, Runs}
+use Rattle.noon.specs.Noon.{nightRefusal, Runs}
 
 module _ (pages frames m₀ : List ℕ) (q run n d : ℕ) (h : House) (long : length m₀ ≡ 16384)
     (e : answered (verdict n d) (world h m₀) ≡ bootCall pages q frames m₀) where
@@ -31,8 +31,8 @@ module _ (pages frames m₀ : List ℕ) (q run n d : ℕ) (h : House) (long : le
   number-is = ap (λ (v : Verdict). v .number) verdict-is
 
   -- boot refuses
-  pub boot-refuses : (n ≡ 0 → ⊥) → (m : List ℕ) → length m ≡ 16384 → verdict n d ≡ refusalOf (ranOf (right (file q run pages frames m)))
-  unfolding ranOf afterBoot bootCall refusalOf
+  pub boot-refuses : (n ≡ 0 → ⊥) → (m : List ℕ) → length m ≡ 16384 → verdict n d ≡ nightRefusal (ranOf (right (file q run pages frames m)))
+  unfolding ranOf afterBoot bootCall nightRefusal
   boot-refuses z m l =
       let t : eqb (bootVerdict pages q frames 16384 .number) 0 ≡ false = ap (λ (x : ℕ). eqb x 0) (sym number-is) ∙ ne-eqb n 0 z in
       simp (l, t) verdict-is
@@ -49,8 +49,8 @@ module _ (pages frames m₀ : List ℕ) (q run n d : ℕ) (h : House) (long : le
 
     -- run refuses, or nothing
     pub run-refuses : (r : ℕ) → ((m : List ℕ) → length m ≡ 16384 → r ≡ runVerdict (world h m) run .number)
-        → (m : List ℕ) → length m ≡ 16384 → verdict r 0 ≡ refusalOf (ranOf (right (file q run pages frames m)))
-    unfolding ranOf afterBoot bootCall runCall refusalOf
+        → (m : List ℕ) → length m ≡ 16384 → verdict r 0 ≡ nightRefusal (ranOf (right (file q run pages frames m)))
+    unfolding ranOf afterBoot bootCall runCall nightRefusal
     run-refuses r f m l =
         let t : eqb (bootVerdict pages q frames 16384 .number) 0 ≡ true = eq-eqb (bootVerdict pages q frames 16384 .number) 0 booted in
         let v = runVerdict (world (bootedHouse pages q frames 16384) m) run in
@@ -66,19 +66,19 @@ module _ (pages frames m₀ : List ℕ) (q run n d : ℕ) (h : House) (long : le
 
 -- ---- where nothing is refused, the night runs what is written
 
-runs-of : (a : Answered) → refusalOf a ≡ verdict 0 0 → a .verdict .number ≡ 0
-unfolding refusalOf
+runs-of : (a : Answered) → nightRefusal a ≡ verdict 0 0 → a .verdict .number ≡ 0
+unfolding nightRefusal
 runs-of a e =
     by-test (eqb (a .verdict .number) 0)
     (λ t. eqb-true (a .verdict .number) 0 t)
     (λ t. simp t at (ap (λ (v : Verdict). v .number) e))
 
-pub night-runs : (f : File) → Sayable f → refusalOf (ranOf (right f)) ≡ verdict 0 0 → Runs f
+pub night-runs : (f : File) → Sayable f → nightRefusal (ranOf (right f)) ≡ verdict 0 0 → Runs f
 night-runs f s e = ap (λ (r : Reading). ranOf r .verdict .number) (says-all .whole f s) ∙ runs-of (ranOf (right f)) e
 
-pub none-refused : (q run n d : ℕ) (pages frames m : List ℕ) → n ≡ 0 → ((m : List ℕ) → length m ≡ 16384 → verdict n d ≡ refusalOf (ranOf (right (file q run pages frames m)))) → length m ≡ 16384
-    → refusalOf (ranOf (right (file q run pages frames m))) ≡ verdict 0 0
-unfolding refusalOf
+pub none-refused : (q run n d : ℕ) (pages frames m : List ℕ) → n ≡ 0 → ((m : List ℕ) → length m ≡ 16384 → verdict n d ≡ nightRefusal (ranOf (right (file q run pages frames m)))) → length m ≡ 16384
+    → nightRefusal (ranOf (right (file q run pages frames m))) ≡ verdict 0 0
+unfolding nightRefusal
 none-refused q run n d pages frames m z f l =
     let a = ranOf (right (file q run pages frames m)) in
     let e = f m l in

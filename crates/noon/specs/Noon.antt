@@ -16,8 +16,8 @@ use Rattle.asked.specs.declared.asked.Asked.{Asked}
 use Rattle.laying.specs.Laid.{countOf, sumWords, laidImage, memoryOf}
 
 -- the night's refusal; 0 and 0 where it runs
-unfoldable pub refusalOf : Answered → Verdict
-refusalOf a = if eqb (a .verdict .number) 0 then verdict 0 0 else a .verdict
+unfoldable pub nightRefusal : Answered → Verdict
+nightRefusal a = if eqb (a .verdict .number) 0 then verdict 0 0 else a .verdict
 
 -- the night boots and runs the file of these contents
 abbrev pub Runs : File → Type 0

@@ -8,7 +8,7 @@ ghost use Rattle.housefile.specs.Records.{file, right};
 ghost use Rattle.night_run.specs.Ran.{ranOf};
 ghost use Rattle.contents.specs.Contents.{contentsFile, Listed};
 ghost use Rattle.report.specs.Report.{refusal as refusalText};
-ghost use Rattle.noon.specs.Noon.{refusalOf, Given, LaidAll, Made};
+ghost use Rattle.noon.specs.Noon.{nightRefusal, Given, LaidAll, Made};
 use crate::images::lay_all;
 use crate::images::tell_all;
 use crate::words::ask;
@@ -34,7 +34,7 @@ pub struct Refusal {
 // The night's refusal of a file that says this, whatever its memory holds; 0 and 0 where it runs.
 fn night_refuses(q: u32, run: u32, pages: &[u32], frames: &[u32]) -> Refusal
     requires { ⌜ 1 ≤ length (now pages) ⌝ }
-    ensures { λ r. ⌜ ((m : List ℕ) → length m ≡ 16384 → verdict (r .number) (r .detail) ≡ refusalOf (ranOf (right (file q run (now (pages .entry)) (now (frames .entry)) m)))) ⌝ }
+    ensures { λ r. ⌜ ((m : List ℕ) → length m ≡ 16384 → verdict (r .number) (r .detail) ≡ nightRefusal (ranOf (right (file q run (now (pages .entry)) (now (frames .entry)) m)))) ⌝ }
     ensures { λ r. ⌜ (r .number ≡ 0 → Listed (now (pages .entry)) (now (frames .entry))) ⌝ }
 {
     let memory = [0u32; 16384];
@@ -51,7 +51,7 @@ fn night_refuses(q: u32, run: u32, pages: &[u32], frames: &[u32]) -> Refusal
 
 // Prints a refusal: the one that the night would.
 fn show(q: u32, run: u32, pages: &[u32], frames: &[u32], text: &[u8])
-    requires { ⌜ ((m : List ℕ) → length m ≡ 16384 → now text ≡ refusalText (refusalOf (ranOf (right (file q run (now pages) (now frames) m))))) ⌝ }
+    requires { ⌜ ((m : List ℕ) → length m ≡ 16384 → now text ≡ refusalText (nightRefusal (ranOf (right (file q run (now pages) (now frames) m))))) ⌝ }
 {
     if !io::write_all(STDOUT_FILENO, text) {
         fail(b"standard output");
@@ -59,7 +59,7 @@ fn show(q: u32, run: u32, pages: &[u32], frames: &[u32], text: &[u8])
 }
 
 fn tell_refusal(r: Refusal, q: u32, run: u32, pages: &[u32], frames: &[u32])
-    requires { ⌜ ((m : List ℕ) → length m ≡ 16384 → verdict (r .number) (r .detail) ≡ refusalOf (ranOf (right (file q run (now pages) (now frames) m)))) ⌝ }
+    requires { ⌜ ((m : List ℕ) → length m ≡ 16384 → verdict (r .number) (r .detail) ≡ nightRefusal (ranOf (right (file q run (now pages) (now frames) m)))) ⌝ }
 {
     let mut out = [0u8; 1024];
     let n = refused(r.number, r.detail, &mut out);
@@ -97,7 +97,7 @@ fn write_file(
     memory: &[u32],
     path: &[u8],
 ) -> bool
-    requires { ⌜ Listed (now pages) (now frames) ⌝ ∗ ⌜ length (now memory) ≡ 16384 ⌝ ∗ ⌜ Given (now pages) (now frames) (now table) images ⌝ ∗ ⌜ LaidAll (now pages) (now frames) (now table) (now memory) images ⌝ ∗ ⌜ refusalOf (ranOf (right (file q run (now pages) (now frames) (now memory)))) ≡ verdict 0 0 ⌝ }
+    requires { ⌜ Listed (now pages) (now frames) ⌝ ∗ ⌜ length (now memory) ≡ 16384 ⌝ ∗ ⌜ Given (now pages) (now frames) (now table) images ⌝ ∗ ⌜ LaidAll (now pages) (now frames) (now table) (now memory) images ⌝ ∗ ⌜ nightRefusal (ranOf (right (file q run (now pages) (now frames) (now memory)))) ≡ verdict 0 0 ⌝ }
 {
     let mut out = [0u8; 73956];
     let n = put_contents(q, run, pages, frames, memory, &mut out);
