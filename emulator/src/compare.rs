@@ -1,7 +1,8 @@
-//! Compares another program with this emulator, on scripts, on house files, on saved files and on
-//! listings.
+//! Compares another program with this emulator, on scripts, on house files, on saved files, on listings
+//! and on command lines that make house files.
 
 mod listings;
+mod noons;
 mod reads;
 mod saves;
 
@@ -46,8 +47,12 @@ pub struct Options {
     pub unshadowed: Option<Program>,
     /// Reads a house file or a saved one on standard input and tells what each partition came to.
     pub look: Option<Program>,
-    /// Reads such a file, too, and prints the words that `PARTITION ADDRESS COUNT [raw]` ask for.
+    /// Reads such a file, too, and prints the words that `PARTITION ADDRESS COUNT [raw|signed]` ask for.
     pub readout: Option<Program>,
+    /// Makes the house file that the words `OUT Q STEPS partition ..` ask for.
+    pub noon: Option<Program>,
+    /// Makes words of the decimals on standard input.
+    pub into_words: Option<Program>,
     /// Start of the random numbers.
     pub seed: u64,
     /// Guest steps of the random scripts, at least.
@@ -64,6 +69,10 @@ pub struct Options {
     pub lines: usize,
     /// Damaged lines that are wrong, and given to be assembled in a text of their own; at most.
     pub alone: usize,
+    /// Random command lines of house files.
+    pub noons: usize,
+    /// Random texts of decimals.
+    pub texts: usize,
     /// Programs that run at the same time.
     pub jobs: usize,
 }
@@ -88,6 +97,7 @@ pub fn compare(options: &Options) -> Result<Outcome, String> {
     listings::compare_listings(options, &mut outcome)?;
     saves::compare_saves(options, &mut outcome)?;
     reads::compare_reads(options, &mut outcome)?;
+    noons::compare_noons(options, &mut outcome)?;
     if options.night.is_none() && options.audit.is_none() {
         return Ok(outcome);
     }

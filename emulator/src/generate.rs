@@ -2,9 +2,11 @@
 
 mod audits;
 mod calls;
+pub mod decimals;
 mod engines;
 mod files;
 pub mod listings;
+pub mod noons;
 mod programs;
 mod reads;
 mod runs;

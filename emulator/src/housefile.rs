@@ -4,7 +4,7 @@ use std::fmt::Write;
 
 use crate::counts::Counts;
 use crate::dlx::special::MODE;
-use crate::house::{numbers, House};
+use crate::house::{numbers, House, Refusal, MOST_STEPS};
 use crate::memory::{Engine, FRAME_WORDS};
 use crate::saved;
 
@@ -174,6 +174,17 @@ pub type Ran = Result<(House, Vec<u32>), (u32, u64)>;
 /// The file, or the refusal.
 fn taken(bytes: &[u8]) -> Result<HouseFile, (u32, u64)> {
     read(bytes).map_err(|Wrong(at)| (WRONG_FILE, at))
+}
+
+/// What is refused of a house file's numbers before anything runs: by boot over the program's memory, then
+/// by the run's length.
+pub fn check(q: u32, steps: u32, lists: &[Vec<u32>]) -> Result<(), Refusal> {
+    let pages: Vec<u32> = lists.iter().map(|list| list.len() as u32).collect();
+    House::boot(&pages, q, &lists.concat(), FRAMES * FRAME_WORDS).1?;
+    if steps > MOST_STEPS {
+        return Err(Refusal::TooLong);
+    }
+    Ok(())
 }
 
 /// The memory that a file holds.

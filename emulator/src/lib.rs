@@ -7,8 +7,10 @@
 
 pub mod assemble;
 pub mod audit;
+pub mod beside;
 pub mod compare;
 pub mod counts;
+pub mod decimals;
 pub mod dlx;
 pub mod engines;
 pub mod fields;
@@ -20,6 +22,7 @@ pub mod listing;
 pub mod look;
 pub mod memory;
 pub mod named;
+pub mod noon;
 pub mod process;
 pub mod reads;
 pub mod rng;

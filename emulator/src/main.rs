@@ -11,25 +11,30 @@ use emulator::compare::{compare, shrink_script, Options};
 use emulator::counts::Counts;
 use emulator::housefile::Left;
 use emulator::memory::Engine;
+use emulator::noon::{self, Answer};
 use emulator::process::Program;
 use emulator::reads::Said;
-use emulator::{generate, housefile, listing, named, reads, saved, script, source};
+use emulator::{
+    beside, decimals, generate, housefile, listing, named, reads, saved, script, source,
+};
 
 const HELP: &str = "\
 emulator: a second emulator of the house of partitions, to be compared with the proved one
 
 emulator compare --drill CMD --night CMD --audit CMD --list CMD --assemble CMD --save CMD --resume CMD
-                 --unshadowed CMD --look CMD --readout CMD [--seed N] [--steps N] [--files N] [--saved N]
-                 [--reads N] [--words N] [--lines N] [--alone N] [--jobs N] [--limit N]
+                 --unshadowed CMD --look CMD --readout CMD --noon CMD --into-words CMD [--seed N] [--steps N]
+                 [--files N] [--saved N] [--reads N] [--words N] [--lines N] [--alone N] [--noons N]
+                 [--texts N] [--jobs N] [--limit N]
     Plays named and random scripts with CMD of --drill, gives named and random house files to CMD
     of --night and to CMD of --audit, words to CMD of --list, and right and damaged lines to CMD of
     --assemble, all on standard input; runs `CMD FILE save OUT` of --save on house files and
     `CMD SAVED STEPS save OUT` of --resume on saved files, right and damaged, and
     `CMD FILE unshadowed [save OUT]` of --unshadowed on house files; gives house files and saved files,
-    right and damaged, to CMD of --look, to CMD of --audit, to `CMD PARTITION ADDRESS COUNT [raw]` of
-    --readout and to `CMD FRAME` of --list, on standard input; and compares every answer and every OUT with
-    its own. Some of the CMD may be left out. Shows the smallest script, file or text that
-    differs. Status 0 and a last line `emulator: N compared, 0 differ` only when all agree.
+    right and damaged, to CMD of --look, to CMD of --audit, to `CMD PARTITION ADDRESS COUNT [raw|signed]` of
+    --readout and to `CMD FRAME` of --list, on standard input; runs `CMD OUT Q STEPS partition ..` of --noon
+    on images, with and without a mistake, and gives texts of decimals to CMD of --into-words; and compares
+    every answer and every OUT with its own. Some of the CMD may be left out. Shows the smallest script, file,
+    text or command line that differs. Status 0 and a last line `emulator: N compared, 0 differ` only when all agree.
     --seed   start of the random numbers (1)
     --steps  guest steps of the random scripts, at least (1000000)
     --files  random house files that are damaged or cut (2000)
@@ -38,6 +43,8 @@ emulator compare --drill CMD --night CMD --audit CMD --list CMD --assemble CMD -
     --words  random words that are listed and assembled again (4194304)
     --lines  damaged lines (100000)
     --alone  those of them that are wrong and are assembled in a text of their own, at most (4000)
+    --noons  random command lines that make a house file from images, or are wrong (160)
+    --texts  random texts of decimals, right and wrong (80)
     --jobs   programs that run at the same time (2)
     --limit  seconds that a program may take (600)
 emulator play [SCRIPT]
@@ -52,14 +59,22 @@ emulator audit [FILE]
     and how many of its shadow entries are stale.
 emulator look [FILE]
     The same, but tells what each partition came to.
-emulator readout FILE PARTITION ADDRESS COUNT [raw]
-    The same, but prints words of one partition's pages, in decimals or as bytes.
+emulator readout FILE PARTITION ADDRESS COUNT [raw|signed]
+    The same, but prints words of one partition's pages, in decimals, as bytes, or in decimals of two's
+    complement numbers.
 emulator list [FILE [FRAME]]
     Writes a line for each word of the file, little-endian; or of one frame of the memory that a house
     file or a saved one holds.
 emulator assemble [FILE]
     Writes the words of a listing's lines; or nothing, and `refused: 18 LINE` on standard error with
     the number of the first wrong line, and ends with status 1.
+emulator noon OUT Q STEPS partition FRAMES IMAGE[@ADDRESS].. [partition ..]..
+    Makes a house file from images, each at an address of its partition, and prints a line for each.
+    FRAMES has commas between its numbers. Prints `refused N D`, with status 1, for what the night would
+    refuse, and says `failed: ..` on standard error, with status 2, for a wrong use or image.
+emulator words [FILE]
+    Writes the words of lines that are decimals, from -2147483648 to 4294967295; or nothing, and
+    `refused: 18 LINE` or `refused: 13 0` on standard error, and ends with status 1.
 emulator show [FILE]
     Tells what a house file holds, as a source that makes the same file again; or prints the
     commands of a script. FILE.house is a house file and FILE.script a script; of another name, or on
@@ -69,7 +84,8 @@ emulator shrink --drill CMD [SCRIPT]
 emulator generate --out DIR [--seed N] [--steps N] [--files N] [--saved N]
     Writes the named and random scripts, house files and saved files into DIR.
 emulator make [SOURCE] --out FILE
-    Makes a house file from a readable source.
+    Makes a house file from a readable source, beside its name, which it takes when it is whole. What the
+    night would refuse is not made, unless the source begins with the line `wrong on purpose`.
 emulator form
     Tells what stands in a source, and lists every instruction.
 
@@ -138,6 +154,14 @@ fn command(arguments: &[String]) -> Result<ExitCode, String> {
                 Ok(ExitCode::FAILURE)
             }
         },
+        "noon" => run_noon(rest),
+        "words" => match decimals::words(&input(&Arguments::parse(rest)?)?) {
+            Ok(bytes) => write(&bytes),
+            Err(refused) => {
+                eprintln!("{refused}");
+                Ok(ExitCode::FAILURE)
+            }
+        },
         "show" => show(&Arguments::parse(rest)?),
         "shrink" => run_shrink(&Arguments::parse(rest)?),
         "generate" => run_generate(&Arguments::parse(rest)?),
@@ -145,7 +169,7 @@ fn command(arguments: &[String]) -> Result<ExitCode, String> {
         "form" => print(&source::form()),
         "help" | "--help" | "-h" => print(HELP),
         other => Err(format!(
-            "expected compare, play, night, resume, audit, look, readout, list, assemble, show, shrink, generate, make, form or help, was given {other}"
+            "expected compare, play, night, resume, audit, look, readout, list, assemble, noon, words, show, shrink, generate, make, form or help, was given {other}"
         )),
     }
 }
@@ -159,7 +183,7 @@ struct Arguments {
 
 impl Arguments {
     fn parse(arguments: &[String]) -> Result<Arguments, String> {
-        const NAMES: [&str; 21] = [
+        const NAMES: [&str; 25] = [
             "--drill",
             "--night",
             "--audit",
@@ -170,6 +194,8 @@ impl Arguments {
             "--unshadowed",
             "--look",
             "--readout",
+            "--noon",
+            "--into-words",
             "--seed",
             "--steps",
             "--files",
@@ -178,6 +204,8 @@ impl Arguments {
             "--words",
             "--lines",
             "--alone",
+            "--noons",
+            "--texts",
             "--jobs",
             "--limit",
             "--out",
@@ -273,6 +301,8 @@ fn run_compare(arguments: &Arguments) -> Result<ExitCode, String> {
         unshadowed: arguments.program("--unshadowed")?,
         look: arguments.program("--look")?,
         readout: arguments.program("--readout")?,
+        noon: arguments.program("--noon")?,
+        into_words: arguments.program("--into-words")?,
         seed: arguments.seed()?,
         steps: arguments.steps()?,
         files: arguments.files()?,
@@ -281,6 +311,8 @@ fn run_compare(arguments: &Arguments) -> Result<ExitCode, String> {
         words: arguments.number("--words", 1 << 22)? as usize,
         lines: arguments.number("--lines", 100_000)? as usize,
         alone: arguments.number("--alone", 4_000)? as usize,
+        noons: arguments.number("--noons", generate::noons::NOONS as u64)? as usize,
+        texts: arguments.number("--texts", 80)? as usize,
         jobs: arguments.number("--jobs", 2)? as usize,
     };
     let programs = [
@@ -294,9 +326,11 @@ fn run_compare(arguments: &Arguments) -> Result<ExitCode, String> {
         &options.unshadowed,
         &options.look,
         &options.readout,
+        &options.noon,
+        &options.into_words,
     ];
     if programs.iter().all(|program| program.is_none()) {
-        return Err("expected CMD of --drill, --night, --audit, --list, --assemble, --save, --resume, --unshadowed, --look or --readout, was given none".into());
+        return Err("expected CMD of --drill, --night, --audit, --list, --assemble, --save, --resume, --unshadowed, --look, --readout, --noon or --into-words, was given none".into());
     }
     let outcome = compare(&options)?;
     let end = format!("emulator: {} compared, {} differ\n", outcome.compared, outcome.differ);
@@ -364,6 +398,25 @@ fn save(directory: &str, name: &str, kind: &str, bytes: &[u8]) -> Result<(), Str
     fs::write(&path, bytes).map_err(|error| format!("{}: {error}", path.display()))
 }
 
+/// Makes a house file from images.
+fn run_noon(words: &[String]) -> Result<ExitCode, String> {
+    let failed = |message: String| {
+        eprintln!("failed: {message}");
+        Ok(ExitCode::from(2))
+    };
+    match noon::noon(words, &noon::image) {
+        Answer::Failed(message) => failed(message),
+        Answer::Refused(number, detail) => {
+            print(&format!("refused {number} {detail}\n"))?;
+            Ok(ExitCode::FAILURE)
+        }
+        Answer::Made(text, file) => match beside::write(&words[0], &file) {
+            Ok(()) => print(&text),
+            Err(message) => failed(message),
+        },
+    }
+}
+
 /// Makes a house file. No file that it is made from is written over.
 fn make(arguments: &Arguments) -> Result<ExitCode, String> {
     let out = arguments.text("--out").ok_or("expected --out FILE, was given none")?;
@@ -378,18 +431,19 @@ fn make(arguments: &Arguments) -> Result<ExitCode, String> {
         fs::read(&image).map_err(|error| format!("{}: {error}", image.display()))
     });
     let bytes = bytes.map_err(|message| format!("{path}: {message}"))?;
-    fs::write(out, bytes).map_err(|error| format!("{out}: {error}"))?;
+    beside::write(out, &bytes)?;
     Ok(ExitCode::SUCCESS)
 }
 
-/// An error where both names are those of one regular file.
+/// An error where the file, or the one beside it, is the input, a regular file.
 fn spare(input: &str, out: &str) -> Result<(), String> {
     let file = |path: &str| {
         let found = fs::metadata(path).ok().filter(fs::Metadata::is_file);
         found.map(|of| (of.dev(), of.ino()))
     };
-    match (file(input), file(out)) {
-        (Some(one), Some(other)) if one == other => {
+    let written = [file(out), file(&beside::name(out))];
+    match file(input) {
+        Some(input_file) if written.contains(&Some(input_file)) => {
             Err(format!("expected --out another file than {input}, which it is made from"))
         }
         _ => Ok(()),

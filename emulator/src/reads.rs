@@ -2,6 +2,7 @@
 //! second they run nothing.
 
 use crate::counts::Counts;
+use crate::decimals::signed;
 use crate::house::{numbers, MOST_FRAMES};
 use crate::housefile::{self, output, word_bytes, Ran, HEAD};
 use crate::memory::{Engine, FRAME_WORDS};
@@ -75,25 +76,60 @@ pub struct Words {
     pub address: u32,
     /// How many.
     pub count: u64,
-    /// Whether they are written as bytes.
-    pub raw: bool,
+    /// How they are written.
+    pub form: Form,
+}
+
+/// How words are written.
+#[derive(Clone, Copy, Debug, PartialEq, Eq)]
+pub enum Form {
+    /// Decimals, a line each.
+    Decimals,
+    /// Bytes.
+    Raw,
+    /// Decimals of two's complement numbers, a line each.
+    Signed,
+}
+
+impl Form {
+    /// Its name, for reports.
+    pub fn name(self) -> &'static str {
+        match self {
+            Form::Decimals => "decimals",
+            Form::Raw => "raw",
+            Form::Signed => "signed",
+        }
+    }
+
+    fn write(self, words: &[u32]) -> Vec<u8> {
+        let lines = |line: fn(u32) -> String| -> String {
+            words.iter().map(|&word| line(word) + "\n").collect()
+        };
+        match self {
+            Form::Decimals => lines(|word| word.to_string()).into_bytes(),
+            Form::Raw => word_bytes(words),
+            Form::Signed => lines(signed).into_bytes(),
+        }
+    }
 }
 
 impl Words {
-    /// What `PARTITION ADDRESS COUNT [raw]` ask for; none if they cannot be used.
+    /// What `PARTITION ADDRESS COUNT [raw|signed]` ask for; none if they cannot be used.
     pub fn read(words: &[String]) -> Option<Words> {
-        let (numbers, raw) = match words {
-            [numbers @ .., last] if numbers.len() == 3 => {
-                (numbers, (last == "raw").then_some(true)?)
-            }
-            numbers => (numbers, false),
+        let (numbers, form) = match words {
+            [numbers @ .., last] if numbers.len() == 3 => match last.as_str() {
+                "raw" => (numbers, Form::Raw),
+                "signed" => (numbers, Form::Signed),
+                _ => return None,
+            },
+            numbers => (numbers, Form::Decimals),
         };
         let [partition, address, count] = numbers else {
             return None;
         };
         let small = |word: &str| u32::try_from(decimal(word)?).ok();
         let (partition, address) = (small(partition)?, small(address)?);
-        Some(Words { partition, address, count: decimal(count)?, raw })
+        Some(Words { partition, address, count: decimal(count)?, form })
     }
 }
 
@@ -107,7 +143,7 @@ pub fn readout(bytes: &[u8], words: &[String], counts: &mut Counts) -> Said {
     let Some(asked) = Words::read(words) else {
         return Said::failed();
     };
-    let Words { partition, address, count, raw } = asked;
+    let Words { partition, address, count, form } = asked;
     let read = house(bytes, counts).and_then(|(house, memory)| {
         // More than the memory has is refused by 12, so the output is never too short.
         let mut words = vec![0; count.min(memory.len() as u64) as usize];
@@ -115,12 +151,11 @@ pub fn readout(bytes: &[u8], words: &[String], counts: &mut Counts) -> Said {
         read.map(|_| words).map_err(|refusal| numbers(Err(refusal)))
     });
     let line = |(number, detail): &(u32, u64)| format!("refused: {number} {detail}");
-    let line = read.as_ref().err().filter(|_| raw).map(line);
-    let text = |words: &Vec<u32>| words.iter().map(|word| format!("{word}\n")).collect();
-    let told = output(read.as_ref().map(text).map_err(|&refused| refused), counts);
+    let line = read.as_ref().err().filter(|_| form == Form::Raw).map(line);
+    let refused = output(read.as_ref().map(|_| String::new()).map_err(|&refused| refused), counts);
     let bytes = match &read {
-        Ok(words) if raw => word_bytes(words),
-        _ => told.into_bytes(),
+        Ok(words) => form.write(words),
+        Err(_) => refused.into_bytes(),
     };
     Said { bytes, line }
 }

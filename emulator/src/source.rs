@@ -6,6 +6,7 @@ use crate::housefile::{record_bytes, word_bytes};
 use crate::instructions;
 use crate::memory::FRAME_WORDS;
 
+mod check;
 mod show;
 
 pub use show::show;
@@ -34,6 +35,12 @@ hexadecimal after 0x.
   bytes XX XX ..     bytes as they are, in hexadecimal; where they are the last, no end is needed
   words N N ..       words as they are, little-endian; likewise
 
+What the night would refuse is not made: the line is told, and the number of the refusal. Nor is a frame
+filled by an image and again by another line, nor an image taken that is no whole number of words.
+A first line
+  wrong on purpose   makes any file that the lines say, for whoever wants to see it refused
+and a source of bytes and words alone, such as that of a script, makes what these say.
+
 Instructions; every line of a listing (`emulator list`) is one. RD, RS1 and RS2 are registers, r0 to r31, of which r0 is always 0. IMM is a number from
 -32768 to 32767 (j, jal and trap: -33554432 to 33554431, lhgi: 0 to 65535); in a branch or jump it
 counts in bytes from the instruction behind it. SPECIAL is a special register, by number or name:
@@ -53,8 +60,12 @@ pub fn bytes_with(source: &str, images: Images) -> Result<Vec<u8>, String> {
         maker.line(line, number + 1, images)?;
     }
     maker.close()?;
+    let last = source.lines().count();
     if !maker.whole {
-        return Err(told(source.lines().count(), "expected `end` as the last record".into()));
+        return Err(told(last, "expected `end` as the last record".into()));
+    }
+    if maker.checked() {
+        maker.check(last)?;
     }
     Ok(maker.file)
 }
@@ -68,18 +79,35 @@ fn told(line: usize, message: String) -> String {
     format!("line {line}: {message}")
 }
 
+/// The first line of a source whose file may be wrong.
+const ON_PURPOSE: [&str; 3] = ["wrong", "on", "purpose"];
+
 /// The file as its lines come.
 #[derive(Default)]
 struct Maker {
     file: Vec<u8>,
+    /// Where in the file what each line wrote begins, and the line.
+    starts: Vec<(usize, usize)>,
     /// The frame whose lines are read.
     frame: Option<Frame>,
-    /// The frames of the partitions so far.
-    partitions: Vec<Vec<u32>>,
+    /// The turn length and the run's, and the line.
+    turns: Option<(u32, u32, usize)>,
+    /// The frames of the partitions so far, and the line of each.
+    partitions: Vec<(Vec<u32>, usize)>,
+    /// The line that filled a frame last, and whether that was by an image.
+    filled: HashMap<u32, (usize, bool)>,
     /// Images without frames so far.
     images: usize,
     /// The last record ends the file, or it is written as it is.
     whole: bool,
+    /// A line that is no comment has been read.
+    begun: bool,
+    /// The file may be wrong.
+    on_purpose: bool,
+    /// It has a record of a house file.
+    records: bool,
+    /// It has bytes or words as they are.
+    as_they_are: bool,
 }
 
 impl Maker {
@@ -87,11 +115,19 @@ impl Maker {
         let told = |message| told(number, message);
         let items: Vec<&str> = line.split_whitespace().collect();
         let Some((&name, rest)) = items.split_first() else { return Ok(()) };
+        let first = !std::mem::replace(&mut self.begun, true);
         match name {
+            _ if items == ON_PURPOSE => {
+                self.on_purpose = true;
+                let early = first.then_some(());
+                early.ok_or(told("expected `wrong on purpose` before all other lines".into()))
+            }
             "turns" | "partition" | "frame" | "image" | "end" | "bytes" | "words" => {
                 self.close()?;
                 self.whole = matches!(name, "end" | "bytes" | "words");
-                self.record(name, rest, images).map_err(told)
+                self.as_they_are |= matches!(name, "bytes" | "words");
+                self.records |= !matches!(name, "bytes" | "words");
+                self.record(name, rest, number, images).map_err(told)
             }
             _ => match self.frame.as_mut() {
                 Some(frame) => frame.line(line, number).map_err(told),
@@ -105,54 +141,94 @@ impl Maker {
     /// Ends the frame whose lines were read.
     fn close(&mut self) -> Result<(), String> {
         if let Some(frame) = self.frame.take() {
+            let line = frame.line;
             let (of, words) = frame.finished()?;
-            self.put_frame(of, &word_bytes(&words));
+            self.put_frame(of, &word_bytes(&words), line);
         }
         Ok(())
     }
 
-    fn put_frame(&mut self, of: u32, bytes: &[u8]) {
+    /// Writes what a line says.
+    fn put(&mut self, bytes: &[u8], line: usize) {
+        self.starts.push((self.file.len(), line));
+        self.file.extend(bytes);
+    }
+
+    fn put_frame(&mut self, of: u32, bytes: &[u8], line: usize) {
         let mut body = of.to_le_bytes().to_vec();
         body.extend(bytes);
         body.resize(4 + FRAME_BYTES, 0);
-        self.file.extend(record_bytes(3, &body));
+        self.put(&record_bytes(3, &body), line);
     }
 
-    fn record(&mut self, name: &str, rest: &[&str], images: Images) -> Result<(), String> {
+    fn record(
+        &mut self,
+        name: &str,
+        rest: &[&str],
+        line: usize,
+        images: Images,
+    ) -> Result<(), String> {
         let bytes = match (name, rest) {
             ("turns", [q, "run", steps]) => {
-                record_bytes(1, &word_bytes(&[number(q)?, number(steps)?]))
+                let (q, steps) = (number(q)?, number(steps)?);
+                self.turns = Some((q, steps, line));
+                record_bytes(1, &word_bytes(&[q, steps]))
             }
             ("turns", _) => return Err("expected `turns Q run N`".into()),
             ("partition", _) => {
-                self.partitions.push(numbers(rest)?);
+                self.partitions.push((numbers(rest)?, line));
                 record_bytes(2, &word_bytes(&numbers(rest)?))
             }
             ("frame", [of]) => {
-                self.frame = Some(Frame::new(number(of)?));
+                let of = number(of)?;
+                self.fill(of, line, false)?;
+                self.frame = Some(Frame::new(of, line));
                 return Ok(());
             }
             ("frame", _) => return Err("expected `frame F`".into()),
-            ("image", [file, frames @ ..]) => return self.image(&images(file)?, file, frames),
+            ("image", [file, frames @ ..]) => {
+                return self.image(&images(file)?, file, frames, line);
+            }
             ("image", _) => return Err("expected `image FILE F F ..`".into()),
             ("end", []) => record_bytes(4, &[]),
             ("end", _) => return Err("expected `end`, and nothing behind it".into()),
             ("bytes", _) => rest.iter().map(|item| hexadecimal(item)).collect::<Result<_, _>>()?,
             _ => word_bytes(&numbers(rest)?),
         };
-        self.file.extend(bytes);
+        self.put(&bytes, line);
         Ok(())
     }
 
+    /// A frame gets its words, which replace those that it had. Those of an image are not lost so.
+    fn fill(&mut self, of: u32, line: usize, image: bool) -> Result<(), String> {
+        let before = self.filled.insert(of, (line, image));
+        match before.filter(|&(_, earlier)| (image || earlier) && !self.on_purpose) {
+            None => Ok(()),
+            Some((other, _)) => Err(format!("frame {of} is filled by line {other} already")),
+        }
+    }
+
     /// An image in frame after frame, as many as it fills.
-    fn image(&mut self, bytes: &[u8], file: &str, frames: &[&str]) -> Result<(), String> {
+    fn image(
+        &mut self,
+        bytes: &[u8],
+        file: &str,
+        frames: &[&str],
+        line: usize,
+    ) -> Result<(), String> {
         let mut frames = numbers(frames)?;
         if frames.is_empty() {
             let of = self.images;
             let list = self.partitions.get(of);
-            frames =
-                list.ok_or(format!("there is no partition {of} for the image {file}"))?.clone();
+            let list = list.ok_or(format!("there is no partition {of} for the image {file}"))?;
+            frames = list.0.clone();
             self.images += 1;
+        }
+        if !bytes.len().is_multiple_of(4) && !self.on_purpose {
+            return Err(format!(
+                "{file} has {} bytes, which is no whole number of words of 4",
+                bytes.len()
+            ));
         }
         let many = bytes.len().div_ceil(FRAME_BYTES);
         if many == 0 || many > frames.len() {
@@ -162,8 +238,9 @@ impl Maker {
                 frames.len()
             ));
         }
-        for (of, piece) in frames.iter().zip(bytes.chunks(FRAME_BYTES)) {
-            self.put_frame(*of, piece);
+        for (&of, piece) in frames.iter().zip(bytes.chunks(FRAME_BYTES)) {
+            self.fill(of, line, true)?;
+            self.put_frame(of, piece, line);
         }
         Ok(())
     }
@@ -172,6 +249,8 @@ impl Maker {
 /// A frame as its lines come.
 struct Frame {
     of: u32,
+    /// The line that begins it.
+    line: usize,
     words: Vec<u32>,
     next: usize,
     labels: HashMap<String, usize>,
@@ -187,9 +266,9 @@ struct Branch {
 }
 
 impl Frame {
-    fn new(of: u32) -> Frame {
+    fn new(of: u32, line: usize) -> Frame {
         let words = vec![0; FRAME_WORDS];
-        Frame { of, words, next: 0, labels: HashMap::new(), branches: Vec::new() }
+        Frame { of, line, words, next: 0, labels: HashMap::new(), branches: Vec::new() }
     }
 
     fn line(&mut self, line: &str, number: usize) -> Result<(), String> {
@@ -310,7 +389,7 @@ mod tests {
 
     #[test]
     fn labels() {
-        let source = "frame 1\n at 8\nback:\n j back\n beqz r0 on\n addi r0 r0 0\non: rfe\nnext:word 7\n jal next\nend";
+        let source = "wrong on purpose\nframe 1\n at 8\nback:\n j back\n beqz r0 on\n addi r0 r0 0\non: rfe\nnext:word 7\n jal next\nend";
         let record = bytes(source).unwrap();
         let word = |at: usize| u32::from_le_bytes(record[10 + at..14 + at].try_into().unwrap());
         assert_eq!(word(8), 2 << 26 | 0x03FF_FFFC);
@@ -326,9 +405,9 @@ mod tests {
             "turns 1 run 0\npartition 2 3\npartition 4 5\nimage a\nimage b\nimage c 7 6\nend";
         let mut asked = |name: &str| {
             Ok(match name {
-                "a" => vec![1, 0, 0, 0, 2],
+                "a" => vec![1, 0, 0, 0, 2, 0, 0, 0],
                 "b" => [vec![3; 4_096], vec![4; 4_096]].concat(),
-                _ => [vec![5; 4_096], vec![6]].concat(),
+                _ => [vec![5; 4_096], vec![6, 0, 0, 0]].concat(),
             })
         };
         let memory = read(&bytes_with(source, &mut asked).unwrap()).unwrap().memory;
@@ -345,9 +424,11 @@ mod tests {
     fn images_that_do_not_fit() {
         let told =
             |source: &str, size: usize| bytes_with(source, &mut |_| Ok(vec![0; size])).unwrap_err();
-        let two = "line 2: a has 4097 bytes, which fill 2 frames of 4096; was given 1 for it";
-        assert_eq!(told("partition 1\nimage a\nend", 4_097), two);
-        assert_eq!(told("partition 1 2\nimage a 1\nend", 4_097), two);
+        let two = "line 2: a has 4100 bytes, which fill 2 frames of 4096; was given 1 for it";
+        assert_eq!(told("partition 1\nimage a\nend", 4_100), two);
+        assert_eq!(told("partition 1 2\nimage a 1\nend", 4_100), two);
+        let part = "line 2: a has 4097 bytes, which is no whole number of words of 4";
+        assert_eq!(told("partition 1 2\nimage a\nend", 4_097), part);
         let none = "line 1: a has 0 bytes, which fill 0 frames of 4096; was given 1 for it";
         assert_eq!(told("image a 1\nend", 0), none);
         let second = "line 3: there is no partition 1 for the image b";
@@ -379,18 +460,34 @@ mod tests {
         }
     }
 
+    /// What is wrong on purpose is made as it was said, part of a word and a frame filled twice.
+    #[test]
+    fn wrong_on_purpose() {
+        let source = "# ours\n\nwrong on purpose # it is\nturns 0 run 1\npartition 1 1\nimage a\nframe 1\n rfe\nend";
+        let mut asked = |_: &str| Ok(vec![1, 2, 3, 4, 5]);
+        let file = bytes_with(source, &mut asked).unwrap();
+        assert_eq!(file[28..42], [4, 16, 0, 0, 3, 0, 1, 0, 0, 0, 1, 2, 3, 4]);
+        assert_eq!(file[42..46], [5, 0, 0, 0]);
+        assert_eq!(read(&file).unwrap().memory[1_024], 0xFC00_0000);
+        let late = "turns 1 run 1\nwrong on purpose\npartition 1\nend";
+        let told = "line 2: expected `wrong on purpose` before all other lines";
+        assert_eq!(bytes(late), Err(told.into()));
+        assert!(bytes("wrong on\nend").unwrap_err().starts_with("line 1: expected a record"));
+    }
+
     #[test]
     fn what_is_written_as_it_is_needs_no_end() {
         assert_eq!(bytes("bytes 01 ff\n"), Ok(vec![1, 255]));
         assert_eq!(
-            bytes("turns 1 run 2\nwords 1"),
-            Ok([&bytes("turns 1 run 2\nend").unwrap()[..14], &[1, 0, 0, 0]].concat())
+            bytes("wrong on purpose\nturns 1 run 2\nwords 1"),
+            Ok([&bytes("turns 1 run 2\npartition 1\nend").unwrap()[..14], &[1, 0, 0, 0]].concat())
         );
     }
 
     #[test]
     fn the_form_names_every_record() {
-        for name in ["turns", "partition", "frame", "image", "end", "bytes", "words", "at", "word"]
+        for name in
+            ["turns", "partition", "frame", "image", "end", "bytes", "words", "at", "word", "wrong"]
         {
             assert!(
                 form().lines().any(|line| line.split_whitespace().next() == Some(name)),

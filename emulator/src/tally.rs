@@ -58,7 +58,8 @@ impl Of {
             Of::Readout => {
                 let mut kinds: Vec<String> =
                     plain(&["failed", "to the end", "of no words", "over pages"]);
-                for form in ["decimals", "raw"] {
+                kinds.push("signed, below 0".into());
+                for form in ["decimals", "raw", "signed"] {
                     let kind = |kind: &str| format!("{form}, {kind}");
                     kinds.extend(["house, done", "saved, done"].map(kind));
                     kinds.extend([10, 12, 17].map(|number| kind(&format!("refused {number}"))));
@@ -138,17 +139,20 @@ impl Tally {
 
     fn readout(&mut self, shape: &str, read: &Read) {
         let bytes = &read.file.bytes;
-        let Some(Words { partition, address, count, raw }) = Words::read(&read.words) else {
+        let Some(Words { partition, address, count, form }) = Words::read(&read.words) else {
             return self.add("failed".into());
         };
-        let form = if raw { "raw" } else { "decimals" };
+        let form = form.name();
         let counts = &mut Counts::default();
-        readout(bytes, &read.words, counts);
+        let said = readout(bytes, &read.words, counts);
         let number = counts.answers.iter().position(|&given| given > 0).unwrap_or(0);
         if number > 0 {
             return self.add(format!("{form}, refused {number}"));
         }
         self.add(format!("{form}, {shape}, done"));
+        if form == "signed" && said.bytes.contains(&b'-') {
+            self.add("signed, below 0".into());
+        }
         let (first, end) = (u64::from(address), u64::from(address) + 4 * count);
         let pages = house(bytes, counts)
             .map_or(0, |(house, _)| u64::from(house.guests[partition as usize].space.pages));

@@ -163,7 +163,7 @@ fn damaged_lines() {
 #[test]
 fn every_line_is_a_line_of_a_source() {
     for words in boundary_words().chunks(1_024) {
-        let source = format!("frame 1\n{}end\n", list(words));
+        let source = format!("wrong on purpose\nframe 1\n{}end\n", list(words));
         let file = source::bytes(&source).unwrap();
         let made = emulator::listing::words(&file[10..10 + 4 * words.len()]).unwrap();
         assert!(made == words);

@@ -321,8 +321,8 @@ const MUTANTS: &[Mutant] = &[
     Mutant("look: the current one alone runs", "look.rs", "partition(&mut text, number, guest, running)", "partition(&mut text, number, guest, running && number == *current as usize)"),
     Mutant("reads: a saved house is run", "reads.rs", "return saved_house(bytes, counts);", "return saved_house(bytes, counts).map(|(mut house, mut memory)| {\n            let _ = house.run(&mut memory, 1, counts);\n            (house, memory)\n        });"),
     Mutant("reads: a kind has one byte", "reads.rs", "bytes.get(4..HEAD) == Some(&TURN.to_le_bytes())", "bytes.get(4) == Some(&5)"),
-    Mutant("reads: raw refusals on one output", "reads.rs", "read.as_ref().err().filter(|_| raw)", "read.as_ref().err().filter(|_| false)"),
-    Mutant("reads: a count of 32 bits", "reads.rs", "count: decimal(count)?, raw }", "count: decimal(count)? & 0xFFFF_FFFF, raw }"),
+    Mutant("reads: raw refusals on one output", "reads.rs", "read.as_ref().err().filter(|_| form == Form::Raw)", "read.as_ref().err().filter(|_| false)"),
+    Mutant("reads: a count of 32 bits", "reads.rs", "count: decimal(count)?, form }", "count: decimal(count)? & 0xFFFF_FFFF, form }"),
     Mutant("reads: a frame is listed behind the run", "reads.rs", "housefile::held(bytes)", "housefile::attempt(bytes, Engine::Shadowed, counts).map(|(_, memory)| memory)"),
     // The engine without shadows.
     Mutant("unshadowed: it keeps the shadows", "engines.rs", "for guest in &mut self.guests {\n            guest.space.empty();\n        }\n        for _ in 0..steps", "for _ in 0..steps"),
@@ -378,6 +378,64 @@ const MUTANTS: &[Mutant] = &[
     Mutant("an empty list is 15", "housefile.rs", "if !well_sized ||", "if !well_sized || body.is_empty() ||"),
     Mutant("a kind has one byte", "housefile.rs", "let kind = u16::from_le_bytes(bytes.get(4..HEAD)?.try_into().ok()?);", "let kind = u16::from(*bytes.get(4)?);\n    bytes.get(5)?;"),
     Mutant("the detail is the file's end", "housefile.rs", "let (kind, body) = record(&bytes[at..]).ok_or(wrong)?;", "let (kind, body) = record(&bytes[at..]).ok_or(Wrong(bytes.len() as u64))?;"),
+    // House files from images.
+    Mutant("noon: high byte first", "noon.rs", "let words = listing::words(&images(name)?);", "let words = listing::words(&images(name)?).map(|words| words.into_iter().map(u32::swap_bytes).collect::<Vec<u32>>());"),
+    Mutant("noon: an image is laid one frame late", "noon.rs", "&mut memory[*frame as usize * FRAME_WORDS", "&mut memory[(*frame as usize + 1) % FRAMES * FRAME_WORDS"),
+    Mutant("noon: an image is laid one page late", "noon.rs", "partition.frames.get(place / FRAME_WORDS)", "partition.frames.get(place / FRAME_WORDS + 1)"),
+    Mutant("noon: an image goes on in the next frame", "noon.rs", "partition.frames.get(place / FRAME_WORDS)", "partition.frames.get(place / FRAME_WORDS).map(|_| (partition.frames[0] + (place / FRAME_WORDS) as u32) % 16).as_ref()"),
+    Mutant("noon: an address counts words", "noon.rs", "(*address as usize / 4..)", "(*address as usize..)"),
+    Mutant("noon: a frame's record is too short", "noon.rs", "file.extend(record_bytes(3, &word_bytes(&[&[frame], words].concat())));", "let mut record = record_bytes(3, &word_bytes(&[&[frame], words].concat()));\n        record[0] = 0;\n        file.extend(record);"),
+    Mutant("noon: kind 4 has a body", "noon.rs", "file.extend(record_bytes(4, &[]));", "file.extend(record_bytes(4, &[0]));"),
+    Mutant("noon: frames without words have no record", "noon.rs", "for (frame, words) in (0..).zip(memory.chunks_exact(FRAME_WORDS)) {", "for (frame, words) in (0..).zip(memory.chunks_exact(FRAME_WORDS)).filter(|(_, words)| words.iter().any(|&word| word != 0)) {"),
+    Mutant("noon: no record of frame 0", "noon.rs", "for (frame, words) in (0..).zip(memory.chunks_exact(FRAME_WORDS)) {", "for (frame, words) in (0..).zip(memory.chunks_exact(FRAME_WORDS)).skip(1) {"),
+    Mutant("noon: the sum is without the last word", "noon.rs", "words.iter().fold(", "words.iter().rev().skip(1).fold("),
+    Mutant("noon: the sum does not wrap", "noon.rs", "sum.wrapping_add(word)", "sum.saturating_add(word)"),
+    Mutant("noon: the number of bytes is told", "noon.rs", "let many = words.len();", "let many = 4 * words.len();"),
+    Mutant("noon: part of a word is dropped", "noon.rs", "let words = listing::words(&images(name)?);", "let words = listing::words(&images(name)?.chunks_exact(4).flatten().copied().collect::<Vec<u8>>());"),
+    Mutant("noon: words beyond the pages are dropped", "noon.rs", "let frame = frame.ok_or(format!(\"{name}: a word beyond partition {at}'s pages\"))?;", "let Some(frame) = frame else {\n                    break;\n                };"),
+    Mutant("noon: an image may lie over another", "noon.rs", "if host.replace(word).is_some() {", "if host.replace(word).is_some() && name.is_empty() {"),
+    Mutant("noon: a zero may be lain over", "noon.rs", "if host.replace(word).is_some() {", "if host.replace(word).is_some_and(|before| before != 0) {"),
+    Mutant("noon: the first @ counts", "noon.rs", "word.rsplit_once('@')", "word.split_once('@')"),
+    Mutant("noon: an address is rounded", "noon.rs", "if !address.is_multiple_of(4) {", "if address % 4 == 4 {"),
+    Mutant("noon: leading zeros are wrong", "noon.rs", "let number = decimal(word)", "let number = decimal(word).filter(|_| word == \"0\" || !word.starts_with('0'))"),
+    Mutant("noon: a number wraps", "noon.rs", "and_then(|number| u32::try_from(number).ok())", "map(|number| number as u32)"),
+    Mutant("noon: an empty word is no list", "noon.rs", "if word.is_empty() {\n        return Ok(Vec::new());", "if word.is_empty() {\n        return Err(\"expected frames\".into());"),
+    Mutant("noon: a list may end in a comma", "noon.rs", "word.split(',').map(number)", "word.split_terminator(',').map(number)"),
+    Mutant("noon: a partition may have no image", "noon.rs", "if many == 0 {", "if many > 64 {"),
+    Mutant("noon: any word begins the first partition", "noon.rs", "if word != PARTITION {", "if word != PARTITION && !asked.partitions.is_empty() {"),
+    Mutant("noon: 63 images at most", "noon.rs", "MOST_IMAGES: usize = 64", "MOST_IMAGES: usize = 63"),
+    Mutant("noon: 65 images", "noon.rs", "MOST_IMAGES: usize = 64", "MOST_IMAGES: usize = 65"),
+    Mutant("noon: images are opened before the night refuses", "noon.rs", "if let Err(refusal) = check(", "let mut all = asked.partitions.iter().flat_map(|partition| &partition.images);\n    if let Some(missing) = all.find(|image| images(&image.name).is_err()) {\n        return Answer::Failed(missing.name.clone());\n    }\n    if let Err(refusal) = check("),
+    Mutant("noon: 14 before boot's refusals", "housefile.rs", "House::boot(&pages, q, &lists.concat(), FRAMES * FRAME_WORDS).1?;\n    if steps > MOST_STEPS {\n        return Err(Refusal::TooLong);\n    }", "if steps > MOST_STEPS {\n        return Err(Refusal::TooLong);\n    }\n    House::boot(&pages, q, &lists.concat(), FRAMES * FRAME_WORDS).1?;"),
+    Mutant("noon: 1,000,001 steps", "housefile.rs", "if steps > MOST_STEPS {", "if steps > MOST_STEPS + 1 {"),
+    Mutant("noon: 1,024 frames", "housefile.rs", "House::boot(&pages, q, &lists.concat(), FRAMES * FRAME_WORDS).1?;", "House::boot(&pages, q, &lists.concat(), 1_024 * FRAME_WORDS).1.map_err(|refusal| if refusal.number() == 6 { Refusal::Frame(0) } else { refusal })?;"),
+    Mutant("noon: what is refused empties OUT", "main.rs", "Answer::Refused(number, detail) => {", "Answer::Refused(number, detail) => {\n            let _ = fs::write(&words[0], []);"),
+    Mutant("noon: a file stays beside it", "beside.rs", "fs::rename(&beside, out)", "fs::copy(&beside, out).map(drop)"),
+    Mutant("noon: it prints before it writes", "main.rs", "Answer::Made(text, file) => match beside::write(&words[0], &file) {\n            Ok(()) => print(&text),", "Answer::Made(text, file) => match print(&text).and_then(|_| beside::write(&words[0], &file)) {\n            Ok(()) => Ok(ExitCode::SUCCESS),"),
+    // Words of decimals, and read-outs of two's complement numbers.
+    Mutant("words: high byte first", "decimals.rs", "Ok(word_bytes(&words))", "Ok(word_bytes(&words.into_iter().map(u32::swap_bytes).collect::<Vec<u32>>()))"),
+    Mutant("words: 4294967296 is 0", "decimals.rs", "(more <= u64::from(u32::MAX)).then_some(more)", "(more <= u64::from(u32::MAX) + 1).then_some(more)"),
+    Mutant("words: large numbers wrap", "decimals.rs", "(more <= u64::from(u32::MAX)).then_some(more)", "Some(more % (1 << 32))"),
+    Mutant("words: 4294967295 is too large", "decimals.rs", "(more <= u64::from(u32::MAX)).then_some(more)", "(more < u64::from(u32::MAX)).then_some(more)"),
+    Mutant("words: -2147483649 wraps", "decimals.rs", "(number <= 1 << 31).then(", "(number <= (1 << 31) + 1).then("),
+    Mutant("words: -2147483648 is too small", "decimals.rs", "(number <= 1 << 31).then(", "(number < 1 << 31).then("),
+    Mutant("words: a minus is a mask", "decimals.rs", "(number as u32).wrapping_neg()", "!(number as u32)"),
+    Mutant("words: 0 has no minus", "decimals.rs", "(number <= 1 << 31).then(", "(number > 0 && number <= 1 << 31).then("),
+    Mutant("words: leading zeros are wrong", "decimals.rs", "if digits.is_empty() {", "if digits.is_empty() || digits.len() > 1 && digits[0] == b'0' {"),
+    Mutant("words: no digits are 0", "decimals.rs", "if digits.is_empty() {", "if line.is_empty() {"),
+    Mutant("words: a plus is taken", "decimals.rs", "let digits = line.strip_prefix(b\"-\");", "let line = line.strip_prefix(b\"+\").unwrap_or(line);\n    let digits = line.strip_prefix(b\"-\");"),
+    Mutant("words: a carriage return is taken", "decimals.rs", "let digits = line.strip_prefix(b\"-\");", "let line = line.strip_suffix(b\"\\r\").unwrap_or(line);\n    let digits = line.strip_prefix(b\"-\");"),
+    Mutant("words: lines are counted from 0", "decimals.rs", "format!(\"refused: 18 {}\", at + 1)", "format!(\"refused: 18 {}\", at)"),
+    Mutant("words: empty lines are passed over", "decimals.rs", "lines.filter(|_| !text.is_empty())", "lines.filter(|line| !line.is_empty())"),
+    Mutant("words: an empty text has a line", "decimals.rs", "lines.filter(|_| !text.is_empty())", "lines.filter(|_| true)"),
+    Mutant("words: one more", "decimals.rs", "if words.len() > MOST {", "if words.len() > MOST + 1 {"),
+    Mutant("words: one fewer", "decimals.rs", "if words.len() > MOST {", "if words.len() >= MOST {"),
+    Mutant("words: 13 before 18", "decimals.rs", "let told = |(at, line)|", "if lines.clone().count() > MOST {\n        return Err(\"refused: 13 0\".into());\n    }\n    let told = |(at, line)|"),
+    Mutant("signed: as they are", "decimals.rs", "(word as i32).to_string()", "word.to_string()"),
+    Mutant("signed: the sign and the rest", "decimals.rs", "(word as i32).to_string()", "if word < 1 << 31 { word.to_string() } else { format!(\"-{}\", word & 0x7FFF_FFFF) }"),
+    Mutant("signed: half words", "decimals.rs", "(word as i32).to_string()", "(word as i16).to_string()"),
+    Mutant("signed: a refusal on standard error, too", "reads.rs", ".filter(|_| form == Form::Raw)", ".filter(|_| form != Form::Decimals)"),
+    Mutant("signed: any fifth word is", "reads.rs", "_ => return None,\n            },", "_ => (numbers, Form::Signed),\n            },"),
 ];
 
 impl Mutant {
@@ -423,16 +481,26 @@ fn build(directory: &Path) -> PathBuf {
     directory.join("target/debug/emulator")
 }
 
-fn compare(program: &Path) -> Output {
+/// Compares the program by all that it does; one that breaks a rule of programs that share nothing with the
+/// rest, by these alone.
+fn compare(program: &Path, mutant: &Mutant) -> Output {
     let command = |name: &str| format!("'{}' {name}", program.display());
-    Command::new(env!("CARGO_BIN_EXE_emulator"))
-        .args(["compare", "--drill", &command("play"), "--night", &command("night")])
+    let (noon, words) = (command("noon"), command("words -"));
+    let own = [("noon: ", "--noon", &noon), ("words: ", "--into-words", &words)];
+    let mut compare = Command::new(env!("CARGO_BIN_EXE_emulator"));
+    compare.args(["compare", "--limit", "60"]);
+    if let Some((_, option, program)) = own.iter().find(|(of, ..)| mutant.0.starts_with(of)) {
+        return compare.args([option, &program[..]]).output().expect("the comparison starts");
+    }
+    compare
+        .args(["--noon", &noon, "--into-words", &words])
+        .args(["--drill", &command("play"), "--night", &command("night")])
         .args(["--audit", &command("audit")])
         .args(["--save", &command("night"), "--resume", &command("resume")])
         .args(["--unshadowed", &command("night")])
         .args(["--look", &command("look -"), "--readout", &command("readout -")])
         .args(["--list", &command("list -"), "--words", "0"])
-        .args(["--limit", "60", "--files", "400"])
+        .args(["--files", "400"])
         .output()
         .expect("the comparison starts")
 }
@@ -460,7 +528,7 @@ fn every_broken_rule_is_found() {
     let mut missed = Vec::new();
     for mutant in MUTANTS.iter().filter(|mutant| mutant.0.contains(&only)) {
         copy(&directory, mutant);
-        let output = compare(&build(&directory));
+        let output = compare(&build(&directory), mutant);
         match summary(&output) {
             Some(told) => println!("{}: {told}", mutant.0),
             None => missed.push(mutant.0),

@@ -10,7 +10,9 @@ use emulator::housefile::night_saved;
 use emulator::listing::line;
 use emulator::memory::Engine;
 use emulator::named;
-use emulator::reads::{audit, decimal, house, is_saved, list_frame, look, readout, Said, Words};
+use emulator::reads::{
+    audit, decimal, house, is_saved, list_frame, look, readout, Form, Said, Words,
+};
 use emulator::saved::file;
 use emulator::tally::{Of, Tally};
 
@@ -128,19 +130,32 @@ fn words_of_a_partition() {
             [8, 0, 1, 172, 5, 0, 0, 0]
         );
         assert_eq!(read(&bytes, "0 0 1024").lines().count(), 1_024);
+        assert_eq!(read(&bytes, "0 0 3 signed"), "536936453\n-1409220600\n5\n");
+        assert_eq!(read(&bytes, "0 4096 0 signed"), "");
+        assert_eq!(read(&bytes, "0 0 1025 signed"), "refused 12 0\n");
+        assert_eq!(read(&bytes, "1 0 1 signed"), "refused 10 0\n");
         assert_eq!(read(&bytes, "0 4096 0"), "");
         for beyond in ["0 0 1025", "0 2 0", "0 4100 0", "0 0 18446744073709551615"] {
             assert_eq!(read(&bytes, beyond), "refused 12 0\n");
         }
         assert_eq!(read(&bytes, "1 2 9"), "refused 10 0\n");
         assert_eq!(read(&bytes, "4294967295 0 1 raw"), "refused 10 0\nrefused: 10 0");
-        for wrong in ["0 0", "0 0 x", "4294967296 0 1", "0 0 1 RAW", "0 0 1 raw raw", "-1 0 1"] {
+        for wrong in [
+            "0 0",
+            "0 0 x",
+            "4294967296 0 1",
+            "0 0 1 RAW",
+            "0 0 1 Signed",
+            "0 0 1 raw raw",
+            "0 0 1 raw signed",
+            "-1 0 1",
+        ] {
             assert_eq!(readout(&bytes, &words(wrong), &mut counts()), Said::failed(), "{wrong}");
         }
     }
     assert_eq!((decimal("0018"), decimal(""), decimal("+1")), (Some(18), None, None));
     let largest = Words::read(&words("4294967295 4294967295 18446744073709551615 raw")).unwrap();
-    assert_eq!((largest.count, largest.raw), (u64::MAX, true));
+    assert_eq!((largest.count, largest.form), (u64::MAX, Form::Raw));
 }
 
 #[test]

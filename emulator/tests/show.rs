@@ -3,8 +3,9 @@
 use std::fs;
 use std::path::Path;
 
+use emulator::counts::Counts;
 use emulator::dlx::decode;
-use emulator::housefile::{read, record_bytes, word_bytes, FRAMES};
+use emulator::housefile::{night, read, record_bytes, word_bytes, FRAMES};
 use emulator::memory::FRAME_WORDS;
 use emulator::rng::Rng;
 use emulator::{generate, named, source};
@@ -51,12 +52,25 @@ fn well_formed_files() {
 fn damaged_cut_and_named_files() {
     let files = named::files().into_iter().chain(generate::files(7, 500));
     let mut wrong = 0;
+    let mut refused = 0;
     for file in files {
         let text = holds(&file.name, &file.bytes);
         assert_eq!(text.starts_with("# a wrong house file"), read(&file.bytes).is_err());
         wrong += usize::from(read(&file.bytes).is_err());
+        // What is right needs no word, and what the night refuses says by what.
+        let told = night(&file.bytes, &mut Counts::default());
+        let said = text.lines().find(|line| line.starts_with("wrong on purpose # "));
+        match told.strip_prefix("refused ") {
+            None => assert_eq!(said, None),
+            Some(_) if text.lines().all(|line| line.starts_with(['#', 'b'])) => {}
+            Some(_) => {
+                assert_eq!(said, Some(&format!("wrong on purpose # `{}`", told.trim_end())[..]));
+                refused += 1;
+            }
+        }
     }
     assert!(wrong > 300, "{wrong}");
+    assert!(refused > 300, "{refused}");
     assert_eq!(holds("the empty file", b"").lines().count(), 2);
 }
 
@@ -104,6 +118,7 @@ fn words_by_name_and_by_number() {
         "word 4294967295",
         "bytes",
     ];
-    assert_eq!(lines[1..], expected);
+    assert_eq!(lines[1], "wrong on purpose");
+    assert_eq!(lines[2..], expected);
     assert!(decode(2_000).is_none() && decode(0xFFFF_FFFF).is_some(), "rfe with another immediate");
 }

@@ -1,8 +1,11 @@
 //! Listings by other programs: words listed, and lines assembled.
 
+use std::collections::BTreeMap;
+
 use super::{add, first_lines, in_parallel, Options, Outcome, NOT_TWICE};
+use crate::decimals;
 use crate::generate::listings::{around, boundary_words, damaged, damages, words, Damaged};
-use crate::generate::File;
+use crate::generate::{self, File};
 use crate::housefile::{word_bytes, PIECE};
 use crate::listing::{list, word};
 use crate::named;
@@ -22,6 +25,10 @@ pub fn compare_listings(options: &Options, outcome: &mut Outcome) -> Result<(), 
         let side = Side { name: "assemble", program, ours: assembled };
         compare_words(&side, options, outcome)?;
         compare_lines(&side, options, outcome)?;
+    }
+    if let Some(program) = &options.into_words {
+        let side = Side { name: "words", program, ours: worded };
+        compare_decimals(&side, options, outcome)?;
     }
     Ok(())
 }
@@ -60,6 +67,13 @@ fn listed(bytes: &[u8]) -> Said {
 
 fn assembled(text: &[u8]) -> Said {
     match crate::listing::assembled(text) {
+        Ok(bytes) => Said::done(bytes),
+        Err(refused) => Said { bytes: Vec::new(), refused: Some(refused) },
+    }
+}
+
+fn worded(text: &[u8]) -> Said {
+    match decimals::words(text) {
         Ok(bytes) => Said::done(bytes),
         Err(refused) => Said { bytes: Vec::new(), refused: Some(refused) },
     }
@@ -128,6 +142,9 @@ impl Side<'_> {
             let refused = said.refused.clone().unwrap_or_default();
             let text = match crate::listing::words(&said.bytes) {
                 Some(words) if self.name == "assemble" => list(&words),
+                Some(words) if self.name == "words" => {
+                    words.iter().map(|word| format!("{word}\n")).collect()
+                }
                 _ => String::from_utf8_lossy(&said.bytes).into_owned(),
             };
             text + &refused
@@ -218,6 +235,28 @@ fn compare_lines(side: &Side, options: &Options, outcome: &mut Outcome) -> Resul
     }
     let (all, right, told) = (lines.len(), right.len(), alone.len());
     add(report, &format!("damaged lines: {all}, right {right}, wrong and told {told}"));
+    Ok(())
+}
+
+/// Texts of decimals at the limits, and random ones.
+fn compare_decimals(side: &Side, options: &Options, outcome: &mut Outcome) -> Result<(), String> {
+    let named = generate::decimals::named();
+    let random = generate::decimals::texts(options.seed, options.texts);
+    let bytes = |texts: &[File], at: usize| texts[at].bytes.clone();
+    let first = side.compare(named.len(), options.jobs, &|at| bytes(&named, at), false)?;
+    let rest = side.compare(random.len(), options.jobs, &|at| bytes(&random, at), true)?;
+    note(outcome, [first, rest], (named.len() + random.len()) as u64);
+    let mut told: BTreeMap<String, usize> = BTreeMap::new();
+    for text in named.iter().chain(&random) {
+        let said = worded(&text.bytes);
+        let number = said.refused.as_deref().and_then(|line| line.get(9..11));
+        *told.entry(number.unwrap_or("right").to_string()).or_default() += 1;
+    }
+    let told: Vec<String> = told.iter().map(|(number, many)| format!("{number}:{many}")).collect();
+    let told = told.join(" ");
+    let (named, random) = (named.len(), random.len());
+    let line = format!("texts of words by number: {told}; named: {named}, random: {random}");
+    add(&mut outcome.report, &line);
     Ok(())
 }
 

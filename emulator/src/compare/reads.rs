@@ -105,7 +105,7 @@ impl Side<'_> {
 }
 
 /// The text of both outputs; what is no text is escaped.
-fn lines(said: &Said) -> String {
+pub(super) fn lines(said: &Said) -> String {
     let line = said.line.clone().unwrap_or_default();
     match std::str::from_utf8(&said.bytes) {
         Ok(text) => format!("{text}{line}"),
@@ -114,7 +114,7 @@ fn lines(said: &Said) -> String {
 }
 
 /// What a program said. How it ended counts only where it told no refusal.
-fn said(reply: Reply) -> Said {
+pub(super) fn said(reply: Reply) -> Said {
     let first = reply.errors.lines().next().unwrap_or_default();
     let line = match first {
         _ if first.starts_with("failed:") => Some("failed:".to_string()),

@@ -118,25 +118,25 @@ impl Case {
     }
 }
 
-fn name(path: &Path) -> String {
+pub(super) fn name(path: &Path) -> String {
     path.to_string_lossy().into_owned()
 }
 
 /// A folder for the files that the programs read and write; it goes with its owner.
-struct Folder {
+pub(super) struct Folder {
     path: PathBuf,
     next: AtomicU64,
 }
 
 impl Folder {
-    fn new(name: &str) -> Result<Folder, String> {
+    pub(super) fn new(name: &str) -> Result<Folder, String> {
         let path = env::temp_dir().join(format!("emulator-{}-{name}", process::id()));
         fs::create_dir_all(&path).map_err(|error| format!("{}: {error}", path.display()))?;
         Ok(Folder { path, next: AtomicU64::new(0) })
     }
 
     /// A name that no other file has.
-    fn path(&self, kind: &str) -> PathBuf {
+    pub(super) fn path(&self, kind: &str) -> PathBuf {
         let number = self.next.fetch_add(1, Ordering::Relaxed);
         self.path.join(format!("{kind}-{number}"))
     }

@@ -260,12 +260,12 @@ fn asked(rng: &mut Rng, partition: u32, partitions: u32, size: u32) -> Vec<Strin
     let few = u64::from(rng.below(60)).min(rest);
     let near = rest.min(1);
     let (mut partition, mut address, mut count) = (partition, 4 * first, few);
-    match rng.below(16) {
+    match rng.below(17) {
         0 | 1 => count = rest,
         2 => (address, count) = (4 * size - 4, 1),
         3 => count = rest + near,
         4 => address += rng.between(1, 3),
-        5 => partition = rng.pick(&[partitions, partitions + 1, 8, u32::MAX]),
+        5 | 16 => partition = rng.pick(&[partitions, partitions + 1, 8, u32::MAX]),
         6 => count = rng.pick(&[u64::MAX, 1 << 62, 1 << 30, (1 << 62) - 1]),
         7 => (address, count) = (4 * size, 0),
         8 => (address, count) = (rng.pick(&[4 * size + 4, u32::MAX - 3, u32::MAX]), 0),
@@ -273,8 +273,10 @@ fn asked(rng: &mut Rng, partition: u32, partitions: u32, size: u32) -> Vec<Strin
         _ => {}
     }
     let mut words = vec![partition.to_string(), address.to_string(), count.to_string()];
-    if rng.chance(40) {
-        words.push("raw".into());
+    match rng.below(10) {
+        0..=3 => words.push("raw".into()),
+        4..=6 => words.push("signed".into()),
+        _ => {}
     }
     match rng.below(20) {
         0 => words[0].insert_str(0, "0"),
@@ -293,7 +295,7 @@ fn spoil(rng: &mut Rng, words: &mut Vec<String>) {
         0 => words[rng.index(2)] = "4294967296".into(),
         1 => {
             words.truncate(3);
-            words.push(rng.pick(&["RAW", "", "0"]).into());
+            words.push(rng.pick(&["RAW", "", "0", "sign", "Signed", "raw "]).into());
         }
         _ => words[at] = rng.pick(&wrong).into(),
     }

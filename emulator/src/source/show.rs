@@ -2,7 +2,9 @@
 
 use std::fmt::Write;
 
-use crate::housefile::{read, Wrong, HEAD};
+use super::ON_PURPOSE;
+use crate::house::numbers;
+use crate::housefile::{check, read, Wrong, HEAD};
 use crate::instructions::special_of;
 use crate::listing;
 use crate::memory::FRAME_WORDS;
@@ -13,9 +15,6 @@ const BYTES_A_LINE: usize = 32;
 /// The source of any file: its records, and what stands behind the last that is one as it is.
 pub fn show(file: &[u8]) -> String {
     let mut text = String::new();
-    if let Err(Wrong(at)) = read(file) {
-        line(&mut text, format_args!("# a wrong house file: `refused 15 {at}`"));
-    }
     let mut rest = file;
     let mut whole = false;
     while let Some((kind, body)) = record(rest) {
@@ -25,6 +24,14 @@ pub fn show(file: &[u8]) -> String {
         whole = kind == 4;
         rest = &rest[HEAD + body.len()..];
     }
+    let records = !text.is_empty();
+    let (refused, wrong) = (refused(file), ON_PURPOSE.join(" "));
+    if let Some(refused) = refused.as_ref().filter(|_| records) {
+        text.insert_str(0, &format!("{wrong} # `{refused}`\n"));
+    }
+    if let (Some(refused), Err(_)) = (refused, read(file)) {
+        text.insert_str(0, &format!("# a wrong house file: `{refused}`\n"));
+    }
     for some in rest.chunks(BYTES_A_LINE) {
         let bytes: String = some.iter().map(|byte| format!(" {byte:02x}")).collect();
         line(&mut text, format_args!("bytes{bytes}"));
@@ -33,6 +40,15 @@ pub fn show(file: &[u8]) -> String {
         line(&mut text, format_args!("bytes # none: the file stops here, without an end"));
     }
     text
+}
+
+/// What the night says of a file that it does not run.
+fn refused(file: &[u8]) -> Option<String> {
+    let (number, detail) = match read(file) {
+        Err(Wrong(at)) => (15, at),
+        Ok(house) => numbers(Err(check(house.q, house.steps, &house.lists).err()?)),
+    };
+    Some(format!("refused {number} {detail}"))
 }
 
 fn line(text: &mut String, line: std::fmt::Arguments) {
