@@ -1,9 +1,9 @@
 //! A second emulator of the house of partitions.
 //!
 //! It is written from document 01 and requests 1, 2, 4 to 11 and 13 of document 02 alone and, for the lines
-//! that programs print, from docs/FILES.md; it shares no line with the proved house, and exists to be
-//! compared with it: the same script of calls, the same house file, the same saved file or the same listing
-//! must give the same answer.
+//! that programs print and the words that they take, from docs/FILES.md and FORMAT.md; it shares no line with
+//! the proved house, and exists to be compared with it: the same script of calls, the same house file, the
+//! same saved file, the same listing or the same command line must give the same answer.
 
 pub mod assemble;
 pub mod audit;

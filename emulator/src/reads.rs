@@ -155,6 +155,8 @@ pub fn readout(bytes: &[u8], words: &[String], counts: &mut Counts) -> Said {
     let refused = output(read.as_ref().map(|_| String::new()).map_err(|&refused| refused), counts);
     let bytes = match &read {
         Ok(words) => form.write(words),
+        // Raw words are for another program: it gets words or nothing.
+        Err(_) if form == Form::Raw => Vec::new(),
         Err(_) => refused.into_bytes(),
     };
     Said { bytes, line }

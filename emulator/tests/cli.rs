@@ -231,7 +231,9 @@ fn lists_and_assembles() {
 
 #[test]
 fn wrong_use_is_told() {
-    let cases: [&[&str]; 14] = [
+    let cases: [&[&str]; 16] = [
+        &["words", "one", "two"],
+        &["compare", "--noons", "5"],
         &["resume", "/dev/null", "1", "unshadowed"],
         &["readout"],
         &["night", "/dev/null", "save", "out", "unshadowed"],
@@ -260,7 +262,7 @@ fn help_names_every_command() {
     let help = text(&emulator(&["help"], b""));
     for command in [
         "compare", "play", "night", "resume", "audit", "look", "readout", "list", "assemble",
-        "show", "shrink", "generate", "make", "form",
+        "noon", "words", "show", "shrink", "generate", "make", "form",
     ] {
         assert!(help.contains(&format!("emulator {command}")), "{command}");
     }

@@ -322,6 +322,7 @@ const MUTANTS: &[Mutant] = &[
     Mutant("reads: a saved house is run", "reads.rs", "return saved_house(bytes, counts);", "return saved_house(bytes, counts).map(|(mut house, mut memory)| {\n            let _ = house.run(&mut memory, 1, counts);\n            (house, memory)\n        });"),
     Mutant("reads: a kind has one byte", "reads.rs", "bytes.get(4..HEAD) == Some(&TURN.to_le_bytes())", "bytes.get(4) == Some(&5)"),
     Mutant("reads: raw refusals on one output", "reads.rs", "read.as_ref().err().filter(|_| form == Form::Raw)", "read.as_ref().err().filter(|_| false)"),
+    Mutant("reads: a raw refusal among the words", "reads.rs", "Err(_) if form == Form::Raw => Vec::new(),", ""),
     Mutant("reads: a count of 32 bits", "reads.rs", "count: decimal(count)?, form }", "count: decimal(count)? & 0xFFFF_FFFF, form }"),
     Mutant("reads: a frame is listed behind the run", "reads.rs", "housefile::held(bytes)", "housefile::attempt(bytes, Engine::Shadowed, counts).map(|(_, memory)| memory)"),
     // The engine without shadows.
@@ -382,7 +383,7 @@ const MUTANTS: &[Mutant] = &[
     Mutant("noon: high byte first", "noon.rs", "let words = listing::words(&images(name)?);", "let words = listing::words(&images(name)?).map(|words| words.into_iter().map(u32::swap_bytes).collect::<Vec<u32>>());"),
     Mutant("noon: an image is laid one frame late", "noon.rs", "&mut memory[*frame as usize * FRAME_WORDS", "&mut memory[(*frame as usize + 1) % FRAMES * FRAME_WORDS"),
     Mutant("noon: an image is laid one page late", "noon.rs", "partition.frames.get(place / FRAME_WORDS)", "partition.frames.get(place / FRAME_WORDS + 1)"),
-    Mutant("noon: an image goes on in the next frame", "noon.rs", "partition.frames.get(place / FRAME_WORDS)", "partition.frames.get(place / FRAME_WORDS).map(|_| (partition.frames[0] + (place / FRAME_WORDS) as u32) % 16).as_ref()"),
+    Mutant("noon: an image goes on in the next frame", "noon.rs", "&mut memory[*frame as usize * FRAME_WORDS", "&mut memory[(frame - frame + partition.frames[0] + (place / FRAME_WORDS) as u32) as usize % FRAMES * FRAME_WORDS"),
     Mutant("noon: an address counts words", "noon.rs", "(*address as usize / 4..)", "(*address as usize..)"),
     Mutant("noon: a frame's record is too short", "noon.rs", "file.extend(record_bytes(3, &word_bytes(&[&[frame], words].concat())));", "let mut record = record_bytes(3, &word_bytes(&[&[frame], words].concat()));\n        record[0] = 0;\n        file.extend(record);"),
     Mutant("noon: kind 4 has a body", "noon.rs", "file.extend(record_bytes(4, &[]));", "file.extend(record_bytes(4, &[0]));"),

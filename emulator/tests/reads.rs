@@ -139,7 +139,7 @@ fn words_of_a_partition() {
             assert_eq!(read(&bytes, beyond), "refused 12 0\n");
         }
         assert_eq!(read(&bytes, "1 2 9"), "refused 10 0\n");
-        assert_eq!(read(&bytes, "4294967295 0 1 raw"), "refused 10 0\nrefused: 10 0");
+        assert_eq!(read(&bytes, "4294967295 0 1 raw"), "refused: 10 0");
         for wrong in [
             "0 0",
             "0 0 x",

@@ -15,6 +15,8 @@ use crate::shrink::{shrink, Piece};
 
 /// Words that one start of a program gets.
 const BATCH: usize = 1 << 16;
+/// Bytes of a line that is made shorter to be shown.
+const LONG: usize = 40;
 
 /// Compares all that the options ask for of listings.
 pub fn compare_listings(options: &Options, outcome: &mut Outcome) -> Result<(), String> {
@@ -172,8 +174,14 @@ impl Part {
 }
 
 impl Piece for Part {
+    /// A long line without a part of it, at its start or behind that.
     fn simpler(&self) -> Vec<Self> {
-        Vec::new()
+        let bytes = &self.0;
+        let parts = [bytes.len() / 2, bytes.len() / 8, 1];
+        let cut =
+            |part: usize| [[&bytes[..1], &bytes[1 + part..]].concat(), bytes[part..].to_vec()];
+        let long = parts.into_iter().filter(|_| bytes.len() > LONG);
+        long.flat_map(cut).map(Part).collect()
     }
 }
 
@@ -243,8 +251,8 @@ fn compare_decimals(side: &Side, options: &Options, outcome: &mut Outcome) -> Re
     let named = generate::decimals::named();
     let random = generate::decimals::texts(options.seed, options.texts);
     let bytes = |texts: &[File], at: usize| texts[at].bytes.clone();
-    let first = side.compare(named.len(), options.jobs, &|at| bytes(&named, at), false)?;
-    let rest = side.compare(random.len(), options.jobs, &|at| bytes(&random, at), true)?;
+    let first = side.compare(named.len(), options.jobs, &|at| bytes(&named, at), true)?;
+    let rest = side.compare(random.len(), options.jobs, &|at| bytes(&random, at), false)?;
     note(outcome, [first, rest], (named.len() + random.len()) as u64);
     let mut told: BTreeMap<String, usize> = BTreeMap::new();
     for text in named.iter().chain(&random) {
