@@ -43,7 +43,7 @@ emulator compare --drill CMD --night CMD --audit CMD --list CMD --assemble CMD -
     --words  random words that are listed and assembled again (4194304)
     --lines  damaged lines (100000)
     --alone  those of them that are wrong and are assembled in a text of their own, at most (4000)
-    --noons  random command lines that make a house file from images, or are wrong (160)
+    --noons  random command lines that make a house file from images, or are wrong (200)
     --texts  random texts of decimals, right and wrong (80)
     --jobs   programs that run at the same time (2)
     --limit  seconds that a program may take (600)

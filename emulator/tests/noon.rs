@@ -79,6 +79,21 @@ partition 1, address 4084: 3 words, sum 6: a
     assert!(!folder.0.join("out.new").exists());
 }
 
+/// The night of the example that is made from a source, from the same images by a command line.
+#[test]
+fn the_example_s_night() {
+    let folder = Folder::new("night");
+    let examples = concat!(env!("CARGO_MANIFEST_DIR"), "/../examples");
+    let (bridge, settlement) =
+        (format!("{examples}/bridge.image"), format!("{examples}/settlement.image"));
+    let words = format!("out|400|2000|partition|1,2|{bridge}|partition|3,4|{settlement}");
+    assert_eq!(folder.noon(&words).status.code(), Some(0));
+    let night = Command::new(EMULATOR).args(["night", "out"]).current_dir(&folder.0).output();
+    let expected = fs::read_to_string(format!("{examples}/noon.expected")).expect("a report");
+    let night = night.expect("the program runs").stdout;
+    assert_eq!(String::from_utf8_lossy(&night), expected);
+}
+
 /// The words come first, then what the night would refuse, then the images; nothing is written.
 #[test]
 fn what_is_wrong_is_told_in_order() {
@@ -167,7 +182,7 @@ fn the_default_run_has_every_kind() {
     let all = noons(1, NOONS);
     for kind in kinds() {
         let of_kind: Vec<_> = all.iter().filter(|noon| noon.kind == kind).collect();
-        assert!(of_kind.len() >= 2, "{kind}: {}", of_kind.len());
+        assert!(of_kind.len() >= 3, "{kind}: {}", of_kind.len());
         for one in of_kind {
             let spelled = |word: &Word| match word {
                 Word::Plain(text) | Word::Path(text) => text.clone(),
@@ -185,9 +200,9 @@ fn the_default_run_has_every_kind() {
     assert!(numbers.max() >= Some(8));
 }
 
-fn compare(option: &str, program: &str) -> (Option<i32>, String) {
+fn compare(option: &str, program: &str, noons: &str) -> (Option<i32>, String) {
     let output = Command::new(EMULATOR)
-        .args(["compare", option, program, "--noons", "160", "--texts", "52"])
+        .args(["compare", option, program, "--noons", noons, "--texts", "52"])
         .output()
         .expect("the program runs");
     (output.status.code(), String::from_utf8_lossy(&output.stdout).into_owned())
@@ -199,10 +214,10 @@ fn shell(line: &str) -> String {
 
 #[test]
 fn it_compares_command_lines_where_it_is_asked_to() {
-    let (code, told) = compare("--noon", &format!("'{EMULATOR}' noon"));
+    let (code, told) = compare("--noon", &format!("'{EMULATOR}' noon"), "200");
     assert_eq!(code, Some(0), "{told}");
     assert!(told.contains("kinds of noon: ") && told.contains("\nanswers of noon: "), "{told}");
-    assert!(told.ends_with("emulator: 160 compared, 0 differ\n"), "{told}");
+    assert!(told.ends_with("emulator: 200 compared, 0 differ\n"), "{told}");
     // A byte of the file, what is printed, what is refused, a file that is left, one that is gone.
     let byte = "printf x | dd of=$1 bs=1 seek=30 conv=notrunc status=none";
     let noon = format!("\"{EMULATOR}\" noon \"$@\"");
@@ -215,7 +230,7 @@ fn it_compares_command_lines_where_it_is_asked_to() {
         (format!("{noon} 2>&-"), "  expected: failed:\n"),
     ];
     for (line, said) in lines {
-        let (code, told) = compare("--noon", &shell(&line));
+        let (code, told) = compare("--noon", &shell(&line), "74");
         assert_eq!(code, Some(1), "{line}: {told}");
         assert!(told.contains(" differs in noon:\n") && told.contains(said), "{line}: {told}");
     }
@@ -223,14 +238,14 @@ fn it_compares_command_lines_where_it_is_asked_to() {
 
 #[test]
 fn it_compares_texts_of_decimals_where_it_is_asked_to() {
-    let (code, told) = compare("--into-words", &format!("'{EMULATOR}' words"));
+    let (code, told) = compare("--into-words", &format!("'{EMULATOR}' words"), "0");
     assert_eq!(code, Some(0), "{told}");
     assert!(told.contains("texts of words by number: 13:1 18:"), "{told}");
     assert!(told.ends_with("emulator: 64 compared, 0 differ\n"), "{told}");
     let wrong = shell(&format!("tr -d \"\\r\" | \"{EMULATOR}\" words"));
-    let (code, told) = compare("--into-words", &wrong);
+    let (code, told) = compare("--into-words", &wrong, "0");
     assert_eq!(code, Some(1), "{told}");
     assert!(told.contains("words differs:\n") && told.contains("smallest input, "), "{told}");
     let quiet = shell(&format!("\"{EMULATOR}\" words 2>/dev/null || :"));
-    assert_eq!(compare("--into-words", &quiet).0, Some(1));
+    assert_eq!(compare("--into-words", &quiet, "0").0, Some(1));
 }

@@ -222,8 +222,11 @@ impl Piece for Part {
         let Part::Image(Held { name, bytes: Some(bytes) }) = self else {
             return Vec::new();
         };
-        let shorter = [4, bytes.len() / 8 * 4, bytes.len().saturating_sub(4)];
-        let shorter = shorter.into_iter().filter(|&length| length < bytes.len());
+        // What is no whole number of words stays so, too.
+        let (size, part) = (bytes.len(), bytes.len() % 4);
+        let half = size / 8 * 4;
+        let shorter = [part, 4, 4 + part, half, half + part, size.saturating_sub(4)];
+        let shorter = shorter.into_iter().filter(|&length| length < size);
         let held = |bytes: &[u8]| Held { name: name.clone(), bytes: Some(bytes.to_vec()) };
         shorter.map(|length| Part::Image(held(&bytes[..length]))).collect()
     }

@@ -164,7 +164,7 @@ fn zeros(rng: &mut Rng, number: u32) -> String {
 
 /// Random command lines: two of five are right, every other one has a mistake of the kind whose turn it is.
 pub fn noons(seed: u64, count: usize) -> Vec<Noon> {
-    let mut mistakes = MISTAKES.iter().cycle();
+    let mut mistakes = (0..).flat_map(|turn| MISTAKES.iter().map(move |mistake| (turn, mistake)));
     (0..count)
         .map(|number| {
             let mut rng = Rng::new(!seed ^ (number as u64) << 32 ^ 35);
@@ -177,7 +177,7 @@ pub fn noons(seed: u64, count: usize) -> Vec<Noon> {
 }
 
 /// How many of them.
-pub const NOONS: usize = 160;
+pub const NOONS: usize = 200;
 
 /// The kinds of command lines.
 pub fn kinds() -> impl Iterator<Item = &'static str> {
@@ -187,23 +187,23 @@ pub fn kinds() -> impl Iterator<Item = &'static str> {
 /// The kind of a command line without a mistake.
 pub const RIGHT: &str = "right";
 
-fn compose(rng: &mut Rng, mistake: Option<&Mistake>) -> Noon {
+fn compose(rng: &mut Rng, mistake: Option<(usize, &Mistake)>) -> Noon {
     let mut plan = plan(rng);
-    let kind = mistake.map_or(RIGHT, |mistake| mistake.0);
-    let done = match mistake {
+    let kind = mistake.map_or(RIGHT, |(_, mistake)| mistake.0);
+    let in_words = match mistake {
         None => None,
-        Some(Mistake(_, Spoil::Plan(spoil))) => {
-            spoil(rng, &mut plan);
+        Some((turn, Mistake(_, Spoil::Plan(spoil)))) => {
+            spoil(rng, turn, &mut plan);
             None
         }
-        Some(Mistake(_, Spoil::Words(spoil))) => Some(spoil),
+        Some((turn, Mistake(_, Spoil::Words(spoil)))) => Some((turn, spoil)),
     };
     let mut words = plan.words(rng);
-    if let Some(spoil) = done {
-        spoil(rng, &mut words);
+    if let Some((turn, spoil)) = in_words {
+        spoil(rng, turn, &mut words);
     }
     let images = plan.held();
-    let plan = done.is_none().then_some(plan);
+    let plan = in_words.is_none().then_some(plan);
     Noon { name: String::new(), kind, words, images, old: rng.chance(50), plan }
 }
 
@@ -278,29 +278,37 @@ fn laid(rng: &mut Rng, number: usize, first: usize, many: usize) -> Laid {
 /// A mistake by its name.
 struct Mistake(&'static str, Spoil);
 
-/// A mistake in what is asked for, or in its words.
+/// A change of what is asked for, by how often it has come before.
+type Change = fn(&mut Rng, usize, &mut Plan);
+
+/// A mistake in what is asked for, or in its words, by how often it has come before.
 enum Spoil {
-    Plan(fn(&mut Rng, &mut Plan)),
-    Words(fn(&mut Rng, &mut Vec<Word>)),
+    Plan(Change),
+    Words(fn(&mut Rng, usize, &mut Vec<Word>)),
 }
 
 /// Words that are no number below 2^32.
 const NO_NUMBERS: [&str; 14] = [
+    "4294967296",
     "",
-    "x",
     "-1",
     "+1",
-    "1.0",
-    "0x10",
-    "1_000",
-    " 1",
-    "1 ",
-    "4294967296",
     "18446744073709551617",
-    "340282366920938463463374607431768211457",
+    "1 ",
+    "0x10",
+    " 1",
+    "x",
+    "1_000",
+    "1.0",
     "１",
+    "340282366920938463463374607431768211457",
     "1\n",
 ];
+
+/// One of them, another each time, for the first, second or third place of a number.
+fn no_number(turn: usize, place: usize) -> &'static str {
+    NO_NUMBERS[(3 * turn + place) % NO_NUMBERS.len()]
+}
 
 /// The places of the words that are an image's.
 fn image_places(words: &[Word]) -> Vec<usize> {
@@ -320,38 +328,34 @@ fn readdress(words: &mut [Word], at: usize, address: &str) {
     }
 }
 
-/// A plan's mistake that the night would refuse, by the order of the tests.
-const REFUSED: [fn(&mut Rng, &mut Plan); 7] = [
-    |rng, plan| nine(rng, plan),
-    |rng, plan| pages(rng, plan),
-    |rng, plan| plan.q = rng.pick(&[0, 0, MOST_TURN + 1, 1 << 31, u32::MAX]),
-    |rng, plan| {
-        let frame = rng.pick(&[FRAMES as u32, 17, 255, 1_024, 1 << 31, u32::MAX]);
-        name_frame(rng, plan, frame);
-    },
-    |rng, plan| name_frame(rng, plan, 0),
-    |rng, plan| {
+/// What the night would refuse, in the order of its tests: 1, 2, 3, 6, 16, 7, 14.
+const REFUSED: [Change; 7] = [
+    |rng, _, plan| nine(rng, plan),
+    |rng, turn, plan| pages(rng, turn, plan),
+    |_, turn, plan| plan.q = [0, MOST_TURN + 1, u32::MAX, 1 << 31][turn % 4],
+    |rng, turn, plan| name_frame(rng, plan, [FRAMES as u32, u32::MAX, 17, 255, 1_024][turn % 5]),
+    |rng, _, plan| name_frame(rng, plan, 0),
+    |rng, _, plan| {
         let all = plan.frames();
         let frame = rng.pick(&all);
-        let at = rng.index(plan.partitions.len());
-        let frames = &mut plan.partitions[at].frames;
-        frames.insert(rng.index(frames.len() + 1), frame);
+        name_frame(rng, plan, frame);
     },
-    |rng, plan| plan.steps = rng.pick(&[MOST_STEPS + 1, MOST_STEPS + 2, 1 << 31, u32::MAX]),
+    |_, turn, plan| plan.steps = [MOST_STEPS + 1, u32::MAX, 1 << 31][turn % 3],
 ];
 
-/// Puts a frame into a list, over another or beside it.
+/// Puts a frame into some lists.
 fn name_frame(rng: &mut Rng, plan: &mut Plan, frame: u32) {
     for _ in 0..rng.between(1, 2) {
         let at = rng.index(plan.partitions.len());
         let frames = &mut plan.partitions[at].frames;
-        let place = rng.index(frames.len());
-        if rng.chance(50) {
-            frames[place] = frame;
-        } else {
-            frames.insert(place, frame);
-        }
+        frames.insert(rng.index(frames.len() + 1), frame);
     }
+}
+
+/// A refusal and the next one: the first is told.
+fn before(rng: &mut Rng, turn: usize, plan: &mut Plan, first: usize) {
+    REFUSED[first](rng, turn, plan);
+    REFUSED[first + 1](rng, turn, plan);
 }
 
 /// More than eight partitions.
@@ -366,49 +370,44 @@ fn nine(rng: &mut Rng, plan: &mut Plan) {
 }
 
 /// A partition without pages, or with more than 256.
-fn pages(rng: &mut Rng, plan: &mut Plan) {
+fn pages(rng: &mut Rng, turn: usize, plan: &mut Plan) {
     for _ in 0..rng.between(1, 2) {
         let at = rng.index(plan.partitions.len());
-        let frames = &mut plan.partitions[at].frames;
-        if rng.chance(60) {
-            frames.clear();
-        } else {
-            frames.resize(rng.pick(&[257, 300]), 1);
-        }
+        plan.partitions[at].frames = vec![1; [0, 257, 0, 300][turn % 4]];
     }
 }
 
-/// A plan's mistake in its images.
-const IMAGES: [fn(&mut Rng, &mut Plan); 5] = [
-    |rng, plan| {
+/// A mistake in the images; the first three whatever the frames are.
+const IMAGES: [Change; 5] = [
+    |rng, _, plan| {
         let (part, at) = plan.any(rng);
         part.images[at].there = false;
     },
-    |rng, plan| {
+    |rng, _, plan| {
         let (part, at) = plan.any(rng);
         part.images[at].bytes = None;
     },
-    |rng, plan| {
+    |rng, _, plan| {
         let (part, at) = plan.any(rng);
         let mut bytes = part.images[at].bytes.take().unwrap_or_default();
         bytes.truncate(bytes.len().saturating_sub(rng.pick(&[4, 8, 0])));
         bytes.extend(vec![7; rng.between(1, 3) as usize]);
         part.images[at].bytes = Some(bytes);
     },
-    |rng, plan| beyond(rng, plan),
-    |rng, plan| over(rng, plan),
+    |rng, turn, plan| beyond(rng, turn, plan),
+    |rng, turn, plan| over(rng, turn, plan),
 ];
 
 /// A word beyond the pages: by one, or by far.
-fn beyond(rng: &mut Rng, plan: &mut Plan) {
+fn beyond(rng: &mut Rng, turn: usize, plan: &mut Plan) {
     let (part, at) = plan.any(rng);
     let end = 4_096 * part.frames.len() as u32;
     let laid = &mut part.images[at];
     let size = laid.bytes.as_ref().map_or(0, Vec::len) as u32;
-    match rng.below(4) {
-        0 => laid.address = rng.pick(&[u32::MAX - 3, 1 << 31, 1 << 16, end]),
-        1 if size > 0 => laid.address = end - size + 4,
-        2 => laid.bytes = Some(vec![9; (end - laid.address) as usize + 4]),
+    match turn % 4 {
+        0 => laid.bytes = Some(vec![9; (end - laid.address) as usize + 4]),
+        1 => laid.address = rng.pick(&[u32::MAX - 3, 1 << 31, 1 << 16, end]),
+        2 if size > 0 => laid.address = end - size + 4,
         _ => (laid.address, laid.bytes) = (0, Some(vec![1; 17 * 4_096])),
     }
     if laid.bytes.as_ref().is_some_and(Vec::is_empty) {
@@ -417,7 +416,7 @@ fn beyond(rng: &mut Rng, plan: &mut Plan) {
 }
 
 /// One more image, which has a word where another has one.
-fn over(rng: &mut Rng, plan: &mut Plan) {
+fn over(rng: &mut Rng, turn: usize, plan: &mut Plan) {
     let (part, at) = plan.any(rng);
     let other = &mut part.images[at];
     if other.bytes.as_ref().is_some_and(Vec::is_empty) {
@@ -425,8 +424,12 @@ fn over(rng: &mut Rng, plan: &mut Plan) {
         other.address = other.address.min(4_092);
     }
     let size = other.bytes.as_ref().map_or(0, Vec::len) as u32;
-    let (first, last) = (other.address, other.address + size - 4);
-    let (address, words) = match rng.below(4) {
+    if turn.is_multiple_of(2) && size > 0 {
+        // A word is there, though it is 0.
+        other.bytes = Some(vec![0; size as usize]);
+    }
+    let (first, last) = (other.address, other.address + size.saturating_sub(4));
+    let (address, words) = match turn % 4 {
         0 => (first, 1),
         1 => (last, 1),
         2 => (first.saturating_sub(8), 3.min(1 + first / 4)),
@@ -455,64 +458,63 @@ fn many_images(rng: &mut Rng, plan: &mut Plan, many: usize) {
     }
 }
 
-const MISTAKES: [Mistake; 32] = [
-    Mistake("Q is no number", Spoil::Words(|rng, words| words[1] = plain(rng.pick(&NO_NUMBERS)))),
+const MISTAKES: [Mistake; 37] = [
+    Mistake("Q is no number", Spoil::Words(|_, turn, words| words[1] = plain(no_number(turn, 0)))),
     Mistake(
         "STEPS is no number",
-        Spoil::Words(|rng, words| words[2] = plain(rng.pick(&NO_NUMBERS))),
-    ),
-    Mistake(
-        "a frame is no number",
-        Spoil::Words(|rng, words| {
-            let at = rng.pick(&partition_places(words)) + 1;
-            words[at] = plain(rng.pick(&[
-                ",",
-                "1,",
-                ",1",
-                "1,,2",
-                "x",
-                "1;2",
-                "1 2",
-                "1, 2",
-                "4294967296",
-                "1,4294967297",
-                "-1",
-                "1@2",
-            ]));
-        }),
+        Spoil::Words(|_, turn, words| words[2] = plain(no_number(turn, 1))),
     ),
     Mistake(
         "an address is no number",
-        Spoil::Words(|rng, words| {
+        Spoil::Words(|rng, turn, words| {
             let at = rng.pick(&image_places(words));
-            readdress(words, at, rng.pick(&NO_NUMBERS));
+            readdress(words, at, no_number(turn, 2));
+        }),
+    ),
+    Mistake(
+        "a frame is no number",
+        Spoil::Words(|rng, turn, words| {
+            let at = rng.pick(&partition_places(words)) + 1;
+            let wrong = ["1,4294967296", "x", "1, 2", "1;2", "-1", "1 2", "1@2", "4294967297"];
+            words[at] = plain(wrong[turn % wrong.len()]);
+        }),
+    ),
+    Mistake(
+        "a comma too many",
+        Spoil::Words(|rng, turn, words| {
+            let at = rng.pick(&partition_places(words)) + 1;
+            if let Word::Plain(list) = &mut words[at] {
+                let wrong =
+                    [format!("{list},"), format!(",{list}"), format!("{list},,{list}"), ",".into()];
+                *list = wrong[turn % wrong.len()].clone();
+            }
         }),
     ),
     Mistake(
         "an address is no multiple of 4",
-        Spoil::Words(|rng, words| {
+        Spoil::Words(|rng, turn, words| {
             let at = rng.pick(&image_places(words));
-            let address = rng.pick(&[1, 2, 3, 5, 4_095, u32::MAX, u32::MAX - 1]);
-            readdress(words, at, &address.to_string());
+            let wrong = [2, u32::MAX, 4_097, 1, 3];
+            readdress(words, at, &wrong[turn % wrong.len()].to_string());
         }),
     ),
     Mistake(
         "another word than partition",
-        Spoil::Words(|rng, words| {
-            words[3] =
-                plain(rng.pick(&["", "Partition", "partitions", "part", "frame", "partition "]));
+        Spoil::Words(|_, turn, words| {
+            let wrong = ["Partition", "", "partitions", "part", "partition ", "frame"];
+            words[3] = plain(wrong[turn % wrong.len()]);
         }),
     ),
     Mistake(
         "a partition's word is taken for an image",
-        Spoil::Words(|rng, words| {
+        Spoil::Words(|rng, _, words| {
             let at = rng.pick(&partition_places(words));
             words[at] = plain("Partition");
         }),
     ),
     Mistake(
         "a partition without images",
-        Spoil::Words(|rng, words| {
+        Spoil::Words(|rng, _, words| {
             let at = rng.pick(&partition_places(words));
             let images =
                 words[at + 2..].iter().take_while(|word| **word != plain("partition")).count();
@@ -521,17 +523,17 @@ const MISTAKES: [Mistake; 32] = [
     ),
     Mistake(
         "a word missing",
-        Spoil::Words(|rng, words| {
+        Spoil::Words(|rng, _, words| {
             let at = rng.index(words.len().min(6));
             words.remove(at);
         }),
     ),
     Mistake(
         "words missing at the end",
-        Spoil::Words(|rng, words| words.truncate(rng.between(0, 5) as usize)),
+        Spoil::Words(|_, turn, words| words.truncate([3, 4, 5, 2, 1, 0][turn % 6])),
     ),
-    Mistake("65 images", Spoil::Plan(|rng, plan| many_images(rng, plan, MOST_IMAGES + 1))),
-    Mistake("64 images", Spoil::Plan(|rng, plan| many_images(rng, plan, MOST_IMAGES))),
+    Mistake("65 images", Spoil::Plan(|rng, _, plan| many_images(rng, plan, MOST_IMAGES + 1))),
+    Mistake("64 images", Spoil::Plan(|rng, _, plan| many_images(rng, plan, MOST_IMAGES))),
     Mistake("nine partitions", Spoil::Plan(REFUSED[0])),
     Mistake("no pages, or too many", Spoil::Plan(REFUSED[1])),
     Mistake("Q outside", Spoil::Plan(REFUSED[2])),
@@ -539,45 +541,50 @@ const MISTAKES: [Mistake; 32] = [
     Mistake("frame 0", Spoil::Plan(REFUSED[4])),
     Mistake("a frame twice", Spoil::Plan(REFUSED[5])),
     Mistake("too many steps", Spoil::Plan(REFUSED[6])),
-    Mistake("two refusals", Spoil::Plan(|rng, plan| two(rng, plan, &REFUSED, &REFUSED))),
-    Mistake("two refusals again", Spoil::Plan(|rng, plan| two(rng, plan, &REFUSED, &REFUSED))),
+    Mistake("1 before 2", Spoil::Plan(|rng, turn, plan| before(rng, turn, plan, 0))),
+    Mistake("2 before 3", Spoil::Plan(|rng, turn, plan| before(rng, turn, plan, 1))),
+    Mistake("3 before 6", Spoil::Plan(|rng, turn, plan| before(rng, turn, plan, 2))),
+    Mistake("6 before 16", Spoil::Plan(|rng, turn, plan| before(rng, turn, plan, 3))),
+    Mistake("16 before 7", Spoil::Plan(|rng, turn, plan| before(rng, turn, plan, 4))),
+    Mistake("7 before 14", Spoil::Plan(|rng, turn, plan| before(rng, turn, plan, 5))),
     Mistake("an image that is not there", Spoil::Plan(IMAGES[0])),
     Mistake("a folder for an image", Spoil::Plan(IMAGES[1])),
     Mistake("part of a word", Spoil::Plan(IMAGES[2])),
     Mistake("beyond the pages", Spoil::Plan(IMAGES[3])),
     Mistake("one image over another", Spoil::Plan(IMAGES[4])),
-    Mistake("an image and a refusal", Spoil::Plan(|rng, plan| two(rng, plan, &IMAGES, &REFUSED))),
-    Mistake("two images", Spoil::Plan(|rng, plan| two(rng, plan, &IMAGES, &IMAGES))),
+    Mistake(
+        "an image and a refusal",
+        Spoil::Plan(|rng, turn, plan| {
+            rng.pick(&REFUSED)(rng, turn, plan);
+            IMAGES[turn % 3](rng, turn, plan);
+        }),
+    ),
+    Mistake(
+        "two images",
+        Spoil::Plan(|rng, turn, plan| {
+            IMAGES[turn % 3](rng, turn, plan);
+            IMAGES[3 + turn % 2](rng, turn, plan);
+        }),
+    ),
     Mistake(
         "a wrong word and a refusal",
-        Spoil::Words(|rng, words| {
+        Spoil::Words(|rng, turn, words| {
             words[1] = plain("0");
             let at = rng.pick(&image_places(words));
-            readdress(words, at, rng.pick(&["x", "", "2"]));
+            readdress(words, at, ["x", "", "2"][turn % 3]);
         }),
     ),
     Mistake(
         "a refusal and no number behind it",
-        Spoil::Words(|rng, words| {
+        Spoil::Words(|_, turn, words| {
             words[1] = plain("10001");
             let last = words.len() - 1;
-            readdress(words, last, rng.pick(&["6", "-4", "4294967296"]));
+            readdress(words, last, ["6", "-4", "4294967296"][turn % 3]);
         }),
     ),
-    Mistake("OUT in no folder", Spoil::Words(|_, words| words[0] = Word::Path("none/out".into()))),
-    Mistake("OUT is a folder", Spoil::Words(|_, words| words[0] = Word::Path("folder".into()))),
+    Mistake(
+        "OUT in no folder",
+        Spoil::Words(|_, _, words| words[0] = Word::Path("none/out".into())),
+    ),
+    Mistake("OUT is a folder", Spoil::Words(|_, _, words| words[0] = Word::Path("folder".into()))),
 ];
-
-/// A mistake of each of two kinds.
-fn two(
-    rng: &mut Rng,
-    plan: &mut Plan,
-    first: &[fn(&mut Rng, &mut Plan)],
-    second: &[fn(&mut Rng, &mut Plan)],
-) {
-    rng.pick(first)(rng, plan);
-    // A list may be empty by now.
-    if plan.partitions.iter().all(|part| !part.frames.is_empty()) {
-        rng.pick(second)(rng, plan);
-    }
-}
