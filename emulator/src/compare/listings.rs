@@ -15,6 +15,8 @@ use crate::shrink::{shrink, Piece};
 
 /// Words that one start of a program gets.
 const BATCH: usize = 1 << 16;
+/// Lines of which none can be left out, as far as one can wait for it: more are told as they are.
+const MANY: usize = 1 << 17;
 /// Bytes of a line that is made shorter to be shown.
 const LONG: usize = 40;
 
@@ -125,6 +127,11 @@ impl Side<'_> {
         let parts = Part::split(input, of_words);
         if !again(&parts) {
             return text + NOT_TWICE;
+        }
+        if parts.len() > MANY {
+            let many = parts.len();
+            add(&mut text, &format!("smallest input: none is looked for among {many} lines"));
+            return text;
         }
         let small = Part::join(&shrink(parts, &mut |attempts| attempts.iter().position(again)));
         add(&mut text, &format!("smallest input, {} bytes:", small.len()));
