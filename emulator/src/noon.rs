@@ -160,10 +160,13 @@ fn laid(asked: &Asked, images: Images) -> Result<(String, Vec<u32>), String> {
         for Image { name, address } in &partition.images {
             let words = listing::words(&images(name)?);
             let words = words.ok_or(format!("{name}: expected whole words of 4 bytes"))?;
-            for (place, &word) in (*address as usize / 4..).zip(&words) {
-                let frame = partition.frames.get(place / FRAME_WORDS);
-                let frame = frame.ok_or(format!("{name}: a word beyond partition {at}'s pages"))?;
-                let host = &mut memory[*frame as usize * FRAME_WORDS + place % FRAME_WORDS];
+            let (first, pages) = (*address as usize / 4, partition.frames.len());
+            if first + words.len() > pages * FRAME_WORDS {
+                return Err(format!("{name}: expected words within partition {at}'s pages"));
+            }
+            for (place, &word) in (first..).zip(&words) {
+                let frame = partition.frames[place / FRAME_WORDS];
+                let host = &mut memory[frame as usize * FRAME_WORDS + place % FRAME_WORDS];
                 if host.replace(word).is_some() {
                     return Err(format!("{name}: a word where another image has one"));
                 }

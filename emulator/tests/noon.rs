@@ -49,12 +49,14 @@ impl Drop for Folder {
 fn images_at_their_addresses() {
     let folder = Folder::new("made");
     folder.put("out", "old");
-    let words = "out|0400|2000|partition|5,2|a@4092|b c|none@8192|partition|9|b c@08|a@4084";
+    let words =
+        "out|0400|2000|partition|5,2|a@4092|b c|none@8192|none@4096|partition|9|b c@08|a@4084";
     let output = folder.noon(words);
     let printed = "\
 partition 0, address 4092: 3 words, sum 6: a
 partition 0, address 0: 2 words, sum 4: b c
 partition 0, address 8192: 0 words, sum 0: none
+partition 0, address 4096: 0 words, sum 0: none
 partition 1, address 8: 2 words, sum 4: b c
 partition 1, address 4084: 3 words, sum 6: a
 ";
@@ -129,11 +131,12 @@ fn what_is_wrong_is_told_in_order() {
         ("out|1|1|partition|1|away", "failed: away: "),
         ("out|1|1|partition|1|.", "failed: .: "),
         ("out|1|1|partition|1|part", "failed: part: expected whole words"),
-        ("out|1|1|partition|1|a@4088", "failed: a: a word beyond partition 0's pages"),
-        ("out|1|1|partition|1|a@4294967292", "failed: a: a word beyond"),
-        ("out|1|1|partition|1|/dev/zero", "failed: /dev/zero: a word beyond"),
+        ("out|1|1|partition|1|a@4088", "failed: a: expected words within partition 0's pages"),
+        ("out|1|1|partition|1|a@4294967292", "failed: a: expected words within"),
+        ("out|1|1|partition|1|none@4100", "failed: none: expected words within"),
+        ("out|1|1|partition|1|/dev/zero", "failed: /dev/zero: expected words within"),
         ("out|1|1|partition|1|a|partition|2|b c|a@4", "failed: a: a word where another image"),
-        ("out|1|1|partition|1|page|b c@4092", "failed: b c: a word where another"),
+        ("out|1|1|partition|1|page|b c@4088", "failed: b c: a word where another"),
         ("away/out|1|1|partition|1|a", "failed: away/out: "),
     ] {
         folder.put("out", "old");
@@ -151,7 +154,7 @@ fn what_is_wrong_is_told_in_order() {
         assert_eq!(fs::read(folder.0.join("out")).expect("a file"), b"old", "{words}");
         assert!(!folder.0.join("out.new").exists(), "{words}");
     }
-    assert_eq!(failed, 23);
+    assert_eq!(failed, 24);
     // 64 images are not too many.
     let output = folder.noon(&format!("out|1|1|partition|1{empty}"));
     let line = "partition 0, address 0: 0 words, sum 0: none\n";

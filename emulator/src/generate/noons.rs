@@ -245,6 +245,12 @@ fn images(rng: &mut Rng, pages: usize, number: &mut usize) -> Vec<Laid> {
             laid(rng, *number, ends[0], ends[1] - ends[0])
         })
         .collect();
+    if rng.chance(30) {
+        // One without words may lie within another.
+        *number += 1;
+        let first = rng.index(size + 1);
+        images.push(laid(rng, *number, first, 0));
+    }
     for last in (1..images.len()).rev() {
         images.swap(last, rng.index(last + 1));
     }
@@ -398,20 +404,21 @@ const IMAGES: [Change; 5] = [
     |rng, turn, plan| over(rng, turn, plan),
 ];
 
-/// A word beyond the pages: by one, or by far.
+/// An image that does not end within the pages: by one word, without any, or by far.
 fn beyond(rng: &mut Rng, turn: usize, plan: &mut Plan) {
     let (part, at) = plan.any(rng);
     let end = 4_096 * part.frames.len() as u32;
     let laid = &mut part.images[at];
     let size = laid.bytes.as_ref().map_or(0, Vec::len) as u32;
-    match turn % 4 {
+    match turn % 5 {
         0 => laid.bytes = Some(vec![9; (end - laid.address) as usize + 4]),
-        1 => laid.address = rng.pick(&[u32::MAX - 3, 1 << 31, 1 << 16, end]),
+        1 => (laid.address, laid.bytes) = (end + 4, Some(Vec::new())),
         2 if size > 0 => laid.address = end - size + 4,
-        _ => (laid.address, laid.bytes) = (0, Some(vec![1; 17 * 4_096])),
-    }
-    if laid.bytes.as_ref().is_some_and(Vec::is_empty) {
-        laid.bytes = Some(vec![1; 4]);
+        3 => (laid.address, laid.bytes) = (0, Some(vec![1; 17 * 4_096])),
+        _ => {
+            laid.address = rng.pick(&[u32::MAX - 3, 1 << 31, 1 << 16, end]);
+            laid.bytes = Some(vec![1; 4]);
+        }
     }
 }
 
@@ -524,7 +531,7 @@ const MISTAKES: [Mistake; 37] = [
     Mistake(
         "a word missing",
         Spoil::Words(|rng, _, words| {
-            let at = rng.index(words.len().min(6));
+            let at = rng.index(5);
             words.remove(at);
         }),
     ),
