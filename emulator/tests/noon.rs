@@ -205,7 +205,7 @@ fn the_default_run_has_every_kind() {
 
 fn compare(option: &str, program: &str, noons: &str) -> (Option<i32>, String) {
     let output = Command::new(EMULATOR)
-        .args(["compare", option, program, "--noons", noons, "--texts", "56"])
+        .args(["compare", option, program, "--noons", noons, "--texts", "52"])
         .output()
         .expect("the program runs");
     (output.status.code(), String::from_utf8_lossy(&output.stdout).into_owned())
@@ -244,7 +244,7 @@ fn it_compares_texts_of_decimals_where_it_is_asked_to() {
     let (code, told) = compare("--into-words", &format!("'{EMULATOR}' words"), "0");
     assert_eq!(code, Some(0), "{told}");
     assert!(told.contains("texts of words by number: 13:1 18:"), "{told}");
-    assert!(told.ends_with("emulator: 71 compared, 0 differ\n"), "{told}");
+    assert!(told.ends_with("emulator: 64 compared, 0 differ\n"), "{told}");
     let wrong = shell(&format!("tr -d \"\\r\" | \"{EMULATOR}\" words"));
     let (code, told) = compare("--into-words", &wrong, "0");
     assert_eq!(code, Some(1), "{told}");

@@ -2,11 +2,11 @@
 
 use super::words::value;
 use super::File;
-use crate::decimals::{LINE, MOST};
+use crate::decimals::MOST;
 use crate::rng::Rng;
 
 /// Lines that are no decimal of a word.
-const WRONG: [&str; 28] = [
+const WRONG: [&str; 26] = [
     "",
     "-",
     "--1",
@@ -33,8 +33,6 @@ const WRONG: [&str; 28] = [
     "-18446744073709551617",
     "340282366920938463463374607431768211456",
     "１",
-    "000000000000000000000000000000000000000000000000000000000000000000000000000000007",
-    "-00000000000000000000000000000000000000000000000000000000000000000000000000000007",
 ];
 
 /// Random texts: every other one has a wrong line.
@@ -71,8 +69,7 @@ fn line(rng: &mut Rng) -> String {
         _ if negative => ("-", word.wrapping_neg()),
         _ => ("", word),
     };
-    let long = LINE - sign.len() - number.to_string().len();
-    let zeros = if rng.chance(10) { rng.pick(&[1, 2, 10, long - 1, long]) } else { 0 };
+    let zeros = if rng.chance(10) { rng.pick(&[1, 2, 10, 200]) } else { 0 };
     format!("{sign}{}{number}", "0".repeat(zeros))
 }
 
@@ -91,11 +88,8 @@ pub fn named() -> Vec<File> {
         text("a wrong line before too many", [b"x\n".to_vec(), many(MOST + 1)].concat()),
         text("a wrong line behind too many", [many(MOST + 1), b"x\n".to_vec()].concat()),
         text("an empty line behind as many as can be", [many(MOST), b"\n".to_vec()].concat()),
-        text("a line of 80 bytes", long(&"0".repeat(80))),
-        text("a line of 81 bytes", long(&"0".repeat(81))),
-        text("a number and a minus in 80 bytes", long(&format!("-{}9", "0".repeat(78)))),
-        text("a number and a minus in 81 bytes", long(&format!("-{}9", "0".repeat(79)))),
-        text("a line longer than a piece", long(&"0".repeat(70_000))),
+        text("a long line of zeros", long(&"0".repeat(70_000))),
+        text("a long line of zeros and a number", long(&format!("-{}9", "0".repeat(70_000)))),
         text("a long number", long(&"1".repeat(70_000))),
     ]
 }
