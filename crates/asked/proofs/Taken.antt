@@ -91,6 +91,10 @@ module _ (a : Asked) (pages frames table word : List ℕ) (n : ℕ) (b : Bool) (
   unfolding tookWord
   took-next z o t = simp (g, ne-eqb (a .awaits) 0 z, ne-eqb (a .awaits) 1 o, ← e, t)
 
-  pub took-image : (a .awaits ≡ 0 → ⊥) → (a .awaits ≡ 1 → ⊥) → (eqb (a .awaits) 3 && b) ≡ false → imaged (going a pages frames table) n word ≡ tookWord (going a pages frames table) n word
+  pub took-none : (a .awaits ≡ 0 → ⊥) → (a .awaits ≡ 1 → ⊥) → (eqb (a .awaits) 3 && b) ≡ false → b ≡ true → going (wrongWord a) pages frames table ≡ tookWord (going a pages frames table) n word
   unfolding tookWord
-  took-image z o t = simp (g, ne-eqb (a .awaits) 0 z, ne-eqb (a .awaits) 1 o, ← e, t)
+  took-none z o t s = simp (g, ne-eqb (a .awaits) 0 z, ne-eqb (a .awaits) 1 o, ← e, t) (simp s)
+
+  pub took-image : (a .awaits ≡ 0 → ⊥) → (a .awaits ≡ 1 → ⊥) → (eqb (a .awaits) 3 && b) ≡ false → b ≡ false → imaged (going a pages frames table) n word ≡ tookWord (going a pages frames table) n word
+  unfolding tookWord
+  took-image z o t s = simp (g, ne-eqb (a .awaits) 0 z, ne-eqb (a .awaits) 1 o, ← e, t) (simp s)

@@ -70,6 +70,7 @@ tookWord g n word =
     if eqb (a .awaits) 0 then going (if named then awaiting a 1 0 else wrongWord a) (g .pages) (g .frames) (g .table) else
     if eqb (a .awaits) 1 then framed g word else
     if eqb (a .awaits) 3 && named then going (awaiting a 1 (plus (a .owner) 1)) (g .pages) (g .frames) (g .table) else
+    if named then going (wrongWord a) (g .pages) (g .frames) (g .table) else
     imaged g n word
 
 -- ---- all of them, the first of which is word n

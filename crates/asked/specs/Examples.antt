@@ -98,8 +98,9 @@ words =
     ∷ wrongWords ("partition" ∷ "3" ∷ "a@2" ∷ [])
     ∷ wrongWords ("partition" ∷ "3" ∷ "a@6" ∷ [])
     ∷ wrongWords ("partition" ∷ "3" ∷ "a@b" ∷ [])
-    -- where an image is awaited `partition` is one
-    ∷ comes ("partition" ∷ "3" ∷ "partition" ∷ []) 3 0 1 1 (1 ∷ 0 ∷ 0 ∷ 0 ∷ []) (3 ∷ 0 ∷ 0 ∷ 0 ∷ 0 ∷ 0 ∷ 0 ∷ 0 ∷ []) (0 ∷ 0 ∷ 6 ∷ 0 ∷ 0 ∷ 0 ∷ 0 ∷ 0 ∷ 0 ∷ 0 ∷ 0 ∷ 0 ∷ [])
+    -- no image of a partition; in a folder it may have that name
+    ∷ wrongWords ("partition" ∷ "3" ∷ "partition" ∷ [])
+    ∷ not (wrongWords ("partition" ∷ "3" ∷ "./partition" ∷ []))
     -- a wrong word stays wrong
     ∷ wrongWords ("partition" ∷ "3" ∷ "a@2" ∷ "a" ∷ [])
     -- 64 images, and one more

@@ -116,5 +116,8 @@ pub fn took_word(
     if (a.awaits == 3) & named {
         return awaiting(a, 1, std::num::wrapping_add_u32(a.owner, 1));
     }
+    if named {
+        return wrong_word(a);
+    }
     imaged(a, n, word, table)
 }

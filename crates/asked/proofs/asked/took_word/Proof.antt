@@ -1,8 +1,8 @@
-use Rattle.decimal.specs.Texts.{ascii}
 use mathlib.Core.Path.{_∙_}
-use Rattle.asked.proofs.Taken.{took-first, took-no-first, took-frames, took-next, took-image}
-use borrow.Author.Tests.{not-true, not-false, eq-eqb, ne-eqb}
+use borrow.Author.Tests.{not-true, not-false}
+use Rattle.decimal.specs.Texts.{ascii}
 use Rattle.asked.specs.Asked.{tookWord}
+use Rattle.asked.proofs.Taken.{took-first, took-no-first, took-frames, took-next, took-none, took-image}
 use borrow.Author.Needs.{needs}
 use Rattle.asked.proofs.asked.took_word.Statement.{statement}
 use Rattle.asked.proofs.asked.took_word.Tie as tie
@@ -71,7 +71,15 @@ awaiting-requires-2 c κs = search needs
 returns-5 : tie.Need-returns-5
 returns-5 c = let a = c .before .before .before .before .before .before .before .before .before .before .before .before .before .before .before .before .args in rw (c .awaiting2 .ensures, c .before .wrapping-add-u32 .ensures) (took-next (a .a) (a .pages .now) (a .frames .now) (a .table .now) (a .word .now) (a .n) (c .before .before .before .before .before .before .before .before .before .before .is .result) (unfold ascii in c .before .before .before .before .before .before .before .before .before .before .is .ensures) (not-false (a .a .right) (c .before .before .before .before .before .before .before .before .if1 .left)) (c .before .before .before .before .before .before .if2 .left) (c .before .before .before .before .if4 .left) (c .before .before .if5 .taken))
 
--- src/asked.rt:119:5
+-- src/asked.rt:120:9
+wrong-word-requires-2 : tie.Need-wrong-word-requires-2
+wrong-word-requires-2 c κs = search needs
+
+-- src/asked.rt:120:9
+returns-6 : tie.Need-returns-6
+returns-6 c = let a = c .before .before .before .before .before .before .before .before .before .before .before .before .before .before .before .before .args in rw (c .wrong-word2 .ensures) (took-none (a .a) (a .pages .now) (a .frames .now) (a .table .now) (a .word .now) (a .n) (c .before .before .before .before .before .before .before .before .before .before .is .result) (unfold ascii in c .before .before .before .before .before .before .before .before .before .before .is .ensures) (not-false (a .a .right) (c .before .before .before .before .before .before .before .before .if1 .left)) (c .before .before .before .before .before .before .if2 .left) (c .before .before .before .before .if4 .left) (c .before .before .if5 .left) (c .before .if6 .taken))
+
+-- src/asked.rt:122:5
 imaged-requires : tie.Need-imaged-requires
 imaged-requires c κs = search needs
 
@@ -80,8 +88,8 @@ same-length-3 : tie.Need-same-length-3
 same-length-3 c = search needs
 
 -- src/asked.rt:93:1
-returns-6 : tie.Need-returns-6
-returns-6 c = let a = c .before .before .before .before .before .before .before .before .before .before .before .before .before .before .before .before .before .before .args in c .before .before .imaged .ensures (a .pages .now) (a .frames .now) ∙ took-image (a .a) (a .pages .now) (a .frames .now) (a .table .now) (a .word .now) (a .n) (c .before .before .before .before .before .before .before .before .before .before .before .before .is .result) (unfold ascii in c .before .before .before .before .before .before .before .before .before .before .before .before .is .ensures) (not-false (a .a .right) (c .before .before .before .before .before .before .before .before .before .before .if1 .left)) (c .before .before .before .before .before .before .before .before .if2 .left) (c .before .before .before .before .before .before .if4 .left) (c .before .before .before .before .if5 .left)
+returns-7 : tie.Need-returns-7
+returns-7 c = let a = c .before .before .before .before .before .before .before .before .before .before .before .before .before .before .before .before .before .before .before .args in c .before .before .imaged .ensures (a .pages .now) (a .frames .now) ∙ took-image (a .a) (a .pages .now) (a .frames .now) (a .table .now) (a .word .now) (a .n) (c .before .before .before .before .before .before .before .before .before .before .before .before .before .is .result) (unfold ascii in c .before .before .before .before .before .before .before .before .before .before .before .before .before .is .ensures) (not-false (a .a .right) (c .before .before .before .before .before .before .before .before .before .before .before .if1 .left)) (c .before .before .before .before .before .before .before .before .before .if2 .left) (c .before .before .before .before .before .before .before .if4 .left) (c .before .before .before .before .before .if5 .left) (c .before .before .before .before .if6 .left)
 
 pub took-word-spec : {M : Type 1} → statement M
 took-word-spec =
@@ -101,6 +109,8 @@ took-word-spec =
     wrapping-add-u32-requires
     awaiting-requires-2
     returns-5
+    wrong-word-requires-2
+    returns-6
     imaged-requires
     same-length-3
-    returns-6)
+    returns-7)
