@@ -52,10 +52,10 @@ three-sayable = record {
   memory = memory-below;
 }
 
-three-whole : readingOf (contentsFile three) ≡ right (file 400 2000 (2 ∷ 1 ∷ 3 ∷ []) (15 ∷ 1 ∷ 9 ∷ 4 ∷ 5 ∷ 0x0A0B0C0D ∷ []) memory)
+pub three-whole : readingOf (contentsFile three) ≡ right (file 400 2000 (2 ∷ 1 ∷ 3 ∷ []) (15 ∷ 1 ∷ 9 ∷ 4 ∷ 5 ∷ 0x0A0B0C0D ∷ []) memory)
 unfolding three
 three-whole = says-all .whole three three-sayable
 
-three-cut : answerOf (fed (fed noRead (take 60 (contentsFile three))) (drop 60 (contentsFile three))) ≡ right (file 400 2000 (2 ∷ 1 ∷ 3 ∷ []) (15 ∷ 1 ∷ 9 ∷ 4 ∷ 5 ∷ 0x0A0B0C0D ∷ []) memory)
+pub three-cut : answerOf (fed (fed noRead (take 60 (contentsFile three))) (drop 60 (contentsFile three))) ≡ right (file 400 2000 (2 ∷ 1 ∷ 3 ∷ []) (15 ∷ 1 ∷ 9 ∷ 4 ∷ 5 ∷ 0x0A0B0C0D ∷ []) memory)
 unfolding three
 three-cut = says-all .cut three three-sayable (take 60 (contentsFile three)) (drop 60 (contentsFile three)) (take-append-drop 60 (contentsFile three))
