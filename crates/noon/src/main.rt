@@ -6,7 +6,6 @@ mod words;
 
 ghost use Prim.Native.Nat.{_≤_};
 use command::asks_help;
-use command::fail;
 use command::number_in;
 use command::wrong;
 use libc::STDOUT_FILENO;
@@ -68,7 +67,7 @@ fn main() {
     let mut steps = io::buffer();
     let steps_length = os::arg(3, &mut steps);
     if length == 0 {
-        fail(b"OUT");
+        wrong(b"OUT, a name of 1 to 4091 bytes", b"none, or a longer one");
         return;
     }
     with_numbers(
