@@ -1,4 +1,6 @@
 // Boot: the refusals in their order, each search giving both the test and the detail; then the house, with every frame list at its place.
+#![tactic(auto)]
+
 ghost use Rattle.std.specs.Prelude.{◌≡◌, not, ℕ, ◌*◌, ◌+◌, ◌<◌, ◌≤◌, ltb, length, get_or};
 ghost use Rattle.dlx.specs.Processor.{fresh_of};
 ghost use Rattle.house.specs.Lists.{between, list_from, first_from};
@@ -14,7 +16,7 @@ use house::{Answer, House};
 use marks::mark;
 
 // A refusal's number and detail; 0 and 0 where nothing refuses.
-#[derive(Drop)]
+#[derive(Clone, Copy)]
 pub struct Refusal {
     pub number: u32,
     pub detail: u64,

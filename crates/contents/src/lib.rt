@@ -1,4 +1,6 @@
 // The house file of its contents, put into a lent buffer. A function puts its piece at `at` and answers where the piece ends.
+#![tactic(auto)]
+
 ghost use Rattle.std.specs.Prelude.{◌≡◌, List, [], ◌∷◌, ◌++◌, ℕ, ◌*◌, ◌+◌, ◌<◌, ◌≤◌, length, take};
 ghost use Rattle.decimal.specs.Texts.{Puts, joined};
 ghost use Rattle.housefile.specs.Records.{file};

@@ -1,4 +1,6 @@
 // The damage check. Each frame is marked with its owner once; then every second standing of a frame, and every shadow entry, is one look.
+#![tactic(auto)]
+
 ghost use Rattle.std.specs.Prelude.{◌≡◌, false, ℕ, ◌+◌, ◌<◌, ◌≤◌, length, get_or, replicate};
 ghost use Rattle.addresses.specs.Walk.{entries};
 ghost use Rattle.house.specs.Lists.{any};

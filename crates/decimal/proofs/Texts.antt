@@ -17,7 +17,7 @@ use Rattle.decimal.proofs.Decimals.{by_test, one_digit, more_digits, few_digits}
 put_more : (t : Text) (a b : List ℕ) → put t (a ++ b) ≡ put (put t a) b
 unfolding put
 put_more t [] b = refl
-put_more t (x ∷ a) b = put_more _ a b
+put_more t (x ∷ a) b = put_more (put t (x ∷ [])) a b
 
 -- bytes behind a text that has been put
 pub put_behind : {o : List ℕ} {r : ℕ} {t' : Text} (t : Text) (a b : List ℕ) → text o r ≡ put t a → t' ≡ put (text o r) b → t' ≡ put t (a ++ b)

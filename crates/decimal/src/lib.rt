@@ -1,5 +1,7 @@
 // Texts: two compared; and text put into a lent buffer, byte by byte, as a number in decimals, or a word raw. A function puts its piece at `at` and answers where the piece ends;
 // what has no room in the buffer is left out.
+#![tactic(auto)]
+
 ghost use Rattle.std.specs.Prelude.{◌≡◌, [], ◌∷◌, ◌<◌};
 ghost use Rattle.decimal.specs.Decimals.{digit, decimal, signed_text};
 ghost use Rattle.decimal.specs.Raw.{low_first};

@@ -1,4 +1,6 @@
 // The office display's two functions, for C. They take plain numbers and answer one; display/house.h declares them.
+#![tactic(auto)]
+
 ghost use Rattle.std.specs.Prelude.{◌≡◌};
 ghost use Rattle.dlx.specs.Interrupts.{level_of};
 ghost use Rattle.addresses.specs.Entries.{composition_of};

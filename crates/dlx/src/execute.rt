@@ -2,7 +2,7 @@
 use crate::partition::{Processor, Table, Timer};
 
 // What a step comes to once its data access is done.
-#[derive(Drop)]
+#[derive(Clone, Copy)]
 pub enum Change {
     // A register becomes a value, and the PC a target.
     Plain(usize, u32, u32),
@@ -18,7 +18,7 @@ pub enum Change {
 
 // What an instruction asks for: a change, or first a load of a register from an address by an opcode, a store by an opcode to an address of a value, a ticket
 // sent to a partition, or one taken. The order of the fields decides what a step costs (docs/SPEED.md).
-#[derive(Drop)]
+#[derive(Clone, Copy)]
 pub enum Effect {
     Done(Change),
     Load(usize, u32, u32),
@@ -28,21 +28,21 @@ pub enum Effect {
 }
 
 // What the house answers to a ticket sent or taken: 0 done, 1 full, 2 no such partition, 3 none waiting; and the ticket taken.
-#[derive(Drop)]
+#[derive(Clone, Copy)]
 pub struct Reply {
     pub code: u32,
     pub ticket: u32,
 }
 
 // What reading a word at an address gives: the number of the translation's fault, or the word.
-#[derive(Drop)]
+#[derive(Clone, Copy)]
 pub enum Access {
     Fault(u32),
     Word(u32),
 }
 
 // A step's processor and timer, and whether the guest calls the hypervisor: a trap taken in system mode.
-#[derive(Drop)]
+#[derive(Clone, Copy)]
 pub struct Settled {
     pub processor: Processor,
     pub timer: Timer,

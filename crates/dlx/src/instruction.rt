@@ -1,7 +1,7 @@
 // The instructions that words are read as.
 
 // What RD becomes from two words. Test is clr, sgr, seq, sge, sls, sne, sle, set by number.
-#[derive(Drop)]
+#[derive(Clone, Copy)]
 pub enum Operation {
     Add,
     Sub,
@@ -13,7 +13,7 @@ pub enum Operation {
 
 // Register numbers are indices; their order is RD, RS1, RS2. Immediates are sign-extended already. A load and a store bring their opcode, which tells the width,
 // and RD last: the order of their fields decides what a step costs (docs/SPEED.md).
-#[derive(Drop)]
+#[derive(Clone, Copy)]
 pub enum Instruction {
     LoadBy(u32, usize, u32, usize),
     StoreBy(u32, usize, u32, usize),

@@ -4,14 +4,14 @@ ghost use Rattle.std.specs.Prelude.{◌≡◌};
 ghost use Rattle.dlx.specs.Processor.{fresh_of};
 
 // PTO and PTL: where the guest's page table begins, in pages, and how many entries it has. Nothing but a change of table changes them.
-#[derive(Drop)]
+#[derive(Clone, Copy)]
 pub struct Table {
     pub pto: u32,
     pub ptl: u32,
 }
 
 // The program counters and the special registers but those of the table and the timer.
-#[derive(Drop)]
+#[derive(Clone, Copy)]
 pub struct Processor {
     pub dpc: u32,
     pub pc: u32,
@@ -26,13 +26,13 @@ pub struct Processor {
 }
 
 // TCOUNT and TLOAD: how many of its own steps a partition has until its timer's interrupt, 0 where none will come, and what TCOUNT becomes then.
-#[derive(Drop)]
+#[derive(Clone, Copy)]
 pub struct Timer {
     pub tcount: u32,
     pub tload: u32,
 }
 
-#[derive(Drop)]
+#[derive(Clone, Copy)]
 pub struct Partition {
     pub pages: u32,
     pub processor: Processor,

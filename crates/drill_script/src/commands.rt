@@ -6,7 +6,7 @@ use crate::words::word;
 use dlx::words::wide;
 
 // Its four words, and how many bytes it has with those behind them: 0 where there is no right command.
-#[derive(Drop)]
+#[derive(Clone, Copy)]
 pub struct Command {
     pub op: u32,
     pub a: u32,

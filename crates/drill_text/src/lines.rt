@@ -66,7 +66,7 @@ pub fn house(text: &mut [u8; ROOM], used: usize, h: House) -> usize
 }
 
 // From here to there among the names of the calls.
-#[derive(Drop)]
+#[derive(Clone, Copy)]
 struct Span {
     from: usize,
     to: usize,

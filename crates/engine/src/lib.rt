@@ -1,5 +1,7 @@
 // The interpreter: steps of a guest through the shadow, on lent arrays, in spells of plain ones, in which nothing changes of the processor but DPC and PC. The
 // processor's numbers go by value; the latest translation fault is lent, so that only a step that faults touches it.
+#![tactic(auto)]
+
 ghost use Rattle.std.specs.Prelude.{◌≡◌, ℕ, ◌<◌, true, false, List, length, ◌≢◌};
 ghost use Rattle.dlx.specs.declared.partition.Timer.{Timer};
 ghost use Rattle.dlx.specs.Machine.{core, fetched, Asks, accessed_at, retabled, step_at, stretch_from};
@@ -15,7 +17,7 @@ use dlx::execute::{Access, Change, Effect};
 use dlx::partition::{Partition, Processor, Table, Timer};
 
 // What a step of a spell leaves beside the arrays: its change, made if it is plain.
-#[derive(Drop)]
+#[derive(Clone, Copy)]
 pub struct Stepped {
     pub processor: Processor,
     pub change: Change,
@@ -23,7 +25,7 @@ pub struct Stepped {
 }
 
 // What a step of any kind leaves beside the arrays, and whether the guest calls the hypervisor: a trap taken in system mode.
-#[derive(Drop)]
+#[derive(Clone, Copy)]
 pub struct Walked {
     pub processor: Processor,
     pub table: Table,
@@ -32,7 +34,7 @@ pub struct Walked {
 }
 
 // What a stretch leaves beside the arrays: how many steps were made, and whether the last one called.
-#[derive(Drop)]
+#[derive(Clone, Copy)]
 pub struct Stretched {
     pub processor: Processor,
     pub table: Table,
@@ -388,7 +390,7 @@ fn event(s: &mut [u32], w: u32) -> bool
 }
 
 // What a leap leaves beside the lists: the steps still to make, and whether it may go on.
-#[derive(Drop)]
+#[derive(Clone, Copy)]
 pub struct Leapt {
     pub left: u32,
     pub on: bool,
@@ -462,7 +464,7 @@ fn ahead(
 }
 
 // What a stretch leaves beside the lists: how many steps were made, and whether the last one called.
-#[derive(Drop)]
+#[derive(Clone, Copy)]
 pub struct Turned {
     pub made: u32,
     pub called: bool,

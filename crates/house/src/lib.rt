@@ -1,4 +1,6 @@
 // The house: one state for up to 8 partitions. Partition i's registers stand at 32 * i, its frame list at 256 * i, its shadow at ENTRIES * i.
+#![tactic(auto)]
+
 ghost use Rattle.std.specs.Prelude.{◌≡◌};
 ghost use Rattle.house.specs.House.{no_house};
 
@@ -8,7 +10,7 @@ use dlx::partition::Partition;
 // The shadow entries of all partitions.
 pub const ALL_ENTRIES: usize = 8 * ENTRIES;
 
-#[derive(Drop)]
+#[derive(Clone, Copy)]
 pub struct House {
     pub count: u32,
     pub q: u32,
@@ -25,14 +27,14 @@ pub struct House {
 }
 
 // Whose turn it is, and how many steps it has left; none current is 0 and 0.
-#[derive(Drop)]
+#[derive(Clone, Copy)]
 pub struct Turn {
     pub current: u32,
     pub left: u32,
 }
 
 // A call's answer: a house number, its detail, and the house.
-#[derive(Drop)]
+#[derive(Clone, Copy)]
 pub struct Answer {
     pub number: u32,
     pub detail: u64,

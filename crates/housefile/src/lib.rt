@@ -1,5 +1,7 @@
 // A house file, read in pieces of any size. The lists beside the reader take what is read: q and the run length, the page counts, the frame
 // lists one after the other, and the memory.
+#![tactic(auto)]
+
 ghost use Rattle.std.specs.Prelude.{◌≡◌, ℕ, min, List, length, slice_set};
 ghost use Rattle.dlx.specs.Choice.{if◌then◌else◌};
 ghost use Rattle.house.specs.Boot.{verdict};
@@ -9,7 +11,7 @@ ghost use Rattle.housefile.specs.Reader.{no_record, no_reader, read, further, sp
 use dlx::words::wide;
 
 // The record at hand: how many of its bytes have come, its body length, its kind, the frame number in front of a kind 3, and the last four bytes.
-#[derive(Drop)]
+#[derive(Clone, Copy)]
 pub struct Record {
     pub bytes: u32,
     pub size: u32,
@@ -19,7 +21,7 @@ pub struct Record {
 }
 
 // Whether the record at hand is wrong, where it starts, the kind of the one before (0: none yet), the lists so far and their frames.
-#[derive(Drop)]
+#[derive(Clone, Copy)]
 pub struct Reader {
     pub wrong: bool,
     pub start: u64,
@@ -30,7 +32,7 @@ pub struct Reader {
 }
 
 // What the file's end makes of it: 0 and 0, or 15 and the start of the first wrong record.
-#[derive(Drop)]
+#[derive(Clone, Copy)]
 pub struct Finish {
     pub number: u32,
     pub detail: u64,

@@ -1,4 +1,6 @@
 // Images laid into a memory, and their slip.
+#![tactic(auto)]
+
 ghost use Rattle.std.specs.Prelude.{◌≡◌, ℕ, ◌+◌, ◌*◌, ◌/◌, ◌%◌, ◌<◌, ◌≤◌, min, max, [], ◌∷◌, length, nat_lt, slice_index, slice_set};
 ghost use Rattle.addresses.specs.Memory.{place};
 ghost use Rattle.house.specs.Boot.{offset};

@@ -1,5 +1,7 @@
 // Words as lines of text, and back: docs/LISTINGS.md has the lines in words. A line has one instruction, or a word that is none as a number; what a line must be is
 // told by `line_of` alone: any other line is wrong.
+#![tactic(auto)]
+
 ghost use Rattle.std.specs.Prelude.{◌≡◌, ◌++◌, ◌+◌, ◌≤◌, min, leb, length, drop};
 ghost use Rattle.decimal.specs.Texts.{text, put};
 ghost use Rattle.lines.specs.Lines.{line_of};
@@ -14,7 +16,7 @@ mod table;
 pub mod writing;
 
 // What a call answers: 0, or 13 where the output is too short, or 18 and the number of the first wrong line; and how many bytes or words were written.
-#[derive(Drop)]
+#[derive(Clone, Copy)]
 pub struct Verdict {
     pub number: u32,
     pub detail: u64,
@@ -108,7 +110,7 @@ fn behind(end: usize, len: usize) -> usize
 }
 
 // How many lines a text has, and the number of the first wrong one.
-#[derive(Drop)]
+#[derive(Clone, Copy)]
 struct Survey {
     lines: usize,
     wrong: usize,

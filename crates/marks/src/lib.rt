@@ -1,4 +1,6 @@
 // Marks: each frame of the memory has its owner's tag, 0 for none. A frame that stands twice is found by one look.
+#![tactic(auto)]
+
 ghost use Rattle.std.specs.Prelude.{◌≡◌, ℕ, ◌<◌, ◌≤◌, length, get_or};
 ghost use Rattle.house.specs.Lists.{any};
 ghost use Rattle.marks.specs.Marked.{marked, twice_marked, first_twice};
@@ -6,7 +8,7 @@ ghost use Rattle.marks.specs.Marked.{marked, twice_marked, first_twice};
 use dlx::words::wide;
 
 // Whether a frame had an owner already, and the first such position, or how many were marked.
-#[derive(Drop)]
+#[derive(Clone, Copy)]
 pub struct Found {
     pub twice: bool,
     pub at: usize,

@@ -1,4 +1,6 @@
 // One plain instruction: one that changes nothing but DPC, PC, a register, or a word of a frame that does not hold the table, and needs no walk.
+#![tactic(auto)]
+
 ghost use Rattle.std.specs.Prelude.{◌≡◌, ℕ, ◌-◌, ◌*◌, ◌%◌, ◌<◌, ◌≤◌, true, false, ◌&&◌, ◌||◌, List, length, nat_eq, nat_lt};
 ghost use Rattle.dlx.specs.Choice.{if◌then◌else◌};
 ghost use Rattle.dlx.specs.Fields.{aligned, loading, storing, width};

@@ -190,7 +190,7 @@ pub fn write(regs: &mut [u32], rd: usize, v: u32)
 }
 
 // What a plain change leaves: the processor, and whether the change is none.
-#[derive(Drop)]
+#[derive(Clone, Copy)]
 pub struct Passed {
     pub processor: Processor,
     pub plain: bool,

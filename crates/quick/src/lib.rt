@@ -1,4 +1,6 @@
 // Plain steps on end in one page of code. Nothing in the loop can change the table, the shadow or the mode: so the page's frame is looked up once.
+#![tactic(auto)]
+
 ghost use Rattle.std.specs.Prelude.{◌≡◌, ◌/◌, ◌<◌, length, slice_index};
 ghost use Rattle.dlx.specs.Words.{plus};
 ghost use Rattle.dlx.specs.Processor.{user};
@@ -10,7 +12,7 @@ use dlx::partition::{Processor, Table};
 use dlx::words::wide;
 
 // What a run of plain steps leaves beside the registers and the words: how many of the steps are still to make, and the word at DPC, or 0 where it was not read.
-#[derive(Drop)]
+#[derive(Clone, Copy)]
 pub struct Quick {
     pub dpc: u32,
     pub pc: u32,

@@ -1,4 +1,6 @@
 // Tickets into registers: what every engine does with one that is taken.
+#![tactic(auto)]
+
 ghost use Rattle.std.specs.Prelude.{◌≡◌, ◌<◌, length};
 ghost use Rattle.tickets.specs.Queues.{queues, taking, Queued};
 ghost use Rattle.receipt.specs.Answers.{received_of};

@@ -1,5 +1,7 @@
 // The report of a house and the text of a refusal, each written into a lent buffer from its start. A function that puts a piece of text at
 // `at` answers where the piece ends.
+#![tactic(auto)]
+
 ghost use Rattle.std.specs.Prelude.{◌≡◌, List, [], ◌∷◌, ◌++◌, ℕ, min, length, take, drop};
 ghost use Rattle.decimal.specs.Texts.{Puts};
 ghost use Rattle.house.specs.Boot.{verdict};

@@ -9,7 +9,7 @@ use crate::Reader;
 use dlx::words::wide;
 
 // Where the bytes of a piece have been taken to: the reader, whether the record at hand is whole, and the next byte.
-#[derive(Drop)]
+#[derive(Clone, Copy)]
 pub struct Steps {
     pub reader: Reader,
     pub whole: bool,

@@ -12,7 +12,7 @@ use dlx::words::wide;
 use house::House;
 
 // A save's answer: its number and detail, how many bytes were written, and the house.
-#[derive(Drop)]
+#[derive(Clone, Copy)]
 pub struct Saved {
     pub number: u32,
     pub detail: u64,

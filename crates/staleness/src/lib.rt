@@ -1,4 +1,6 @@
 // The audit: is every valid shadow entry what the guest's table and the host's list give now? Two readings and a mending, each linear in the entries.
+#![tactic(auto)]
+
 ghost use Rattle.std.specs.Prelude.{◌≡◌, List, ℕ, ◌^◌, ◌<◌, length};
 ghost use Rattle.dlx.specs.Choice.{if◌then◌else◌};
 ghost use Rattle.addresses.specs.Walk.{entries};
@@ -22,7 +24,7 @@ use translate::walk;
 const LIMIT: u32 = ENTRIES as u32;
 
 // What an audit found: the first stale entry, by partition and then by page, where there is one.
-#[derive(Drop)]
+#[derive(Clone, Copy)]
 pub struct Finding {
     pub number: u32,
     pub stale: bool,
@@ -31,7 +33,7 @@ pub struct Finding {
 }
 
 // The stale entries of each partition.
-#[derive(Drop)]
+#[derive(Clone, Copy)]
 pub struct Counts {
     pub number: u32,
     pub each: [u32; 8],

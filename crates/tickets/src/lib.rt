@@ -1,4 +1,6 @@
 // Tickets between partitions: queues of 32 places, first in, first out. Partition j's places stand at 32 * j.
+#![tactic(auto)]
+
 ghost use Rattle.std.specs.Prelude.{◌≡◌, [], ◌∷◌, ◌++◌, ◌<◌, ◌≤◌, length, drop};
 ghost use Rattle.tickets.specs.Queues.{queues, sending, taking, Queued};
 

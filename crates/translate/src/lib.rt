@@ -1,4 +1,6 @@
 // Address translation and shadow tables, by the definitions of `translate`. The arrays are lent: a partition's frame list, its shadow table, and the host's words.
+#![tactic(auto)]
+
 ghost use Rattle.std.specs.Prelude.{◌≡◌, ◌+◌, ◌*◌, ◌/◌, ◌%◌, ◌<◌, length, true};
 ghost use Rattle.dlx.specs.Fields.{aligned, storing, width, placed};
 ghost use Rattle.dlx.specs.declared.partition.Table.{Table};

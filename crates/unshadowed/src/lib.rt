@@ -1,4 +1,6 @@
 // The engine without shadows: steps of a guest on lent arrays. Every access walks the guest's table, and nothing is kept.
+#![tactic(auto)]
+
 ghost use Rattle.std.specs.Prelude.{◌≡◌, ℕ, true, List, length};
 ghost use Rattle.dlx.specs.Fields.{aligned, storing, width, placed};
 ghost use Rattle.dlx.specs.declared.partition.Timer.{Timer};
@@ -13,7 +15,7 @@ use dlx::partition::{Partition, Processor, Table, Timer};
 use dlx::words::wide;
 
 // What a step leaves beside the arrays, and whether the guest calls the hypervisor: a trap taken in system mode.
-#[derive(Drop)]
+#[derive(Clone, Copy)]
 pub struct Stepped {
     pub processor: Processor,
     pub table: Table,
@@ -22,7 +24,7 @@ pub struct Stepped {
 }
 
 // What a stretch leaves beside the arrays: how many steps were made, and whether the last one called.
-#[derive(Drop)]
+#[derive(Clone, Copy)]
 pub struct Stretched {
     pub processor: Processor,
     pub table: Table,

@@ -1,4 +1,6 @@
 // The run call by the engine without shadows.
+#![tactic(auto)]
+
 ghost use Rattle.std.specs.Prelude.{◌≡◌};
 ghost use Rattle.house.specs.Boot.{verdict};
 ghost use Rattle.house.specs.House.{fresh_shadows, with_shadows};

@@ -1,0 +1,9 @@
+use borrow.Author.Rules.{rules}
+use Rattle.decimal.proofs.Texts.{byte_in, byte_out}
+use Rattle.decimal.proofs.put_byte.Goals as goal
+
+pub returns-then-at-out : goal.returns-then-at-out
+returns-then-at-out c = byte_in _ _ _ c.if-at-out.true
+
+pub returns : goal.returns
+returns c = byte_out _ _ _ c.if-at-out.false
