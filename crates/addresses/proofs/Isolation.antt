@@ -12,7 +12,7 @@ use Rattle.dlx.proofs.Like.{Both, Like}
 use Rattle.addresses.specs.Entries.{number, valid, protection}
 use Rattle.addresses.specs.Memory.{Host, host, hosted, given, filled, looked, served, host_read, host_written, host_reads, host_writes, emptied, host_memory}
 use Rattle.addresses.specs.Premises.{Placed, Own, Shadowed}
-use borrow.Author.Tests.{not_false}
+use borrow.Author.Tests.{not-false}
 use Rattle.dlx.proofs.Tests.{either_both, set_both}
 use Rattle.addresses.proofs.Entries.{walked_same, Owned, own_inside, fresh_shadowed}
 use Rattle.addresses.proofs.Shadow.{place_page, served_state, served_own, served_shadowed, emptied_shadowed, Untouched, stored_untouched}
@@ -96,7 +96,7 @@ module _ {fr base base' : List ℕ} {n : ℕ} {h h' : Host} (r : Alike fr n base
     written_same a f e o =
         either_both (Both (Alike fr n base base')) (not (valid e)) (λ _. record { same = refl; rest = r }) λ v.
         either_both (Both (Alike fr n base base')) (eqb (protection e) 1) (λ _. record { same = refl; rest = r }) λ _.
-        let m = o (not_false _ v) in
+        let m = o (not-false _ v) in
         rw (own_same (number e) (a / 4 % 1024) m (omega arith)) (record { same = refl; rest = stored_alike (number e) (a / 4 % 1024) _ m (omega arith) })
 
 -- What a guest gets, and what it leaves in its frames, depends on nothing outside them.

@@ -4,7 +4,7 @@ use mathlib.Core.Bool.{Bool, false, not}
 use mathlib.Core.List.{List}
 use Prim.Native.Nat.{ℕ, ◌*◌, ◌/◌, ◌%◌, ◌^◌, ◌<◌}
 use native.Mathlib.Omega.{arith}
-use borrow.Author.Tests.{not_true}
+use borrow.Author.Tests.{not-true}
 use lib.Dec.{eqb}
 use lib.ListN.{length, get_or, replicate, length-set}
 use Rattle.dlx.specs.declared.partition.Table.{Table}
@@ -117,7 +117,7 @@ module _ {fr : List ℕ} {n size : ℕ} {h : Host} (k : KeptHost fr n size h) wh
   answer_kept : (a : ℕ) (f : ℕ → ℕ) (e : ℕ) → (valid e ≡ false → e < 8) → (host_written fr n h a f e).0 < 8
   unfolding host_written
   answer_kept a f e l =
-      either (λ (g : ℕ × Host). g.0 < 8) (not (valid e)) (λ v. l (not_true _ v)) λ _.
+      either (λ (g : ℕ × Host). g.0 < 8) (not (valid e)) (λ v. l (not-true _ v)) λ _.
       either (λ (g : ℕ × Host). g.0 < 8) (eqb (protection e) 1) (λ _. omega arith) (λ _. omega arith)
 
   written_kept : (a : ℕ) (f : ℕ → ℕ) (e : ℕ) → ((w : ℕ) → w < 2 ^ 32 → f w < 2 ^ 32) → KeptHost fr n size (host_written fr n h a f e).1

@@ -6,7 +6,7 @@ use Prim.Native.Nat.{ℕ, zero, suc, ◌+◌, ◌-◌, ◌*◌, ◌/◌, ◌%◌
 use native.Mathlib.Numerals.{add-one}
 use native.Mathlib.Nat.{add-sub_cancel_left}
 use native.Mathlib.Omega.{arith}
-use borrow.Author.Tests.{not_false, eqb-true, eq-eqb, ne_eqb, ltb-true, ltb-false, le-leb, lt-leb, leb-true, leb-false}
+use borrow.Author.Tests.{not-false, eqb-true, eq-eqb, ne_eqb, ltb-true, ltb-false, le-leb, lt-leb, leb-true, leb-false}
 use lib.Bits.{bit_or, or_zero_r, or_add_and, and_le_l}
 use lib.Dec.{eqb, ltb, leb}
 use lib.ListN.{length, get_or, take, drop, length-replicate, get_or-replicate, get_or-eq_default}
@@ -146,7 +146,7 @@ module _ (ps : List Partition) (fr : List ℕ) where
 pub pages_within : (ps : List Partition) (n : ℕ) → any (pages_outside ps) n ≡ false → (i : ℕ) → i < n → pages_at ps i ≤ 256
 pages_within ps n h i l =
     leb-true (pages_at ps i) 256
-    (and_right (leb 1 (pages_at ps i)) _ (not_false _ (any_none (pages_outside ps) n h i l)))
+    (and_right (leb 1 (pages_at ps i)) _ (not-false _ (any_none (pages_outside ps) n h i l)))
 
 none_of_five : (a b c d e : Bool) → (a || b || c || d || e) ≡ false → (a ≡ false) × (b ≡ false) × (c ≡ false) × (d ≡ false) × (e ≡ false)
 none_of_five true b c d e h = one_way true refl h
@@ -160,10 +160,10 @@ within count q words ps fr h =
     let size = words / 1024 in
     let f = none_of_five (not (between 1 count 8)) (any (pages_outside ps) count) (not (between 1 q 10000)) (not (whole_frames words)) (any (frames_barred ps fr size) count) h in
     record {
-      few = leb-true count 8 (and_right (leb 1 count) (leb count 8) (not_false (between 1 count 8) f.0));
+      few = leb-true count 8 (and_right (leb 1 count) (leb count 8) (not-false (between 1 count 8) f.0));
       pages = pages_within ps count f.1;
       below = λ i l k m.
-          let small : size ≤ 1024 = leb-true size 1024 (and_right (leb 1 size) (leb size 1024) (and_right (eqb (words % 1024) 0) (between 1 size 1024) (not_false (whole_frames words) f.3))) in
+          let small : size ≤ 1024 = leb-true size 1024 (and_right (leb 1 size) (leb size 1024) (and_right (eqb (words % 1024) 0) (between 1 size 1024) (not-false (whole_frames words) f.3))) in
           let less : get_or (part_at fr i) k 0 < size = leb-false size (get_or (part_at fr i) k 0) (or_left _ (eqb (get_or (part_at fr i) k 0) 0) (any_none (barred_at (part_at fr i) size) (pages_at ps i) (any_none (frames_barred ps fr size) count f.4 i l) k m)) in
           omega (arith, small, less);
     }
@@ -298,7 +298,7 @@ module _ (o : List ℕ) (tag : ℕ) (sh : List ℕ) where
   wrong px = entry_marked o tag (get_or sh px 0)
 
   empty_right : (e : ℕ) → not (eqb e 0) ≡ false → entry_marked o tag e ≡ false
-  empty_right e z = subst (λ (x : ℕ). entry_marked o tag x ≡ false) (sym (eqb-true e 0 (not_false _ z))) refl
+  empty_right e z = subst (λ (x : ℕ). entry_marked o tag x ≡ false) (sym (eqb-true e 0 (not-false _ z))) refl
 
   -- no entry of an empty group is wrong
   pub group_empty : (base : ℕ) → not_zero sh base 32 ≡ false → group_marked o tag sh base ≡ false

@@ -1,6 +1,6 @@
 -- A record of each kind, whole or wrong, from its first byte on.
 use Rattle.std.proofs.Common.{◌≡◌, ℕ, zero, suc, ◌+◌, ◌-◌, ◌*◌, ◌/◌, ◌%◌, ◌^◌, ◌<◌, ◌≤◌, true, false, eqb, List, length, take, drop, set, sym, refl, ap, ◌∙◌, arith, length-drop, drop-drop, le-ltb, eq-eqb, ne_eqb, le-leb}
-use mathlib.Core.Bool.{and_false}
+use mathlib.Core.Bool.{and-false}
 use Prim.{Unit, tt}
 use borrow.Author.Tests.{lt-leb}
 use lib.Seq.{sets}
@@ -70,7 +70,7 @@ module _ (r : Reader) (q : Read) (size frame w j : ℕ) where
   -- no frame number that could be wrong, or one that was tested
   fine_other : (k : ℕ) → eqb k 3 ≡ false → spoils r (of (10 + 4 * j) size k frame w) ≡ false
   unfolding spoils
-  fine_other k e = simp (ne_eqb (10 + 4 * j) 6 (omega arith), e, and_false)
+  fine_other k e = simp (ne_eqb (10 + 4 * j) 6 (omega arith), e, and-false)
 
   fine_later : 1 ≤ j → spoils r (of (10 + 4 * j) size 3 frame w) ≡ false
   unfolding spoils

@@ -4,7 +4,7 @@ use mathlib.Core.Bool.{Bool, true, false, not}
 use mathlib.Core.List.{List, [], ◌∷◌, ◌++◌, append_assoc, append-nil}
 use Prim.Native.Nat.{ℕ, zero, suc, ◌+◌, ◌-◌, ◌^◌, ◌<◌, ◌≤◌}
 use native.Mathlib.Omega.{arith}
-use borrow.Author.Tests.{eqb-true, not_true, lt-ltb, le-ltb}
+use borrow.Author.Tests.{eqb-true, not-true, lt-ltb, le-ltb}
 use lib.Dec.{eqb}
 use lib.ListN.{length, get_or, take, drop}
 use lib.Seq.{take-append_seam}
@@ -26,7 +26,7 @@ lines_clean : (l a t : List ℕ) → clean a ≡ true → lines_behind l (a ++ (
 unfolding lines_behind
 lines_clean l [] t e = rw (append-nil l)
 lines_clean l (x ∷ a) t e =
-    rw (not_true (eqb x 10) (and_left (not (eqb x 10)) (clean a) e), lines_behind)
+    rw (not-true (eqb x 10) (and_left (not (eqb x 10)) (clean a) e), lines_behind)
     (lines_clean (l ++ (x ∷ [])) a t (and_right (not (eqb x 10)) (clean a) e) ∙ rw (append_assoc l (x ∷ []) a))
 
 pub lines_listing : (ws : List ℕ) → lines_of (listing ws) ≡ each ws

@@ -4,7 +4,7 @@ use mathlib.Core.Bool.{Bool, true, false, not, ◌&&◌, ◌||◌}
 use mathlib.Core.List.{List, [], ◌∷◌}
 use Prim.Native.Nat.{ℕ, zero, suc, ◌-◌, ◌*◌, ◌^◌, ◌<◌, ◌≤◌}
 use native.Mathlib.Omega.{arith}
-use borrow.Author.Tests.{eqb-true, eqb-false, leb-true, not_true}
+use borrow.Author.Tests.{eqb-true, eqb-false, leb-true, not-true}
 use lib.Dec.{eqb, leb}
 use lib.ListN.{length, get_or}
 use Rattle.dlx.proofs.Tests.{by_test, and_left}
@@ -115,7 +115,7 @@ names_at r = all_at sound_name named unnamed (and_left (all sound_name named) (s
 module _ (r : ℕ) where
   pub name_plus : (scan_from start (row_at r).name).minus ≡ false
   unfolding sound_name
-  name_plus = let n = (row_at r).name in not_true (scan_from start n).minus (and_left (not (scan_from start n).minus) (clean n) (and_left _ (leb (length n) 6) (names_at r)))
+  name_plus = let n = (row_at r).name in not-true (scan_from start n).minus (and_left (not (scan_from start n).minus) (clean n) (and_left _ (leb (length n) 6) (names_at r)))
 
   pub name_clean : clean (row_at r).name ≡ true
   unfolding sound_name

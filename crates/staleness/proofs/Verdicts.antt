@@ -4,7 +4,7 @@ use mathlib.Core.Bool.{false}
 use mathlib.Core.List.{List, ◌∷◌}
 use Prim.Native.Nat.{ℕ}
 use native.Mathlib.Omega.{arith}
-use borrow.Author.Tests.{eqb-true, not_false, ne_eqb, eq-eqb}
+use borrow.Author.Tests.{eqb-true, not-false, ne_eqb, eq-eqb}
 use lib.Dec.{eqb}
 use lib.ListN.{length, replicate}
 use Rattle.house.specs.Damage.{damaged}
@@ -29,7 +29,7 @@ module _ (w : World) (d : ℕ) where
   audit_done e =
       let a = passed _ 8 _ _ _ (omega arith) e in
       let b = passed _ 9 _ _ _ (omega arith) a.1 in
-      record { whole = a.0; size = eqb-true (length w.memory) w.house.words (not_false _ b.0) }
+      record { whole = a.0; size = eqb-true (length w.memory) w.house.words (not-false _ b.0) }
 
   pub done_audit : AuditDone w → (audit_verdict w d).number ≡ 0
   unfolding audit_verdict first_of

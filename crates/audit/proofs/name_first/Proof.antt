@@ -1,5 +1,5 @@
 use mathlib.Core.Path.{sym, refl, subst, ◌∙◌}
-use borrow.Author.Tests.{not_false}
+use borrow.Author.Tests.{not-false}
 use Rattle.audit.specs.Printed.{first_line, named}
 use Rattle.report.proofs.Texts.{put_as, put_there}
 use Rattle.night_run.specs.Ran.{either_file, Told}
@@ -27,7 +27,7 @@ slice-aggregate-say-first : tie.Need-slice-aggregate-say-first
 slice-aggregate-say-first c = search rules
 
 say-first-requires : tie.Need-say-first-requires
-say-first-requires c κs = let a = c.before.before.before.before.before.before.before.before.args in let f = c.before.before.before.before.before.audit.result in let e = c.before.first-line.ensures in let t = first_line f.partition f.page in subst (Told either_file named a.t) (sym (named_first _ _ _ c.before.before.before.before.before.before.if1.false f c.before.before.before.before.before.audit.ensures (not_false _ c.before.before.before.if2.false)) ∙ sym (put_there t _ _ _ (put_as t t _ _ _ e.0.0 e.0.1 refl))) c.before.before.before.before.before.before.before.before.requires
+say-first-requires c κs = let a = c.before.before.before.before.before.before.before.before.args in let f = c.before.before.before.before.before.audit.result in let e = c.before.first-line.ensures in let t = first_line f.partition f.page in subst (Told either_file named a.t) (sym (named_first _ _ _ c.before.before.before.before.before.before.if1.false f c.before.before.before.before.before.audit.ensures (not-false _ c.before.before.before.if2.false)) ∙ sym (put_there t _ _ _ (put_as t t _ _ _ e.0.0 e.0.1 refl))) c.before.before.before.before.before.before.before.before.requires
 
 returns-3 : tie.Need-returns-3
 returns-3 c = search rules

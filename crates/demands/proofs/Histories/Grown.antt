@@ -1,6 +1,6 @@
 -- Every house and memory grown from a boot stands as a boot leaves it: all calls keep that, done or refused.
 use mathlib.Core.Path.{◌≡◌, refl, sym, ap, subst, ◌∙◌}
-use mathlib.Core.Bool.{Bool, true, false, not, ◌&&◌, and_false}
+use mathlib.Core.Bool.{Bool, true, false, not, ◌&&◌, and-false}
 use mathlib.Core.List.{List, [], ◌∷◌, ◌++◌}
 use Prim.Native.Nat.{ℕ, ◌<◌, ◌≤◌}
 use native.Mathlib.Omega.{arith}
@@ -136,7 +136,7 @@ module _ (b : Boot) (w : World) (g : Grown b w) (k j : ℕ) (d : RunDone w k) (l
   -- a shorter run is done too
   shorter : (run_verdict w j).number ≡ 0
   unfolding run_verdict first_of
-  shorter = simp (d.whole, eq-eqb (length w.memory) w.house.words d.size, le-ltb 1000000 j (omega (arith, d.most)), ne_eqb w.house.left 0 busy, and_false)
+  shorter = simp (d.whole, eq-eqb (length w.memory) w.house.words d.size, le-ltb 1000000 j (omega (arith, d.most)), ne_eqb w.house.left 0 busy, and-false)
 
   pub run-grown : Grown b (host_steps j w)
   unfolding history after run_call

@@ -1,6 +1,6 @@
 -- What calls come to in a house that is not damaged, for closed histories; and partitions that stay running over them.
 use mathlib.Core.Path.{◌≡◌, sym, ap, subst, ◌∙◌}
-use mathlib.Core.Bool.{Bool, true, false, ◌&&◌, and_false}
+use mathlib.Core.Bool.{Bool, true, false, ◌&&◌, and-false}
 use mathlib.Core.List.{List, [], ◌∷◌}
 use Prim.Native.Nat.{ℕ, zero, suc, ◌^◌, ◌<◌, ◌≤◌}
 use native.Mathlib.Omega.{arith}
@@ -47,7 +47,7 @@ module _ {n : ℕ} (w : World) (f : Fit n w) where
 
   pub run-verdict : (k : ℕ) → k ≤ 1000000 → (w.house.left ≡ 0 → ⊥) → run_verdict w k ≡ verdict 0 k
   unfolding run_verdict first_of
-  run-verdict k l n = simp (f.whole, eq-eqb (length w.memory) w.house.words f.size, le-ltb 1000000 k l, ne_eqb w.house.left 0 n, and_false)
+  run-verdict k l n = simp (f.whole, eq-eqb (length w.memory) w.house.words f.size, le-ltb 1000000 k l, ne_eqb w.house.left 0 n, and-false)
 
   pub one-verdict : (i : ℕ) → i < n → one_verdict w.house i ≡ verdict 0 0
   unfolding one_verdict first_of

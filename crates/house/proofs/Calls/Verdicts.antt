@@ -4,7 +4,7 @@ use mathlib.Core.Bool.{Bool, true, false, not, ◌&&◌}
 use mathlib.Core.List.{List, ◌∷◌}
 use Prim.Native.Nat.{ℕ, ◌+◌, ◌*◌, ◌/◌, ◌%◌, ◌<◌, ◌≤◌}
 use native.Mathlib.Omega.{arith}
-use borrow.Author.Tests.{eqb-true, eqb-false, leb-false, ltb-false, not_false, ne_eqb}
+use borrow.Author.Tests.{eqb-true, eqb-false, leb-false, ltb-false, not-false, ne_eqb}
 use lib.Dec.{eqb, ltb}
 use lib.ListN.{length, get_or}
 use Rattle.dlx.proofs.Tests.{and_left}
@@ -51,14 +51,14 @@ boot_done ps q fr words e =
     let g = passed _ 6 _ _ _ (omega arith) f.1 in
     let z = passed _ 16 _ _ _ (omega arith) g.1 in
     let i = passed _ 7 _ _ _ (omega arith) z.1 in
-    let w = not_false (whole_frames words) d.0 in
+    let w = not-false (whole_frames words) d.0 in
     record {
       count = within 1 (length ps) 8 a.0;
       pages = λ j l. within 1 (get_or ps j 0) 256 (any_none (pages_wrong ps) (length ps) b.0 j l);
       turns = within 1 q 10000 c.0;
       whole = eqb-true (words % 1024) 0 (and_left (eqb (words % 1024) 0) (between 1 (words / 1024) 1024) w);
       size = within 1 (words / 1024) 1024 (ap not (and_right (eqb (words % 1024) 0) (between 1 (words / 1024) 1024) w));
-      long = eqb-true (length fr) (sum ps) (not_false _ f.0);
+      long = eqb-true (length fr) (sum ps) (not-false _ f.0);
       inside = λ k l. leb-false (words / 1024) (get_or fr k 0) (any_none (frame_outside fr words) (length fr) g.0 k l);
       kept = λ k l. eqb-false (get_or fr k 0) 0 (any_none (frame_kept fr) (length fr) z.0 k l);
       once = λ j k l m r. by_order j k (λ t. absurd (never-earlier fr i.0 j k t m r)) (λ z. z) (λ t. absurd (never-earlier fr i.0 k j t l (sym r)));
@@ -83,7 +83,7 @@ run_done w k e =
     let d = passed _ 11 _ _ _ (omega arith) c.1 in
     record {
       whole = a.0;
-      size = eqb-true (length w.memory) w.house.words (not_false _ b.0);
+      size = eqb-true (length w.memory) w.house.words (not-false _ b.0);
       most = ltb-false 1000000 k c.0;
       busy = some-busy k w.house.left d.0;
     }
@@ -126,7 +126,7 @@ read_done w i a count out e =
     let p = not_beyond (pages_of w.house i) a count f.0 in
     record {
       whole = b.0;
-      size = eqb-true (length w.memory) w.house.words (not_false _ c.0);
+      size = eqb-true (length w.memory) w.house.words (not-false _ c.0);
       there = leb-false w.house.count i d.0;
       aligned = p.0;
       within = p.1;

@@ -4,7 +4,7 @@ use mathlib.Core.Bool.{Bool, true, false, not, ◌&&◌, ◌||◌}
 use mathlib.Core.List.{List, [], ◌∷◌}
 use Prim.Native.Nat.{ℕ, zero, suc, ◌+◌, ◌*◌, ◌/◌, ◌%◌, ◌<◌, ◌≤◌}
 use native.Mathlib.Omega.{arith}
-use borrow.Author.Tests.{eqb-true, eqb-false, leb-true, not_false, eq-eqb, ne_eqb, le-leb}
+use borrow.Author.Tests.{eqb-true, eqb-false, leb-true, not-false, eq-eqb, ne_eqb, le-leb}
 use lib.Dec.{ltb, leb, eqb}
 use lib.ListN.{get_or}
 use Rattle.dlx.specs.Choice.{if◌then◌else◌}
@@ -28,7 +28,7 @@ use Rattle.dlx.proofs.Parts.{part_at}
 
 pub within : (a n b : ℕ) → not (between a n b) ≡ false → (a ≤ n) × (n ≤ b)
 within a n b e =
-    let t = not_false (between a n b) e in
+    let t = not-false (between a n b) e in
     (leb-true a n (and_left (leb a n) (leb n b) t), leb-true n b (and_right (leb a n) (leb n b) t))
 
 pub within-from : (a n b : ℕ) → a ≤ n → n ≤ b → between a n b ≡ true
@@ -48,7 +48,7 @@ pub none-stands : (fr : List ℕ) (n f : ℕ) → ((k : ℕ) → k < n → get_o
 none-stands fr n f h = any-from (λ k. eqb (get_or fr k 0) f) n (λ k l. ne_eqb (get_or fr k 0) f (h k l))
 
 pub is_zero : (n : ℕ) → not (eqb n 0) ≡ false → n ≡ 0
-is_zero n e = eqb-true n 0 (not_false (eqb n 0) e)
+is_zero n e = eqb-true n 0 (not-false (eqb n 0) e)
 
 pub zero_is : (n : ℕ) → n ≡ 0 → not (eqb n 0) ≡ false
 zero_is n e = rw (eq-eqb n 0 e)
@@ -63,7 +63,7 @@ zeros-from m a s h = any-from (λ k. not (eqb (get_or m (a + k) 0) 0)) s (λ k l
 
 pub entry-proper : (fr : List ℕ) (n e : ℕ) → entry_wrong fr n e ≡ false → Proper fr n e
 entry-proper fr n e w = record {
-  own = λ v. stands-own fr n (number e) (not_false _ (or_left (not (stands fr n (number e))) (not (eqb (e % 1024) 0)) (simp v at w)));
+  own = λ v. stands-own fr n (number e) (not-false _ (or_left (not (stands fr n (number e))) (not (eqb (e % 1024) 0)) (simp v at w)));
   bits = λ v. is_zero _ (or_right (not (stands fr n (number e))) (not (eqb (e % 1024) 0)) (simp v at w));
   empty = λ v. is_zero _ (simp v at w);
 }

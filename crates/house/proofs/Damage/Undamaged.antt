@@ -4,7 +4,7 @@ use mathlib.Core.Bool.{Bool, true, false, not, ◌&&◌, ◌||◌}
 use mathlib.Core.List.{List}
 use Prim.Native.Nat.{ℕ, ◌*◌, ◌/◌, ◌%◌, ◌^◌, ◌<◌, ◌≤◌}
 use native.Mathlib.Omega.{arith}
-use borrow.Author.Tests.{eqb-true, eqb-false, leb-false, ltb-true, ltb-false, not_false, eq-eqb, ne_eqb, le-leb, lt-ltb, le-ltb}
+use borrow.Author.Tests.{eqb-true, eqb-false, leb-false, ltb-true, ltb-false, not-false, eq-eqb, ne_eqb, le-leb, lt-ltb, le-ltb}
 use lib.Dec.{ltb, leb, eqb}
 use lib.ListN.{length, get_or, get_or-eq_default}
 use Rattle.addresses.specs.Entries.{valid}
@@ -62,7 +62,7 @@ module _ (h : House) where
     limit-turns = within 1 h.q 10000 (or_right (countOut || pagesOut) turnsOut three-limits)
 
     whole-frames : whole_frames h.words ≡ true
-    whole-frames = not_false (whole_frames h.words) (or_right (countOut || pagesOut || turnsOut) wordsOut four-limits)
+    whole-frames = not-false (whole_frames h.words) (or_right (countOut || pagesOut || turnsOut) wordsOut four-limits)
 
     limit-whole : h.words % 1024 ≡ 0
     limit-whole = eqb-true (h.words % 1024) 0 (and_left (eqb (h.words % 1024) 0) (between 1 (h.words / 1024) 1024) whole-frames)
@@ -123,7 +123,7 @@ module _ (h : House) where
         let t : (leb h.count h.current || not (runs h h.current) || ltb h.q h.left) ≡ false = simp (ne_eqb h.left 0 n) at e in
         let s = or_left (leb h.count h.current || not (runs h h.current)) (ltb h.q h.left) t in (
           leb-false h.count h.current (or_left (leb h.count h.current) (not (runs h h.current)) s),
-          not_false _ (or_right (leb h.count h.current) (not (runs h h.current)) s),
+          not-false _ (or_right (leb h.count h.current) (not (runs h h.current)) s),
           ltb-false h.q h.left (or_right (leb h.count h.current || not (runs h h.current)) (ltb h.q h.left) t),
         )
 

@@ -1,6 +1,6 @@
 -- Laws of searches with a bound.
 use mathlib.Core.Path.{◌≡◌, refl, sym, subst, ◌∙◌}
-use mathlib.Core.Bool.{Bool, true, false, ◌&&◌, ◌||◌, or-true, and_false}
+use mathlib.Core.Bool.{Bool, true, false, ◌&&◌, ◌||◌, or-true, and-false}
 use Prim.Native.Nat.{ℕ, zero, suc, ◌+◌, ◌<◌}
 use native.Mathlib.Numerals.{add-one}
 use native.Mathlib.Omega.{arith}
@@ -59,7 +59,7 @@ module _ (p : ℕ → Bool) where
   all-no (suc n) i l f =
       by_test (eqb i n)
       (λ e. rw (subst (λ (x : ℕ). p x ≡ false) (eqb-true i n e) f))
-      (λ e. rw (all-no n i (omega (arith, eqb-false i n e)) f) (and_false (p n)))
+      (λ e. rw (all-no n i (omega (arith, eqb-false i n e)) f) (and-false (p n)))
 
   -- what it says of each
   pub all_at : (n : ℕ) → all p n ≡ true → (k : ℕ) → k < n → p k ≡ true

@@ -1,4 +1,4 @@
-use mathlib.Core.Bool.{or_false}
+use mathlib.Core.Bool.{or-false}
 use Rattle.housefile.specs.Reader.{spoils}
 use Rattle.std.proofs.Common.{rules, ne_eqb}
 use Rattle.housefile.proofs.spoils.Statement.{statement}
@@ -9,7 +9,7 @@ may-come-requires c κs = search rules
 
 returns : tie.Need-returns
 unfolding spoils
-returns c = simp (c.may-come.ensures, c.before.if1.true, or_false)
+returns c = simp (c.may-come.ensures, c.before.if1.true, or-false)
 
 returns-2 : tie.Need-returns-2
 unfolding spoils

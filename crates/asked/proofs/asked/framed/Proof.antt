@@ -1,5 +1,5 @@
 use Rattle.std.proofs.Common.{◌≡◌, ℕ, ◌+◌, List, ap, ◌∙◌, arith, rules}
-use borrow.Author.Tests.{not_true, not_false}
+use borrow.Author.Tests.{not-true, not-false}
 use Rattle.asked.proofs.Taken.{framed_wrong, framed_right}
 use Rattle.asked.proofs.asked.framed.Statement.{statement}
 use Rattle.asked.proofs.asked.framed.Tie as tie
@@ -24,7 +24,7 @@ same_length c = search rules
 
 -- src/asked.rt:53:9
 returns : tie.Need-returns
-returns c = λ table. let a = c.before.before.before.before.before.before.before.before.before.before.args in rw c.wrong_word.ensures (framed_wrong a.a a.pages.now a.frames.now table a.word.now c.before.before.before.before.before.row_of.new.1.0 c.before.before.before.before.before.row_of.result c.before.before.before.before.before.row_of.ensures (not_true c.before.before.before.before.before.row_of.result.right c.before.if1.true))
+returns c = λ table. let a = c.before.before.before.before.before.before.before.before.before.before.args in rw c.wrong_word.ensures (framed_wrong a.a a.pages.now a.frames.now table a.word.now c.before.before.before.before.before.row_of.new.1.0 c.before.before.before.before.before.row_of.result c.before.before.before.before.before.row_of.ensures (not-true c.before.before.before.before.before.row_of.result.right c.before.if1.true))
 
 -- src/asked.rt:55:5
 put-at-requires : tie.Need-put-at-requires
@@ -44,7 +44,7 @@ same-length-3 c = search rules
 
 -- src/asked.rt:48:1
 returns-2 : tie.Need-returns-2
-returns-2 c = λ table. let a = c.before.before.before.before.before.before.before.before.before.before.before.before.before.before.args in let z : a.a.owner + 0 ≡ a.a.owner = omega arith in rw (c.wrapping-add-u32.ensures, c.before.before.before.put-at.ensures, z) (framed_right a.a a.pages.now a.frames.now table a.word.now c.before.before.before.before.before.before.before.before.before.row_of.new.1.0 c.before.before.before.before.before.before.before.before.before.row_of.result c.before.before.before.before.before.before.before.before.before.row_of.ensures (not_false c.before.before.before.before.before.before.before.before.before.row_of.result.right c.before.before.before.before.before.if1.false))
+returns-2 c = λ table. let a = c.before.before.before.before.before.before.before.before.before.before.before.before.before.before.args in let z : a.a.owner + 0 ≡ a.a.owner = omega arith in rw (c.wrapping-add-u32.ensures, c.before.before.before.put-at.ensures, z) (framed_right a.a a.pages.now a.frames.now table a.word.now c.before.before.before.before.before.before.before.before.before.row_of.new.1.0 c.before.before.before.before.before.before.before.before.before.row_of.result c.before.before.before.before.before.before.before.before.before.row_of.ensures (not-false c.before.before.before.before.before.before.before.before.before.row_of.result.right c.before.before.before.before.before.if1.false))
 
 pub framed-spec : {M : Type 1} → statement M
 framed-spec =

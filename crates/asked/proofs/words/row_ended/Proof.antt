@@ -1,5 +1,5 @@
 use Rattle.std.proofs.Common.{rules, eq-eqb, ne_eqb}
-use borrow.Author.Tests.{not_true, not_false}
+use borrow.Author.Tests.{not-true, not-false}
 use Rattle.asked.specs.Words.{row_ended}
 use Rattle.asked.proofs.words.row_ended.Statement.{statement}
 use Rattle.asked.proofs.words.row_ended.Tie as tie
@@ -10,7 +10,7 @@ use Rattle.std.proofs.num.wrapping_add_u32.Reads as wrapping-add-u32-reads
 
 -- src/words.rt:35:9
 returns : tie.Need-returns
-returns c = unfold row_ended in simp (not_true c.before.before.before.args.r.begun c.if1.true)
+returns c = unfold row_ended in simp (not-true c.before.before.before.args.r.begun c.if1.true)
 
 -- src/words.rt:42:33
 cast-put-at : tie.Need-overflow-cast-put-at
@@ -30,7 +30,7 @@ same_length c = search rules
 
 -- src/words.rt:31:1
 returns-2 : tie.Need-returns-2
-returns-2 c = unfold row_ended in simp (not_false c.before.before.before.before.before.before.before.before.before.args.r.begun c.before.before.before.before.before.before.if1.false, c.wrapping-add-u32.ensures, c.before.before.before.put-at.ensures)
+returns-2 c = unfold row_ended in simp (not-false c.before.before.before.before.before.before.before.before.before.args.r.begun c.before.before.before.before.before.before.if1.false, c.wrapping-add-u32.ensures, c.before.before.before.put-at.ensures)
 
 pub row-ended-spec : {M : Type 1} → statement M
 row-ended-spec =

@@ -1,5 +1,5 @@
 use Rattle.std.proofs.Common.{◌≡◌, ◌-◌, ◌≤◌, length, drop, sym, refl, ap, ◌∙◌, zero-le, arith, rules}
-use borrow.Author.Tests.{not_true, not_false}
+use borrow.Author.Tests.{not-true, not-false}
 use Rattle.asked.specs.Words.{rowed, no_row, row_fed}
 use Rattle.asked.proofs.Rows.{fed_on, fed_done, row_empty, row_whole}
 use Rattle.asked.proofs.words.row_of.Statement.{statement}
@@ -49,7 +49,7 @@ same_length c = search rules
 
 -- src/words.rt:93:9
 returns-2 : tie.Need-returns-2 invariant-loop decreases-loop
-returns-2 c = let g = rowed c.before.before.before.loop.r c.before.before.before.loop.frames in let e = fed_done c.before.before.before.before.before.before.before.args.at g c.before.before.before.before.before.before.before.args.word.now c.before.before.before.loop.i c.before.before.loop-test.false c.before.before.before.loop.invariant.0 in sym (row_whole c.before.before.before.before.before.before.before.args.at c.before.before.before.before.before.before.before.args.frames.now c.before.before.before.before.before.before.before.args.word.now g c.before.before.before.before.if1.false e ∙ simp (not_true c.before.before.before.loop.r.right c.if2.true))
+returns-2 c = let g = rowed c.before.before.before.loop.r c.before.before.before.loop.frames in let e = fed_done c.before.before.before.before.before.before.before.args.at g c.before.before.before.before.before.before.before.args.word.now c.before.before.before.loop.i c.before.before.loop-test.false c.before.before.before.loop.invariant.0 in sym (row_whole c.before.before.before.before.before.before.before.args.at c.before.before.before.before.before.before.before.args.frames.now c.before.before.before.before.before.before.before.args.word.now g c.before.before.before.before.if1.false e ∙ simp (not-true c.before.before.before.loop.r.right c.if2.true))
 
 -- src/words.rt:95:5
 row-ended-requires : tie.Need-row-ended-requires invariant-loop decreases-loop
@@ -61,7 +61,7 @@ same-length-2 c = search rules
 
 -- src/words.rt:75:1
 returns-3 : tie.Need-returns-3 invariant-loop decreases-loop
-returns-3 c = let g = rowed c.before.before.before.before.before.before.before.loop.r c.before.before.before.before.before.before.before.loop.frames in let e = fed_done c.before.before.before.before.before.before.before.before.before.before.before.args.at g c.before.before.before.before.before.before.before.before.before.before.before.args.word.now c.before.before.before.before.before.before.before.loop.i c.before.before.before.before.before.before.loop-test.false c.before.before.before.before.before.before.before.loop.invariant.0 in c.before.before.row-ended.ensures ∙ sym (row_whole c.before.before.before.before.before.before.before.before.before.before.before.args.at c.before.before.before.before.before.before.before.before.before.before.before.args.frames.now c.before.before.before.before.before.before.before.before.before.before.before.args.word.now g c.before.before.before.before.before.before.before.before.if1.false e ∙ simp (not_false c.before.before.before.before.before.before.before.loop.r.right c.before.before.before.before.if2.false))
+returns-3 c = let g = rowed c.before.before.before.before.before.before.before.loop.r c.before.before.before.before.before.before.before.loop.frames in let e = fed_done c.before.before.before.before.before.before.before.before.before.before.before.args.at g c.before.before.before.before.before.before.before.before.before.before.before.args.word.now c.before.before.before.before.before.before.before.loop.i c.before.before.before.before.before.before.loop-test.false c.before.before.before.before.before.before.before.loop.invariant.0 in c.before.before.row-ended.ensures ∙ sym (row_whole c.before.before.before.before.before.before.before.before.before.before.before.args.at c.before.before.before.before.before.before.before.before.before.before.before.args.frames.now c.before.before.before.before.before.before.before.before.before.before.before.args.word.now g c.before.before.before.before.before.before.before.before.if1.false e ∙ simp (not-false c.before.before.before.before.before.before.before.loop.r.right c.before.before.before.before.if2.false))
 
 pub row-of-spec : {M : Type 1} → statement M
 row-of-spec =

@@ -2,7 +2,7 @@ use mathlib.Core.Path.{◌≡◌, refl, sym, ap, ◌∙◌}
 use mathlib.Core.Bool.{true, false, false≢true}
 use native.Mathlib.Omega.{arith}
 use borrow.Author.Rules.{rules}
-use borrow.Author.Tests.{not_true, not_false}
+use borrow.Author.Tests.{not-true, not-false}
 use Prim.Native.Nat.{◌-◌, ◌≤◌, zero-le}
 use lib.ListN.{length}
 use Rattle.noon.specs.Noon.{Laid}
@@ -53,7 +53,7 @@ loop-less c = search rules
 
 -- src/images.rt:134:5
 loop-again : tie.Need-loop-preserved invariant-loop decreases-loop
-loop-again c = let a = c.before.before.before.before.before.before.before.before.before.before.before.before.before.before.before.before.before.before.before.args in let p = c.before.before.before.before.before.before.before.before.before.before.before.before.before.before.before.before.before.before.before.requires in let l = c.before.before.before.before.before.before.before.before.before.before.before.before.loop in (laid_on a.pages.now a.frames.now a.table.now l.counts l.sums l.memory _ _ _ l.k l.invariant.0 (c.before.before.before.before.before.before.before.lay-next.ensures (not_false c.before.before.before.before.before.before.before.lay-next.result c.if1.false)) (omega (arith, c.before.before.before.before.before.before.before.before.before.before.before.loop-test.true, l.invariant.2, p.1.0, p.1.1.1.0.0)) (omega (arith, c.before.before.before.before.before.before.before.before.before.before.before.loop-test.true, l.invariant.3, p.1.0, p.1.1.1.0.1)), omega arith, search rules, search rules, search rules)
+loop-again c = let a = c.before.before.before.before.before.before.before.before.before.before.before.before.before.before.before.before.before.before.before.args in let p = c.before.before.before.before.before.before.before.before.before.before.before.before.before.before.before.before.before.before.before.requires in let l = c.before.before.before.before.before.before.before.before.before.before.before.before.loop in (laid_on a.pages.now a.frames.now a.table.now l.counts l.sums l.memory _ _ _ l.k l.invariant.0 (c.before.before.before.before.before.before.before.lay-next.ensures (not-false c.before.before.before.before.before.before.before.lay-next.result c.if1.false)) (omega (arith, c.before.before.before.before.before.before.before.before.before.before.before.loop-test.true, l.invariant.2, p.1.0, p.1.1.1.0.0)) (omega (arith, c.before.before.before.before.before.before.before.before.before.before.before.loop-test.true, l.invariant.3, p.1.0, p.1.1.1.0.1)), omega arith, search rules, search rules, search rules)
 
 -- src/images.rt:121:1
 same-length-4 : tie.Need-same-length-4 invariant-loop decreases-loop

@@ -1,7 +1,7 @@
 use mathlib.Core.Path.{◌≡◌, refl}
 use Prim.Native.Nat.{ℕ, ◌≤◌}
 use native.Mathlib.Omega.{arith}
-use borrow.Author.Tests.{not_false}
+use borrow.Author.Tests.{not-false}
 use lib.ListN.{length, take, length-take}
 use Rattle.noon.proofs.Steps.{counts, given_all}
 use borrow.Author.Rules.{rules}
@@ -105,7 +105,7 @@ slice-aggregate-make-listed-3 c = search rules
 
 -- src/making.rt:165:5
 make-listed-requires : tie.Need-make-listed-requires
-make-listed-requires c κs = let n : length c.before.before.before.before.before.before.before.before.before.before.before.before.before.before.before.before.ask.new.1.0 ≡ 65 = search rules in let m : length c.before.before.before.before.before.before.before.before.before.before.before.before.before.before.before.before.ask.new.1.1.1.0 ≡ 192 = search rules in (omega (arith, c.before.before.before.before.before.before.before.up_to_lem.ensures, length-take c.before.before.before.before.before.before.before.up_to_lem.result c.before.before.before.before.before.before.before.before.before.before.before.before.before.before.before.before.ask.new.1.0), (omega (arith, c.before.before.before.up-to3.ensures), (m, given_all c.before.before.before.before.before.before.before.before.before.before.before.before.before.before.before.before.ask.result c.before.before.before.before.before.before.before.before.before.before.before.before.before.before.before.before.ask.new.1.0 c.before.before.before.before.before.before.before.before.before.before.before.before.before.before.before.before.ask.new.1.1.0 c.before.before.before.before.before.before.before.before.before.before.before.before.before.before.before.before.ask.new.1.1.1.0 c.before.before.before.before.before.before.before.before.before.before.before.before.before.before.before.before.before.before.before.before.before.args.given (c.before.before.before.before.before.before.before.before.before.before.before.before.before.before.before.before.ask.ensures (not_false c.before.before.before.before.before.before.before.before.before.before.before.before.before.before.before.before.ask.result.right c.before.before.before.before.before.before.before.before.before.before.before.if1.false)) c.before.before.before.before.before.before.before.before.before.if2.false _ _ _ _ _ _ c.before.before.before.before.before.before.before.before.wide.ensures c.before.before.before.before.before.before.wide2.ensures c.before.before.before.before.wide3.ensures c.before.before.before.before.before.before.before.up_to_lem.ensures c.before.before.before.before.before.up-to2.ensures c.before.before.before.up-to3.ensures)))
+make-listed-requires c κs = let n : length c.before.before.before.before.before.before.before.before.before.before.before.before.before.before.before.before.ask.new.1.0 ≡ 65 = search rules in let m : length c.before.before.before.before.before.before.before.before.before.before.before.before.before.before.before.before.ask.new.1.1.1.0 ≡ 192 = search rules in (omega (arith, c.before.before.before.before.before.before.before.up_to_lem.ensures, length-take c.before.before.before.before.before.before.before.up_to_lem.result c.before.before.before.before.before.before.before.before.before.before.before.before.before.before.before.before.ask.new.1.0), (omega (arith, c.before.before.before.up-to3.ensures), (m, given_all c.before.before.before.before.before.before.before.before.before.before.before.before.before.before.before.before.ask.result c.before.before.before.before.before.before.before.before.before.before.before.before.before.before.before.before.ask.new.1.0 c.before.before.before.before.before.before.before.before.before.before.before.before.before.before.before.before.ask.new.1.1.0 c.before.before.before.before.before.before.before.before.before.before.before.before.before.before.before.before.ask.new.1.1.1.0 c.before.before.before.before.before.before.before.before.before.before.before.before.before.before.before.before.before.before.before.before.before.args.given (c.before.before.before.before.before.before.before.before.before.before.before.before.before.before.before.before.ask.ensures (not-false c.before.before.before.before.before.before.before.before.before.before.before.before.before.before.before.before.ask.result.right c.before.before.before.before.before.before.before.before.before.before.before.if1.false)) c.before.before.before.before.before.before.before.before.before.if2.false _ _ _ _ _ _ c.before.before.before.before.before.before.before.before.wide.ensures c.before.before.before.before.before.before.wide2.ensures c.before.before.before.before.wide3.ensures c.before.before.before.before.before.before.before.up_to_lem.ensures c.before.before.before.before.before.up-to2.ensures c.before.before.before.up-to3.ensures)))
 
 -- src/making.rt:148:1
 returns-3 : tie.Need-returns-3

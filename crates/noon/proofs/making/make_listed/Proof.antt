@@ -1,7 +1,7 @@
 use mathlib.Core.Path.{◌≡◌, refl}
 use Prim.Native.Nat.{ℕ}
 use native.Mathlib.Omega.{arith}
-use borrow.Author.Tests.{not_false}
+use borrow.Author.Tests.{not-false}
 use lib.ListN.{length, length-replicate}
 use Rattle.noon.proofs.Refused.{none_refused}
 use borrow.Author.Rules.{rules}
@@ -53,7 +53,7 @@ slice-aggregate-write-file c = search rules
 
 -- src/making.rt:132:9
 write-file-requires : tie.Need-write-file-requires
-write-file-requires c κs = let a = c.before.before.before.before.before.before.before.before.before.before.before.before.before.before.before.before.args in let p = c.before.before.before.before.before.before.before.before.before.before.before.before.before.before.before.before.requires in let r = c.before.before.before.before.before.before.before.before.before.before.before.night-refuses.result in let m = c.before.before.before.before.before.lay-all.new.1.1.1.1.1.1.0 in let n : length m ≡ 16384 = search rules in (c.before.before.before.before.before.before.before.before.before.before.before.night-refuses.ensures.1 c.before.before.before.before.before.before.before.before.before.if1.false, (n, (p.1.1.1, ((c.before.before.before.before.before.lay-all.new.1.1.1.1.0, c.before.before.before.before.before.lay-all.new.1.1.1.1.1.0, c.before.before.before.before.before.lay-all.ensures (not_false c.before.before.before.before.before.lay-all.result c.before.if2.false)), none_refused a.q a.run r.number r.detail a.pages.now a.frames.now m c.before.before.before.before.before.before.before.before.before.if1.false c.before.before.before.before.before.before.before.before.before.before.before.night-refuses.ensures.0 n))))
+write-file-requires c κs = let a = c.before.before.before.before.before.before.before.before.before.before.before.before.before.before.before.before.args in let p = c.before.before.before.before.before.before.before.before.before.before.before.before.before.before.before.before.requires in let r = c.before.before.before.before.before.before.before.before.before.before.before.night-refuses.result in let m = c.before.before.before.before.before.lay-all.new.1.1.1.1.1.1.0 in let n : length m ≡ 16384 = search rules in (c.before.before.before.before.before.before.before.before.before.before.before.night-refuses.ensures.1 c.before.before.before.before.before.before.before.before.before.if1.false, (n, (p.1.1.1, ((c.before.before.before.before.before.lay-all.new.1.1.1.1.0, c.before.before.before.before.before.lay-all.new.1.1.1.1.1.0, c.before.before.before.before.before.lay-all.ensures (not-false c.before.before.before.before.before.lay-all.result c.before.if2.false)), none_refused a.q a.run r.number r.detail a.pages.now a.frames.now m c.before.before.before.before.before.before.before.before.before.if1.false c.before.before.before.before.before.before.before.before.before.before.before.night-refuses.ensures.0 n))))
 
 -- src/making.rt:133:9
 returns-3 : tie.Need-returns-3

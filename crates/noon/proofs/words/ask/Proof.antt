@@ -2,7 +2,7 @@ use borrow.Author.Rules.{rules}
 use mathlib.Core.Path.{◌≡◌, refl, sym, ap, ◌∙◌}
 use mathlib.Core.Bool.{true, false, false≢true}
 use native.Mathlib.Omega.{arith}
-use borrow.Author.Tests.{not_true, not_false}
+use borrow.Author.Tests.{not-true, not-false}
 use mathlib.Core.List.{[]}
 use Prim.Native.Nat.{◌-◌, ◌≤◌}
 use lib.ListN.{length, length-replicate}
@@ -42,7 +42,7 @@ same-length-3 c = search rules
 
 -- src/words.rt:77:13
 returns : tie.Need-returns invariant-loop decreases-loop
-returns c = λ e. absurd (false≢true (sym (not_true c.before.before.before.before.before.before.before.before.ask-next.result.right c.if1.true) ∙ e))
+returns c = λ e. absurd (false≢true (sym (not-true c.before.before.before.before.before.before.before.before.ask-next.result.right c.if1.true) ∙ e))
 
 -- src/words.rt:79:9
 add-i : tie.Need-overflow-add-i invariant-loop decreases-loop
@@ -54,7 +54,7 @@ loop-less c = search rules
 
 -- src/words.rt:74:5
 loop-again : tie.Need-loop-preserved invariant-loop decreases-loop
-loop-again c = (asks_on c.before.before.before.before.before.before.before.before.before.before.before.before.before.loop.a c.before.before.before.before.before.before.before.before.ask-next.result _ _ _ _ _ _ c.before.before.before.before.before.before.before.before.before.before.before.before.before.loop.i c.before.before.before.before.before.before.before.before.before.before.before.before.before.loop.invariant.0 c.before.before.before.before.before.before.before.before.ask-next.ensures (not_false c.before.before.before.before.before.before.before.before.ask-next.result.right c.if1.false), omega arith, search rules, search rules, search rules)
+loop-again c = (asks_on c.before.before.before.before.before.before.before.before.before.before.before.before.before.loop.a c.before.before.before.before.before.before.before.before.ask-next.result _ _ _ _ _ _ c.before.before.before.before.before.before.before.before.before.before.before.before.before.loop.i c.before.before.before.before.before.before.before.before.before.before.before.before.before.loop.invariant.0 c.before.before.before.before.before.before.before.before.ask-next.ensures (not-false c.before.before.before.before.before.before.before.before.ask-next.result.right c.if1.false), omega arith, search rules, search rules, search rules)
 
 -- src/words.rt:62:1
 same-length-4 : tie.Need-same-length-4 invariant-loop decreases-loop
