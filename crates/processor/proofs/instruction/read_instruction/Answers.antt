@@ -103,5 +103,5 @@ pub returns-in_default : goal.returns-in_default
 unfolding instruction_of
 returns-in_default c =
     let n = c.args.w / 67108864 in
-    let o : (leb 24 n && leb n 31) ≡ false = outside n (elim c.in_default.branch [ goal.in_default-via-then-opcode-lt22 w ↦ inl w.if-opcode-lt22.true | goal.in_default-via-else-opcode-lt22+else-opcode-lt32 w ↦ inr w.if-opcode-lt32.false ]) in
+    let o : (leb 24 n && leb n 31) ≡ false = outside n (elim c.in_default.branch [ goal.in_default-via-then-opcode-lt22 w ↦ inl w.if-opcode-lt22-1.true | goal.in_default-via-else-opcode-lt22+else-opcode-lt32 w ↦ inr w.if-opcode-lt32-1.false ]) in
     simp (c.read_part_type.ensures, o, ne_eqb _ _ c.in_default-1.rest.1, ne_eqb _ _ c.in_default-1.rest.0.1, ne_eqb _ _ c.in_default-1.rest.0.0.1, ne_eqb _ _ c.in_default-1.rest.0.0.0.1, ne_eqb _ _ c.in_default-1.rest.0.0.0.0.1, ne_eqb _ _ c.in_default-1.rest.0.0.0.0.0.1, ne_eqb _ _ c.in_default-1.rest.0.0.0.0.0.0.1, ne_eqb _ _ c.in_default-1.rest.0.0.0.0.0.0.0.1, ne_eqb _ _ c.in_default-1.rest.0.0.0.0.0.0.0.0.1, ne_eqb _ _ c.in_default-1.rest.0.0.0.0.0.0.0.0.0.1, ne_eqb _ _ c.in_default-1.rest.0.0.0.0.0.0.0.0.0.0.1, ne_eqb _ _ c.in_default-1.rest.0.0.0.0.0.0.0.0.0.0.0.1, ne_eqb _ _ c.in_default-1.rest.0.0.0.0.0.0.0.0.0.0.0.0.1, ne_eqb _ _ c.in_default-1.rest.0.0.0.0.0.0.0.0.0.0.0.0.0.1, ne_eqb _ _ c.in_default-1.rest.0.0.0.0.0.0.0.0.0.0.0.0.0.0.1, ne_eqb _ _ c.in_default-1.rest.0.0.0.0.0.0.0.0.0.0.0.0.0.0.0.1, ne_eqb _ _ c.in_default-1.rest.0.0.0.0.0.0.0.0.0.0.0.0.0.0.0.0.1)
