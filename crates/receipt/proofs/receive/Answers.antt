@@ -1,0 +1,19 @@
+use Rattle.dlx.specs.Machine.{received}
+use native.Mathlib.Omega.{arith}
+use borrow.Author.Tests.{eq-eqb, ne_eqb}
+use borrow.Author.Rules.{rules}
+use Rattle.receipt.proofs.receive.Goals as goal
+
+pub take-reply-requires : goal.take-reply-requires
+take-reply-requires c = record { fact_1 = c.requires.fact_2; fact_2 = c.requires.fact_3 }
+
+pub write-requires : goal.write-requires
+write-requires c = omega (arith, c.requires.fact_1)
+
+pub returns-then-reply-eq0 : goal.returns-then-reply-eq0
+unfolding received
+returns-then-reply-eq0 c = simp (← c.take-reply.ensures, eq-eqb _ _ c.if-reply-eq0.true, c.write.ensures)
+
+pub returns : goal.returns
+unfolding received
+returns c = simp (← c.take-reply.ensures, ne_eqb _ _ c.if-reply-eq0.false)
