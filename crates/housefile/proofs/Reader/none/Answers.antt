@@ -1,0 +1,5 @@
+use Rattle.std.proofs.Common.{rules}
+use Rattle.housefile.proofs.Reader.none.Goals as goal
+
+pub returns : goal.returns
+returns c = simp c.none-at.ensures

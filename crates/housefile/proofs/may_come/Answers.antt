@@ -1,0 +1,23 @@
+use Rattle.housefile.specs.Records.{may_come}
+use Rattle.std.proofs.Common.{ne_eqb}
+use Rattle.housefile.proofs.may_come.Goals as goal
+
+pub returns-in-1 : goal.returns-in-1
+unfolding may_come
+returns-in-1 c = simp c.in-1.is
+
+pub returns-in-2 : goal.returns-in-2
+unfolding may_come
+returns-in-2 c = simp c.in-2.is
+
+pub returns-in-3 : goal.returns-in-3
+unfolding may_come
+returns-in-3 c = simp c.in-3.is
+
+pub returns-in-4 : goal.returns-in-4
+unfolding may_come
+returns-in-4 c = simp c.in-4.is
+
+pub returns-in_default : goal.returns-in_default
+unfolding may_come
+returns-in_default c = simp (ne_eqb _ _ c.in_default.in_default-own.rest.1, ne_eqb _ _ c.in_default.in_default-own.rest.0.1, ne_eqb _ _ c.in_default.in_default-own.rest.0.0.1, ne_eqb _ _ c.in_default.in_default-own.rest.0.0.0.1)

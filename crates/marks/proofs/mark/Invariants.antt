@@ -1,0 +1,18 @@
+use native.Mathlib.Omega.{arith}
+use native.Mathlib.Nat.{le_antisymm}
+use lib.ListN.{length, length-set}
+use mathlib.Core.Bool.{false}
+use mathlib.Core.Path.{◌≡◌, refl, sym, ap, ◌∙◌}
+use Prim.Native.Nat.{◌≤◌, ◌-◌, zero-le}
+use Rattle.house.specs.Lists.{any}
+use Rattle.house.proofs.Lists.Bounded.{any-more, any-yes}
+use Rattle.house.proofs.Lists.ByRule.{first_is, first-none}
+use Rattle.marks.specs.Marked.{marked, twice_marked}
+use Rattle.marks.proofs.Marked.{marked_more, mark_found, mark_free}
+use Rattle.marks.proofs.mark.Given as goal
+
+abbrev pub invariant-loop-k : goal.invariant-loop-k
+invariant-loop-k l = (any (twice_marked l.initial.owners l.frames) l.k ≡ false) × (l.owners ≡ marked l.frames l.tag l.initial.owners l.k) × (length l.owners ≡ 1024) × (l.k ≤ l.n)
+
+abbrev pub decreases-loop-k : goal.decreases-loop-k
+decreases-loop-k l = l.n - l.k

@@ -1,0 +1,20 @@
+use Rattle.dlx.specs.Execute.{operated, overflows_of, value_of}
+use Rattle.std.proofs.Common.{◌≡◌, sym, refl, ◌∙◌, true≢false, rules, eq-eqb, ne_eqb}
+use mathlib.Core.Bool.{false≢true}
+use Rattle.processor.proofs.words.sum_overflows.Reads as sum-overflows-reads
+use Rattle.std.proofs.num.wrapping_add_u32.Reads as wrapping-add-u32-reads
+use Rattle.plain.proofs.add.Goals as goal
+
+-- src/lib.rt:191:13
+pub returns-then-sum_overflows : goal.returns-then-sum_overflows
+returns-then-sum_overflows c = (λ e. absurd (false≢true e), λ _. refl)
+
+-- src/lib.rt:193:9
+pub returns-then-sr-eq1 : goal.returns-then-sr-eq1
+unfolding operated overflows_of value_of
+returns-then-sr-eq1 c = let e = c.put.ensures in (λ _. (simp (e.1, c.wrapping_add_u32-v.ensures.value), e.2, λ next. simp (simp c.sum_overflows.ensures at c.if-sum_overflows.false, eq-eqb _ _ c.if-sr-eq1.true)), λ q. absurd (true≢false (sym e.0 ∙ q)))
+
+-- src/lib.rt:184:1
+pub returns : goal.returns
+unfolding operated overflows_of value_of
+returns c = let e = c.put-2.ensures in (λ _. (simp (e.1, c.wrapping_add_u32-v.ensures.value), e.2, λ next. simp (ne_eqb _ _ c.if-sr-eq1.false)), λ q. absurd (true≢false (sym e.0 ∙ q)))

@@ -1,0 +1,40 @@
+use Rattle.plain.proofs.Laws.{seen_inside, load_does, fits_left}
+use Rattle.processor.proofs.Opcodes.{or_left}
+use Rattle.dlx.specs.Fields.{loading, storing}
+use Rattle.addresses.proofs.Entries.{placed_listed}
+use Rattle.std.proofs.Common.{◌≡◌, sym, refl, ◌∙◌, true≢false, arith, rules, eq-eqb}
+use mathlib.Core.Bool.{false≢true}
+use Rattle.dlx.proofs.words.wide.Reads as wide-reads
+use Rattle.processor.proofs.fields.bring.Reads as bring-reads
+use Rattle.std.proofs.num.wrapping_add_u32.Reads as wrapping-add-u32-reads
+use Rattle.plain.proofs.load.Goals as goal
+
+-- src/lib.rt:136:9
+pub fits-requires : goal.fits-requires
+fits-requires c = or_left (loading c.args.o) (storing c.args.o) c.requires.fact_4
+
+-- src/lib.rt:137:9
+pub returns-then-not-fits : goal.returns-then-not-fits
+returns-then-not-fits c = (λ e. absurd (false≢true e), λ _. refl)
+
+-- src/lib.rt:139:9
+pub seen-e-requires : goal.seen-e-requires
+seen-e-requires c = record { fact_1 = placed_listed c.requires.fact_2; fact_2 = c.requires.fact_3.count }
+
+-- src/lib.rt:141:9
+pub returns-then-e-ne1 : goal.returns-then-e-ne1
+returns-then-e-ne1 c = (λ e. absurd (false≢true e), λ _. refl)
+
+-- src/lib.rt:143:13
+pub bounds-words-wide : goal.bounds-words-wide
+bounds-words-wide c = let i = seen_inside _ _ (record { pto = 0; ptl = 0 }) c.args.words.now _ _ _ _ c.requires.fact_2 c.requires.fact_3 c.seen-e.ensures (eq-eqb _ _ c.if-e-ne1.false) in
+    omega (arith, i, c.wide-2.ensures, c.wide.ensures)
+
+-- src/lib.rt:144:19
+pub bring-requires : goal.bring-requires
+bring-requires c = record { fact_1 = c.requires.fact_4; fact_2 = fits_left _ _ _ c.before.before.before.before.before.before.before.before.fits2.ensures {- LOOK -} c.if-not-fits.false }
+
+-- src/lib.rt:118:1
+pub returns : goal.returns
+returns c = let e = c.put.ensures in
+    (λ _ page t. load_does _ _ c.args.p t page c.args.y c.args.regs.now c.args.words.now _ c.args.o c.args.x c.args.imm _ _ c.wrapping_add_u32-a.ensures.value (sym (fits_left c.args.o _ _ c.before.before.before.before.before.before.before.before.before.before.before.before.before.fits2.ensures {- LOOK -} c.if-not-fits.false)) c.seen-e.ensures (eq-eqb _ _ c.if-e-ne1.false) _ _ _ _ _ (simp (c.wide-2.ensures, c.wide.ensures)) c.bring.ensures e.1 e.2, λ q. absurd (true≢false (sym e.0 ∙ q)))

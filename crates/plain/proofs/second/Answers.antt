@@ -1,0 +1,5 @@
+use Rattle.std.proofs.Common.{rules}
+use Rattle.plain.proofs.second.Goals as goal
+
+pub returns : goal.returns
+returns c = c.wide.ensures

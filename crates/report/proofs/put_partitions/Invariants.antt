@@ -1,0 +1,17 @@
+use mathlib.Core.Path.{◌≡◌}
+use Prim.Native.Nat.{◌*◌, ◌-◌, ◌≤◌, zero-le}
+use native.Mathlib.Omega.{arith}
+use borrow.Author.Rules.{rules}
+use lib.ListN.{length, take}
+use Rattle.decimal.specs.Texts.{Puts}
+use Rattle.decimal.proofs.Texts.{roomy}
+use Rattle.house.specs.House.{no_partition}
+use Rattle.report.specs.Report.{lines_from}
+use Rattle.report.proofs.Texts.{unmapped, lines_none, lines_on, lines_done}
+use Rattle.report.proofs.put_partitions.Given as goal
+
+abbrev pub invariant-loop-i : goal.invariant-loop-i
+invariant-loop-i l = Puts l.initial.out l.at l.out l.end (lines_from 0 (take l.i l.parts)) (87 * l.i) × (l.i ≤ l.n) × (l.n ≤ 8)
+
+abbrev pub decreases-loop-i : goal.decreases-loop-i
+decreases-loop-i l = l.n - l.i
