@@ -1,7 +1,7 @@
 #!/usr/bin/env python3
 """Spells the repository's own definitions and lemmas in snake case, as levelOf to level_of and take-bytes to take_bytes. Run once, right behind port.py.
 
-usage: tools/spell_names.py [--list]        --list prints the rows and writes nothing
+usage: tools/spell_names.py [--list] [--again]        --list prints the rows and writes nothing; --again, where it ran before, leaves what it told apart
 
 A name is the repository's own if a file of specs/ or a lemma file of proofs/ declares it; functions of src/, their folders in proofs/, and the names that
 Rattle makes keep theirs. Where a lemma and its definition would fall together in a file, the lemma gets `_lem`.
@@ -13,10 +13,15 @@ import re
 import sys
 
 WORD = re.compile(r"[^\s(){}\[\].;,@\"«»\\]+")
-DECLARED = re.compile(r"^\s*(?:(?:abbrev|unfoldable|pub|data|record|syntax)\s+)*([^\s(){}.;,@\"«»]+)(?: \([^()]*\)| \{[^{}]*\})* :(?: |$)")
+DECLARED = re.compile(r"^\s*(?:(?:abbrev|unfoldable|pub|data|record|syntax)\s+)*((?:[^\s(){}.;,@\"«»:=]+ )+?)(?:\([^()]*\) |\{[^{}]*\} )*:(?: |$)")
+ALIAS = re.compile(r" as ([a-z][\w'-]*)")
+LIBRARY_USE = re.compile(r"use ([\w.+'-]+?)\.?\{([^}]*)\}")
 STRING = re.compile(r'"(?:\\.|[^"\\\n])*"')
 CLAUSE = re.compile(r"(?:\b(?:requires|ensures)\s*\*?\s*(?:\w+\s*)?\{|\bghost\s+\w+\s*:\s*\{)")
 GHOST_USE = re.compile(r"ghost\s+use\b[^;]*;", re.S)
+
+# Lemmas that would fall together with a definition that had capitals.
+BESIDE = ["by-table", "counted-on", "first-from", "first-of", "one-verdict", "run-verdict", "whole-frames"]
 
 # Names that would fall together with another: a lemma gets `_lem` behind its definition's name.
 FALL_TOGETHER = {
@@ -55,7 +60,7 @@ def files(root):
 def is_lemma_file(path):
     parts = path.split(os.sep)
     at = len(parts) - 1 - parts[::-1].index("crates")
-    return parts[at + 2] == "specs" or parts[at + 2] == "proofs" and len(parts) == at + 4
+    return parts[at + 2] == "specs" or parts[at + 2] == "proofs" and parts[-1] not in ("Proof.antt", "Answers.antt", "Invariants.antt")
 
 
 def spelled(name):
@@ -72,23 +77,32 @@ def lines_of(text):
 
 
 def rows(root):
-    made, declared = set(), collections.defaultdict(set)
+    declared = collections.defaultdict(set)
     for path in files(root):
-        if not path.endswith(".antt"):
-            continue
         with open(path, encoding="utf-8") as f:
             text = f.read()
+        for use in re.findall(r"use [^;{}]*\{[^}]*\}", text) if path.endswith(".rt") or is_lemma_file(path) else []:
+            for name in ALIAS.findall(use):
+                declared[name].add(path)
+        if not path.endswith(".antt"):
+            continue
         for line in lines_of(text):
-            m = DECLARED.match(line)
-            if m:
-                if is_lemma_file(path):
-                    declared[m.group(1)].add(path)
+            m = DECLARED.match(line + " " if line.endswith(":") else line)
+            if m and is_lemma_file(path):
+                for name in m.group(1).split():
+                    declared[name].add(path)
     return {n: spelled(n) for n in declared if spelled(n) != n}
 
 
 def turned(path, text, table):
     """The text with each whole word of the table spelled anew."""
     labels = path.endswith(".antt") and not is_lemma_file(path)
+    own = os.listdir(os.path.join(os.path.dirname(os.path.realpath(__file__)), "..", "crates"))
+    for module, names in LIBRARY_USE.findall(text):
+        steps = module.split(".")
+        if steps[0] == "Rattle" and len(steps) > 1 and steps[1] in own:
+            continue
+        table = {k: v for k, v in table.items() if k not in re.split(r"[,\s]+", names)}
 
     def word(m):
         w = m.group(0)
@@ -128,8 +142,9 @@ def turned(path, text, table):
 def main():
     root = os.path.join(os.path.dirname(os.path.realpath(__file__)), "..")
     table = rows(root)
-    for old, new in FALL_TOGETHER.items():
-        table[old] = new
+    table.update({name: spelled(name) + "_lem" for name in BESIDE if name in table})
+    if "--again" not in sys.argv:
+        table.update(FALL_TOGETHER)
     if "--list" in sys.argv:
         for old in sorted(table):
             print(f"{old}\t{table[old]}")

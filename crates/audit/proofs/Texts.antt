@@ -6,7 +6,7 @@ use borrow.Author.Tests.{eq-eqb, ne_eqb}
 use Rattle.house.specs.Boot.{verdict}
 use Rattle.house.specs.Turns.{World}
 use Rattle.house.specs.Calls.{answered}
-use Rattle.house.proofs.Damage.Undamaged.{count-within}
+use Rattle.house.proofs.Damage.Undamaged.{count_within}
 use Rattle.dlx.proofs.Tests.{by_eq}
 use Rattle.report.specs.Report.{refused_text}
 use Rattle.staleness.specs.Audit.{audit_verdict, audit_call, counts_call}
@@ -39,5 +39,5 @@ module _ (n d : ℕ) (w : World) where
 pub few : (w : World) (c : Counts) → c ≡ counts_call w → c.number ≡ 0 → w.house.count ≤ 8
 few w c e z =
     by_eq (audit_verdict w 0).number 0
-    (λ y. (count-within w.house (audit_done w 0 y).whole).1)
+    (λ y. (count_within w.house (audit_done w 0 y).whole).1)
     (λ y. absurd (y (ap (λ (x : Counts). x.number) (sym (counts_refused w _ refl y)) ∙ ap (λ (x : Counts). x.number) (sym e) ∙ z)))

@@ -15,7 +15,7 @@ use Rattle.house.specs.Boot.{pages_wrong, frame_outside, boot_verdict}
 use Rattle.house.proofs.Lists.Bounded.{any_none, and_right}
 use Rattle.house.proofs.Damage.Conditions.{within}
 use Rattle.house.proofs.Calls.Verdicts.{boot_done}
-use Rattle.house.proofs.Lists.ByRule.{any-missed, listFrom-same, listFrom-replicate, set-listFrom}
+use Rattle.house.proofs.Lists.ByRule.{any_missed, list_from_same, list_from_replicate, set_list_from}
 use Rattle.boot.specs.Places.{filled, Few, Fitting}
 
 -- ---- a list filled from the front
@@ -23,14 +23,14 @@ use Rattle.boot.specs.Places.{filled, Few, Fitting}
 module _ {A : Type 0} (f : ℕ → A) (d : A) (n : ℕ) where
   pub filled_none : replicate n d ≡ filled f d n 0
   filled_none =
-      sym (listFrom-replicate d 0 n)
-      ∙ listFrom-same (λ _. d) (λ j. if ltb j 0 then f j else d) 0 n (λ j _. rw (le-ltb j 0 (omega arith)))
+      sym (list_from_replicate d 0 n)
+      ∙ list_from_same (λ _. d) (λ j. if ltb j 0 then f j else d) 0 n (λ j _. rw (le-ltb j 0 (omega arith)))
 
   pub filled_more : (i : ℕ) → i < n → set (filled f d n i) i (f i) ≡ filled f d n (i + 1)
   filled_more i l =
       let q : (if ltb i (i + 1) then f i else d) ≡ f i = rw (lt-ltb i (i + 1) (omega arith)) in
       subst (λ (v : A). set (filled f d n i) i v ≡ filled f d n (i + 1)) q
-      (set-listFrom (λ j. if ltb j i then f j else d) (λ j. if ltb j (i + 1) then f j else d) n i
+      (set_list_from (λ j. if ltb j i then f j else d) (λ j. if ltb j (i + 1) then f j else d) n i
       (λ j e. by_test (ltb j i)
       (λ t. rw (t, lt-ltb j (i + 1) (omega (arith, ltb-true j i t))))
       (λ t. rw (t, le-ltb j (i + 1) (omega (arith, ltb-false j i t)))))
@@ -39,7 +39,7 @@ module _ {A : Type 0} (f : ℕ → A) (d : A) (n : ℕ) where
   -- places that the rule gives d need no turn
   pub filled_rest : (i k : ℕ) → i ≤ k → ((j : ℕ) → i ≤ j → j < k → f j ≡ d) → filled f d n i ≡ filled f d n k
   filled_rest i k l h =
-      listFrom-same (λ j. if ltb j i then f j else d) (λ j. if ltb j k then f j else d) 0 n λ j _.
+      list_from_same (λ j. if ltb j i then f j else d) (λ j. if ltb j k then f j else d) 0 n λ j _.
       by_test (ltb j i)
       (λ t. rw (t, lt-ltb j k (omega (arith, ltb-true j i t))))
       (λ t. by_test (ltb j k)
@@ -48,14 +48,14 @@ module _ {A : Type 0} (f : ℕ → A) (d : A) (n : ℕ) where
 
   pub filled_whole : (i : ℕ) → ((j : ℕ) → i ≤ j → f j ≡ d) → filled f d n i ≡ list_from f 0 n
   filled_whole i h =
-      listFrom-same (λ j. if ltb j i then f j else d) f 0 n λ j _.
+      list_from_same (λ j. if ltb j i then f j else d) f 0 n λ j _.
       by_test (ltb j i)
       (λ t. rw t)
       (λ t. rw t (sym (h j (ltb-false j i t))))
 
 pub filled_flags : (n i : ℕ) → filled (λ _. true) false n i ≡ list_from (λ j. ltb j i) 0 n
 filled_flags n i =
-    listFrom-same (λ j. if ltb j i then true else false) (λ j. ltb j i) 0 n λ j _. by_test (ltb j i) (λ t. rw t) (λ t. rw t)
+    list_from_same (λ j. if ltb j i then true else false) (λ j. ltb j i) 0 n λ j _. by_test (ltb j i) (λ t. rw t) (λ t. rw t)
 
 -- ---- what a boot has that nothing refuses
 
@@ -75,7 +75,7 @@ pub below : (fr : List ℕ) (words r : ℕ) → whole_frames words ≡ true → 
 below fr words r w e l k m =
     let size = words / 1024 in
     let small : size ≤ 1024 = leb-true size 1024 (and_right (leb 1 size) (leb size 1024) (and_right (eqb (words % 1024) 0) (between 1 size 1024) w)) in
-    let less : get_or fr k 0 < size = leb-false size (get_or fr k 0) (any_none (frame_outside fr words) (length fr) (any-missed (frame_outside fr words) (length fr) r e l) k m) in
+    let less : get_or fr k 0 < size = leb-false size (get_or fr k 0) (any_none (frame_outside fr words) (length fr) (any_missed (frame_outside fr words) (length fr) r e l) k m) in
     omega (arith, small, less)
 
 pub fitting : (ps : List ℕ) (q : ℕ) (fr : List ℕ) (words : ℕ) → (boot_verdict ps q fr words).number ≡ 0 → Fitting ps fr × (words ≤ 1048576)

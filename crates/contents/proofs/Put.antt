@@ -10,7 +10,7 @@ use Rattle.dlx.proofs.Parts.{inner_length}
 use Rattle.decimal.specs.Texts.{Puts, joined}
 use Rattle.decimal.proofs.Texts.{roomy, ◌then◌, whole}
 use Rattle.house.specs.Boot.{sum, offset}
-use Rattle.house.proofs.Boot.Offsets.{offset-in}
+use Rattle.house.proofs.Boot.Offsets.{offset_in}
 use Rattle.housefile.specs.Records.{File, file}
 use Rattle.save.specs.Saved.{little, all_bytes, record_of, records, frame_words}
 use Rattle.saver.proofs.Heads.{record_put}
@@ -39,7 +39,7 @@ unfolding list_words inner
 list_put {s} {o} {u} {r} pages frames i from to ef et l long p =
     let y : to - from ≡ get_or pages i 0 = omega arith in
     let n : length (take (get_or pages i 0) (drop (offset pages i) frames)) ≡ get_or pages i 0 =
-    inner_length frames (offset pages i) (get_or pages i 0) (omega (arith, offset-in pages i)) in
+    inner_length frames (offset pages i) (get_or pages i 0) (omega (arith, offset_in pages i)) in
     let p' : Puts s u o r (record_of 2 (take (get_or pages i 0) (drop (offset pages i) frames))) (6 + 4 * length (take (get_or pages i 0) (drop (offset pages i) frames))) = rw (y, ef) at p in
     roomy 1030 p' (omega arith)
 

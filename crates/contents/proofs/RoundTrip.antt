@@ -12,7 +12,7 @@ use Rattle.dlx.specs.Choice.{if◌then◌else◌}
 use Rattle.dlx.specs.Parts.{inner, outer}
 use Rattle.dlx.proofs.Parts.{inner_length, part_each}
 use Rattle.house.specs.Boot.{sum, offset}
-use Rattle.house.proofs.Boot.Offsets.{offset-sum, offset-in}
+use Rattle.house.proofs.Boot.Offsets.{offset_sum, offset_in}
 use Rattle.housefile.specs.Records.{number, words_of, size, kind, body, may_come, record_right, File, file, no_file, with_record, Reading, right, read_from, reading_of}
 use Rattle.housefile.specs.Reader.{no_read, fed, answer_of}
 use Rattle.housefile.proofs.WholeFile.{cut_anywhere}
@@ -136,7 +136,7 @@ module _ (f : File) (s : Sayable f) where
 
   list_length : (i : ℕ) → length (list_words f.pages f.frames i) ≡ get_or f.pages i 0
   unfolding list_words
-  list_length i = inner_length f.frames (offset f.pages i) (get_or f.pages i 0) (omega (arith, offset-in f.pages i, s.listed.lists))
+  list_length i = inner_length f.frames (offset f.pages i) (get_or f.pages i 0) (omega (arith, offset_in f.pages i, s.listed.lists))
 
   list_below : (i : ℕ) → Below (2 ^ 32) (list_words f.pages f.frames i)
   unfolding list_words
@@ -225,7 +225,7 @@ module _ (f : File) (s : Sayable f) where
   between : P2 c ≡ P3 0
   between =
       let a : take c f.pages ≡ f.pages = take_all c f.pages (omega arith) in
-      let b : take (offset f.pages c) f.frames ≡ f.frames = take_all (offset f.pages c) f.frames (omega (arith, offset-sum f.pages, s.listed.lists)) in
+      let b : take (offset f.pages c) f.frames ≡ f.frames = take_all (offset f.pages c) f.frames (omega (arith, offset_sum f.pages, s.listed.lists)) in
       ap (λ (x : List ℕ). file f.q f.run x (take (offset f.pages c) f.frames) zeros) a
       ∙ ap (λ (x : List ℕ). file f.q f.run f.pages x zeros) b
 

@@ -20,8 +20,8 @@ use Rattle.house.specs.Lists.{any, between}
 use Rattle.house.specs.House.{no_partition}
 use Rattle.house.specs.Damage.{stands, entry_wrong, whole_frames, not_zero, partition_used, damaged, outside_limits, frame_twice, turn_wrong, registers_wrong, shadow_wrong, unused_wrong, queues_wrong}
 use Rattle.house.specs.declared.House.{House}
-use Rattle.house.proofs.Lists.Bounded.{one_way, same_test, or_left, or_right, any-yes, any_at, any_none, any-from, any_same, and_right}
-use Rattle.house.proofs.Lists.ByRule.{first-none}
+use Rattle.house.proofs.Lists.Bounded.{one_way, same_test, or_left, or_right, any_yes, any_at, any_none, any_from, any_same, and_right}
+use Rattle.house.proofs.Lists.ByRule.{first_none}
 use Rattle.marks.specs.Marked.{marked, twice_marked, first_twice}
 use Rattle.marks.proofs.Marked.{marked_length, marked_at}
 use Rattle.damage.specs.Marks.{Within, shadow_marked, shadow_outside, pages_at, part_at, entries_at, pages_outside, barred_at, frames_barred, owners_of, twice_at, twice_in, entry_marked, group_marked, behind, outside, turn_outside, registers_at, room_wrong, queue_at, inside}
@@ -107,8 +107,8 @@ module _ (ps : List Partition) (fr : List ℕ) where
       (λ q. one_way (twice_in ps fr n)
       (let r = any_at (λ k. eqb (get_or (part_at fr n) k 0) f) (pages_at ps n) q in
       let z : get_or (part_at fr n) r.0 0 ≡ f = eqb-true _ _ r.2 in
-      any-yes (twice_at ps fr n) (pages_at ps n) r.0 r.1
-      (rw (any-yes (has (get_or (part_at fr n) r.0 0)) n i (omega arith) (subst (λ (x : ℕ). has x i ≡ true) (sym z) h)) (or-true (stands (part_at fr n) r.0 (get_or (part_at fr n) r.0 0)))))
+      any_yes (twice_at ps fr n) (pages_at ps n) r.0 r.1
+      (rw (any_yes (has (get_or (part_at fr n) r.0 0)) n i (omega arith) (subst (λ (x : ℕ). has x i ≡ true) (sym z) h)) (or-true (stands (part_at fr n) r.0 (get_or (part_at fr n) r.0 0)))))
       (or_left (twice_in ps fr n) (any (twice_in ps fr) n) t))
       (λ q. rw q (owners_only n f i l (or_right (twice_in ps fr n) (any (twice_in ps fr) n) t) (omega arith) h)))
 
@@ -122,7 +122,7 @@ module _ (ps : List Partition) (fr : List ℕ) where
     -- what marking partition i's part finds, and leaves
     pub mark_part : (part o o' : List ℕ) (pages tag : ℕ) (r : Bool) → part ≡ part_at fr i → pages ≡ pages_at ps i → tag ≡ i + 1 → o ≡ owners_of ps fr i → r ≡ any (twice_marked o part) pages → o' ≡ marked part tag o (first_twice o part pages) → (r ≡ twice_in ps fr i) × (r ≡ false → o' ≡ owners_of ps fr (i + 1))
     unfolding owners_of
-    mark_part part o o' pages tag r p q t e h m = (h ∙ rw (p, q, e) twice_by_marks, λ z. m ∙ ap (marked part tag o) (first-none (twice_marked o part) pages (sym h ∙ z)) ∙ rw (p, q, t, e, add-one))
+    mark_part part o o' pages tag r p q t e h m = (h ∙ rw (p, q, e) twice_by_marks, λ z. m ∙ ap (marked part tag o) (first_none (twice_marked o part) pages (sym h ∙ z)) ∙ rw (p, q, t, e, add-one))
 
     module _ (once : any (twice_in ps fr) n ≡ false) (there : i < n) where
       owner_is : (f : ℕ) → eqb (get_or (owners_of ps fr n) f 0) (i + 1) ≡ has f i
@@ -303,18 +303,18 @@ module _ (o : List ℕ) (tag : ℕ) (sh : List ℕ) where
   -- no entry of an empty group is wrong
   pub group_empty : (base : ℕ) → not_zero sh base 32 ≡ false → group_marked o tag sh base ≡ false
   group_empty base e =
-      any-from (λ k. wrong (base + k)) 32
+      any_from (λ k. wrong (base + k)) 32
       (λ k l. empty_right (get_or sh (base + k) 0) (any_none (λ j. not (eqb (get_or sh (base + j) 0) 0)) 32 e k l))
 
   pub group_found : (n base : ℕ) → base + 32 ≤ n → group_marked o tag sh base ≡ true → any wrong n ≡ true
   group_found n base l e =
       let r = any_at (λ k. wrong (base + k)) 32 e in
-      any-yes wrong n (base + r.0) (omega (arith, l, r.1)) r.2
+      any_yes wrong n (base + r.0) (omega (arith, l, r.1)) r.2
 
   -- one group more
   pub group_more : (base : ℕ) → any wrong base ≡ false → group_marked o tag sh base ≡ false → any wrong (base + 32) ≡ false
   group_more base e g =
-      any-from wrong (base + 32)
+      any_from wrong (base + 32)
       (λ j l. by_test (ltb j base)
       (λ t. any_none wrong base e j (ltb-true j base t))
       (λ t.
@@ -330,17 +330,17 @@ and_left false b e = e
 
 module _ (l : List ℕ) (n : ℕ) where
   pub behind_none : length l ≤ n → any (behind l n) (length l) ≡ false
-  behind_none h = any-from (behind l n) (length l) (λ j b. rw (lt-leb n j (omega (arith, h, b))))
+  behind_none h = any_from (behind l n) (length l) (λ j b. rw (lt-leb n j (omega (arith, h, b))))
 
   pub behind_gathered : n < length l → not_zero l n (length l - n) ≡ any (behind l n) (length l)
   behind_gathered h =
       same_test (not_zero l n (length l - n)) (any (behind l n) (length l))
       (λ e.
       let r = any_at (λ k. not (eqb (get_or l (n + k) 0) 0)) (length l - n) e in
-      any-yes (behind l n) (length l) (n + r.0) (omega (arith, h, r.1)) (rw (le-leb n (n + r.0) (omega arith)) r.2))
+      any_yes (behind l n) (length l) (n + r.0) (omega (arith, h, r.1)) (rw (le-leb n (n + r.0) (omega arith)) r.2))
       (λ e.
       let r = any_at (behind l n) (length l) e in
       let m : n ≤ r.0 = leb-true n r.0 (and_left (leb n r.0) (not (eqb (get_or l r.0 0) 0)) r.2) in
       let d : n + (r.0 - n) ≡ r.0 = omega (arith, m) in
-      any-yes (λ k. not (eqb (get_or l (n + k) 0) 0)) (length l - n) (r.0 - n) (omega (arith, m, r.1))
+      any_yes (λ k. not (eqb (get_or l (n + k) 0) 0)) (length l - n) (r.0 - n) (omega (arith, m, r.1))
       (subst (λ (x : ℕ). not (eqb (get_or l x 0) 0) ≡ true) (sym d) (and_right (leb n r.0) (not (eqb (get_or l r.0 0) 0)) r.2)))

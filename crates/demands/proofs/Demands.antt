@@ -22,20 +22,20 @@ use Rattle.demands.specs.Demands.{RefusedMeansUntouched, MayStep, Isolation, Eve
 use Rattle.house.proofs.Lists.Bounded.{one_way}
 use Rattle.house.proofs.Calls.Verdicts.{run_done}
 use Rattle.house.specs.Sound.{Sound}
-use Rattle.house.proofs.Damage.Denied.{undamaged-from}
-use Rattle.house.proofs.Turns.HostStep.{steps-ready}
-use Rattle.house.proofs.Damage.Undamaged.{undamaged-gives, sound}
-use Rattle.demands.proofs.Isolation.Isolated.{step-isolated}
-use Rattle.demands.proofs.Isolation.IsolatedRun.{same-verdict, answers-alike}
-use Rattle.demands.proofs.Isolation.FrameZero.{apart-undamaged, apart-given}
-use Rattle.demands.proofs.Booted.FreshHouse.{booted-few, booted-whole, booted-ready}
-use Rattle.demands.proofs.Histories.Stays.{history-stays}
+use Rattle.house.proofs.Damage.Denied.{undamaged_from}
+use Rattle.house.proofs.Turns.HostStep.{steps_ready}
+use Rattle.house.proofs.Damage.Undamaged.{undamaged_gives, sound}
+use Rattle.demands.proofs.Isolation.Isolated.{step_isolated}
+use Rattle.demands.proofs.Isolation.IsolatedRun.{same_verdict, answers_alike}
+use Rattle.demands.proofs.Isolation.FrameZero.{apart_undamaged, apart_given}
+use Rattle.demands.proofs.Booted.FreshHouse.{booted_few, booted_whole, booted_ready}
+use Rattle.demands.proofs.Histories.Stays.{history_stays}
 use Rattle.demands.proofs.Histories.Standing.{step_of, firm}
-use Rattle.demands.proofs.Histories.Grown.{standing, run-grown, run-busy}
+use Rattle.demands.proofs.Histories.Grown.{standing, run_grown, run_busy}
 use Rattle.demands.proofs.Histories.Landings.{lands}
-use Rattle.demands.proofs.Histories.Counted.{at_end, end-lone, end-counter}
+use Rattle.demands.proofs.Histories.Counted.{at_end, end_lone, end_counter}
 use Rattle.tickets.proofs.Queues.{queue_count}
-use Rattle.house.proofs.Turns.Kept.{queued-of}
+use Rattle.house.proofs.Turns.Kept.{queued_of}
 use Rattle.demands.proofs.ReadOut.{reads_pages}
 use Rattle.demands.proofs.Fairness.{others_most}
 use Rattle.demands.proofs.Shares.{shares_most}
@@ -60,20 +60,20 @@ may_sound : (w : World) → MayStep w → Sound w
 may_sound w o = sound w.house o.whole w.memory o.shaped o.size o.busy
 
 pub isolation_demand : Isolation
-isolation_demand w w' o o' = step-isolated w.house w'.house w.memory w'.memory (may_sound w o) (may_sound w' o')
+isolation_demand w w' o o' = step_isolated w.house w'.house w.memory w'.memory (may_sound w o) (may_sound w' o')
 
 pub every_step : EveryStep
 unfolding run_call
 every_step w k j y e l =
     let d = run_done w k e in
-    let r = steps-ready j w (record { typed = y; whole = undamaged-gives w.house d.whole; size = d.size; busy = d.busy (λ z. omega arith) }) in
-    (r.typed, record { shaped = r.typed.shaped; whole = undamaged-from _ r.whole; size = r.size; busy = r.busy })
+    let r = steps_ready j w (record { typed = y; whole = undamaged_gives w.house d.whole; size = d.size; busy = d.busy (λ z. omega arith) }) in
+    (r.typed, record { shaped = r.typed.shaped; whole = undamaged_from _ r.whole; size = r.size; busy = r.busy })
 
 pub run_isolation : RunIsolation
 unfolding run_call
 run_isolation h m m' k s long same =
-    let a = answers-alike h m m' s long same k in
-    (same-verdict h m m' long k, a.house, a.own, a.others)
+    let a = answers_alike h m m' s long same k in
+    (same_verdict h m m' long k, a.house, a.own, a.others)
 
 pub frame_0_demand : Frame0
 unfolding run_call
@@ -81,8 +81,8 @@ frame_0_demand h m m' k s long same =
     by_test (damaged h)
     (λ e.
     let untouched : (x : List ℕ) → (run_call (world h x) k).world ≡ world h x = λ x. refused_means_untouched.run (world h x) k (λ z. one_way (damaged h) e (run_done (world h x) k z).whole) in
-    apart-given h m m' k long same (untouched m) (untouched m'))
-    (λ e. apart-undamaged h m m' k (undamaged-gives h e) s long same)
+    apart_given h m m' k long same (untouched m) (untouched m'))
+    (λ e. apart_undamaged h m m' k (undamaged_gives h e) s long same)
 
 -- ---- demand 2
 
@@ -100,14 +100,14 @@ every_boot ps q fr m e = record {
 pub never_damaged : NeverDamaged
 never_damaged b t w g =
     subst (λ (x : World). damaged x.house ≡ false) (sym g.1)
-    (history-stays (booted b) (booted-ready b t).typed (booted-whole b) g.0).whole
+    (history_stays (booted b) (booted_ready b t).typed (booted_whole b) g.0).whole
 
 pub step_demand : Step
 step_demand b w g _ = step_of w (firm b w (standing b w g))
 
 pub within_runs : WithinRuns
 unfolding run_call
-within_runs b w g k j e l = let d = run_done w k e in (run-grown b w g k j d l, run-busy b w g k j d l)
+within_runs b w g k j e l = let d = run_done w k e in (run_grown b w g k j d l, run_busy b w g k j d l)
 
 pub reach_demand : Reach
 reach_demand b w g = lands w (firm b w (standing b w g))
@@ -115,18 +115,18 @@ reach_demand b w g = lands w (firm b w (standing b w g))
 -- ---- demand 3
 
 pub histories_demand : Histories
-histories_demand b cs i l = (end-lone b i l cs, end-counter b i l cs)
+histories_demand b cs i l = (end_lone b i l cs, end_counter b i l cs)
 
 pub equal_guests : EqualGuests
 equal_guests b cs cs' i l e s =
     let O = lone_memory (get_or b.pages i 0) in
-    end-lone b i l cs
+    end_lone b i l cs
     ∙ steps_same O (feed_of cs (booted b) i) (feed_of cs' (booted b) i) (turns_made cs (booted b) i) (lone_at_boot b i) s
     ∙ ap (λ (k : ℕ). steps O (feed_of cs' (booted b) i) k (lone_at_boot b i)) e
-    ∙ sym (end-lone b i l cs')
+    ∙ sym (end_lone b i l cs')
 
 pub equal_counters : EqualCounters
-equal_counters b cs cs' i l few few' s e = equal_guests b cs cs' i l (omega (arith, end-counter b i l cs, end-counter b i l cs')) s
+equal_counters b cs cs' i l few few' s e = equal_guests b cs cs' i l (omega (arith, end_counter b i l cs, end_counter b i l cs')) s
 
 pub tickets_demand : Tickets
 tickets_demand b cs j l = (at_end b j l cs).tickets
@@ -138,7 +138,7 @@ ticket_counts b cs j l =
     let st = standing b w (cs, refl) in
     ap length (tickets_demand b cs j l)
     ∙ length-append (tickets_off j log) (queue_in w j)
-    ∙ ap (λ (n : ℕ). length (tickets_off j log) + n) (queue_count (queues_of w.house) (queued-of w.house st.shaped st.most) j (omega (arith, booted-few b)))
+    ∙ ap (λ (n : ℕ). length (tickets_off j log) + n) (queue_count (queues_of w.house) (queued_of w.house st.shaped st.most) j (omega (arith, booted_few b)))
 
 pub reads_those_pages : ReadsThosePages
 reads_those_pages b w g = reads_pages w

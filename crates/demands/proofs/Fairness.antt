@@ -19,12 +19,12 @@ use Rattle.house.specs.Calls.{run_verdict, run_call, one_verdict, started, stopp
 use Rattle.demands.specs.Histories.{Call, run, start, stop, empty, read_out, after, history, turns_in, steps_of, steps_made, turns_made, StaysRunning}
 use Rattle.house.specs.declared.House.{House}
 use Rattle.house.specs.declared.Turn.{Turn}
-use Rattle.house.proofs.Lists.Bounded.{or_left, and_right, one_way, any-yes}
-use Rattle.house.proofs.Turns.Kept.{next-below, distance, distance_some, distance-other, next-nearer, steps-keep, InTurn, in-turn, in-turn-on}
-use Rattle.house.proofs.Turns.SameLayout.{steps-layout}
-use Rattle.demands.proofs.Histories.Stays.{after-layout}
-use Rattle.house.proofs.Damage.Undamaged.{undamaged-gives}
-use Rattle.house.proofs.Calls.Verdicts.{run_done, one-done}
+use Rattle.house.proofs.Lists.Bounded.{or_left, and_right, one_way, any_yes}
+use Rattle.house.proofs.Turns.Kept.{next_below, distance, distance_some, distance_other, next_nearer, steps_keep, InTurn, in_turn, in_turn_on}
+use Rattle.house.proofs.Turns.SameLayout.{steps_layout}
+use Rattle.demands.proofs.Histories.Stays.{after_layout}
+use Rattle.house.proofs.Damage.Undamaged.{undamaged_gives}
+use Rattle.house.proofs.Calls.Verdicts.{run_done, one_done}
 
 -- ---- how long i waits
 
@@ -46,7 +46,7 @@ module _ (n q i c l : ℕ) where
       either (λ x. x ≤ (n - 1) * q) (eqb c i)
       (λ _. omega arith)
       (λ t.
-      let d = distance-other n c i b m (eqb-false c i t) in
+      let d = distance_other n c i b m (eqb-false c i t) in
       let p = distance_some n c i b in
       let g : (distance n c i - 1 + 1) * q ≤ (n - 1) * q = mul-le-mul_right q (omega arith) in
       omega arith)
@@ -58,8 +58,8 @@ passed_waits r n q i c m l e =
     either (λ x. x ≤ (distance n c i - 1) * q) (eqb (next_of r n c) i)
     (λ _. omega arith)
     (λ t.
-    let d = next-nearer r n i m e c l (eqb-false (next_of r n c) i t) in
-    let p = distance_some n (next_of r n c) i (next-below r n c n l) in
+    let d = next_nearer r n i m e c l (eqb-false (next_of r n c) i t) in
+    let p = distance_some n (next_of r n c) i (next_below r n c n l) in
     let g : (distance n (next_of r n c) i - 1 + 1) * q ≤ (distance n c i - 1) * q = mul-le-mul_right q (omega arith) in
     omega arith)
 
@@ -83,11 +83,11 @@ unfolding host_step step_with settled_house
 step_waits w i s m e o =
     let h = w.house in
     let calls = (guest_step w h.current).0.calls in
-    (in-turn-on h.running h.count h.q h.current h.left calls s, turn_waits h.running h.count h.q i h.current h.left calls s m e o)
+    (in_turn_on h.running h.count h.q h.current h.left calls s, turn_waits h.running h.count h.q i h.current h.left calls s m e o)
 
 pub steps_running : (k : ℕ) (w : World) → (host_steps k w).house.running ≡ w.house.running
 unfolding host_step step_with settled_house
-steps_running k w = steps-keep (λ x. x.house.running ≡ w.house.running) (λ x e. e) k w refl
+steps_running k w = steps_keep (λ x. x.house.running ≡ w.house.running) (λ x e. e) k w refl
 
 -- none of k steps is i's
 no_turns : (k : ℕ) (w : World) (i : ℕ) → turns_in (suc k) w i ≡ 0 → ((host_steps k w).house.current ≡ i → ⊥) × (turns_in k w i ≡ 0)
@@ -104,7 +104,7 @@ steps_wait zero w i s m e z = (s, omega arith)
 steps_wait (suc k) w i s m e z =
     let n = no_turns k w i z in
     let h = steps_wait k w i s m e n.1 in
-    let g = step_waits (host_steps k w) i h.0 (omega (arith, (steps-layout k w).count)) (ap (λ (r : List Bool). get_or r i false) (steps_running k w) ∙ e) n.0 in
+    let g = step_waits (host_steps k w) i h.0 (omega (arith, (steps_layout k w).count)) (ap (λ (r : List Bool). get_or r i false) (steps_running k w) ∙ e) n.0 in
     (g.0, omega (arith, g.1, h.1))
 
 -- ---- calls
@@ -112,8 +112,8 @@ steps_wait (suc k) w i s m e z =
 -- in a house that is not damaged one is current while i runs
 pub turning : (h : House) (i : ℕ) → damaged h ≡ false → i < h.count → runs h i ≡ true → Turning h
 turning h i e m r =
-    let u = undamaged-gives h e in
-    in-turn h u (λ z. one_way (runs h i) r ((u.idle z).1 i (omega (arith, u.few))))
+    let u = undamaged_gives h e in
+    in_turn h u (λ z. one_way (runs h i) r ((u.idle z).1 i (omega (arith, u.few))))
 
 started_waits : (h : House) (p i : ℕ) → Turning h → waiting (started h p) i ≤ waiting h i
 unfolding started
@@ -134,7 +134,7 @@ stopped_waits h p i s m e =
     (λ _.
     let g = subst (λ (x : ℕ). wait h.count h.q i (next_of r h.count x) h.q ≤ (distance h.count h.current i - 1) * h.q) z (passed_waits r h.count h.q i h.current m s.here e) in
     omega (arith, g, other_waits h.count h.q i h.current h.left o))
-    (λ n. one_way (any (λ j. get_or r j false) h.count) (any-yes (λ j. get_or r j false) h.count i m e) n))
+    (λ n. one_way (any (λ j. get_or r j false) h.count) (any_yes (λ j. get_or r j false) h.count i m e) n))
     (λ _. omega arith)
 
 module _ (w : World) (i : ℕ) (m : i < w.house.count) (e : runs w.house i ≡ true) where
@@ -143,7 +143,7 @@ module _ (w : World) (i : ℕ) (m : i < w.house.count) (e : runs w.house i ≡ t
       → let x = (if eqb (one_verdict w.house p).number 0 then world h w.memory else w) in runs x.house i ≡ true → 0 + waiting x.house i ≤ waiting w.house i
   one_waits p h f =
       either (λ (x : World). runs x.house i ≡ true → 0 + waiting x.house i ≤ waiting w.house i) (eqb (one_verdict w.house p).number 0)
-      (λ t r. omega (arith, f (turning w.house i (one-done w.house p (eqb-true (one_verdict w.house p).number 0 t)).whole m e) r))
+      (λ t r. omega (arith, f (turning w.house i (one_done w.house p (eqb-true (one_verdict w.house p).number 0 t)).whole m e) r))
       (λ _ _. omega arith)
 
   call_waits : (c : Call) → runs (after c w).house i ≡ true → turns_in (steps_of c w) w i ≡ 0 → steps_of c w + waiting (after c w).house i ≤ waiting w.house i
@@ -191,7 +191,7 @@ others_steps [] w i m e z = (omega arith, omega arith)
 others_steps (c ∷ cs) w i m e z =
     let r = runs_first (c ∷ cs) w i e in
     let e' = runs_on c cs w i e in
-    let t = after-layout w c in
+    let t = after_layout w c in
     let h = others_steps cs (after c w) i (omega (arith, t.count)) e' (omega arith) in
     let later = in_terms _ _ _ w.house.count w.house.q t.count t.q h.1 in
     let now = call_waits w i m r c (runs_first cs (after c w) i e') (omega arith) in

@@ -12,7 +12,7 @@ use Rattle.house.specs.Turns.{World}
 use Rattle.house.specs.Calls.{read_verdict, read_out, read_call}
 use Rattle.demands.specs.Histories.{lone_of}
 use Rattle.house.proofs.Calls.Verdicts.{read_done}
-use Rattle.house.proofs.Lists.ByRule.{listFrom-at, listFrom-same}
+use Rattle.house.proofs.Lists.ByRule.{list_from_at, list_from_same}
 
 pub reads_pages : (w : World) (i a n : ℕ) (out : List ℕ) → (read_call w i a n out).verdict.number ≡ 0 →
     (read_call w i a n out).output ≡ list_from (λ j. get_or (lone_of w i).1.words (a / 4 + j) 0) 0 n ++ drop n out
@@ -21,5 +21,5 @@ reads_pages w i a n out e =
     let d = read_done w i a n out e in
     rw (eq-eqb (read_verdict w i a n out).number 0 e)
     (ap (λ (l : List ℕ). l ++ drop n out)
-    (listFrom-same _ _ 0 n λ j l.
-    sym (listFrom-at (host_word (frames_of w.house i) w.memory) 0 (pages_of w.house i * 1024) (a / 4 + j) (omega (arith, d.aligned, d.within)))))
+    (list_from_same _ _ 0 n λ j l.
+    sym (list_from_at (host_word (frames_of w.house i) w.memory) 0 (pages_of w.house i * 1024) (a / 4 + j) (omega (arith, d.aligned, d.within)))))

@@ -8,7 +8,7 @@ use Rattle.house.specs.Turns.{World, world}
 use Rattle.house.specs.declared.House.{House}
 use Rattle.house.specs.Calls.{Read, read, beyond_of, read_verdict, read_call}
 use Rattle.house.specs.Lists.{list_from}
-use Rattle.house.proofs.Lists.ByRule.{length-listFrom}
+use Rattle.house.proofs.Lists.ByRule.{length_list_from}
 use Rattle.drill_script.specs.declared.commands.Command.{Command}
 use Rattle.drill_script.specs.Words.{marked_of}
 use Rattle.drill_text.specs.Lines.{stale_of}
@@ -52,7 +52,7 @@ unfolding read_out_of read_call
 shown_in c more h g m o words n d e =
     let out = list_from marked_of 0 words in
     let v : Roomy out (verdict n d) = subst (λ (r : Read). Roomy out r.verdict) (sym e) (done_roomy _ _ _ _ out) in
-    omega (arith, shown_within out n d v, length-listFrom marked_of 0 words)
+    omega (arith, shown_within out n d v, length_list_from marked_of 0 words)
 
 -- a read-out leaves the house as it was
 pub read_keeps : (c : Command) (more : List ℕ) (h g : House) (m o : List ℕ) (words n d : ℕ) → read (verdict n d) g o ≡ read_out_of c more h m words → g ≡ h

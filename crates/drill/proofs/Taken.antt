@@ -1,7 +1,7 @@
 -- Words that were taken to the front of a space.
 use Rattle.std.proofs.Common.{◌≡◌, ℕ, ◌+◌, ◌*◌, ◌≤◌, List, ◌++◌, length, take, sym, refl, ap, ◌∙◌, arith, length-take-le, take_at}
 use Rattle.house.specs.Lists.{list_from}
-use Rattle.house.proofs.Lists.ByRule.{length-listFrom, listFrom-same}
+use Rattle.house.proofs.Lists.ByRule.{length_list_from, list_from_same}
 use Rattle.drill_script.specs.Words.{word_at}
 
 -- n places at the front of a space, k of which is n
@@ -13,13 +13,13 @@ module _ (more l d s : List ℕ) (n k m : ℕ) (e : n ≡ k) (a : k ≤ m) (b : 
   front_taken p =
       let x : length (take n s) ≡ n = front_length s n k m e a b in
       let y : l ≡ list_from (λ i. word_at more (at + 4 * i)) 0 n = p ∙ ap (list_from (λ i. word_at more (at + 4 * i)) 0) x in
-      take_at l d n (ap length y ∙ length-listFrom (λ i. word_at more (at + 4 * i)) 0 n)
+      take_at l d n (ap length y ∙ length_list_from (λ i. word_at more (at + 4 * i)) 0 n)
       ∙ y
       ∙ rw (t, e)
 
 pub from_front : (more : List ℕ) (n : ℕ) → list_from (λ i. word_at more (0 + 4 * i)) 0 n ≡ list_from (λ i. word_at more (4 * i)) 0 n
-from_front more n = listFrom-same (λ i. word_at more (0 + 4 * i)) (λ i. word_at more (4 * i)) 0 n λ i _. ap (word_at more) (omega arith)
+from_front more n = list_from_same (λ i. word_at more (0 + 4 * i)) (λ i. word_at more (4 * i)) 0 n λ i _. ap (word_at more) (omega arith)
 
 module _ (more l d s : List ℕ) (n k m : ℕ) (e : n ≡ k) (a : k ≤ m) (b : m ≤ length s) (at : ℕ) where
   pub front_count : l ≡ list_from (λ i. word_at more (at + 4 * i)) 0 (length (take n s)) → n ≡ length (take n (l ++ d))
-  front_count p = e ∙ sym (ap length (front_taken more l d s n k m e a b at at refl p) ∙ length-listFrom (λ i. word_at more (at + 4 * i)) 0 k)
+  front_count p = e ∙ sym (ap length (front_taken more l d s n k m e a b at at refl p) ∙ length_list_from (λ i. word_at more (at + 4 * i)) 0 k)

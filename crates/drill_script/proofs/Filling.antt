@@ -12,7 +12,7 @@ use lib.Seq.{ext_get_or}
 use Rattle.dlx.specs.Choice.{if◌then◌else◌}
 use Rattle.dlx.proofs.Tests.{by_test}
 use Rattle.house.specs.Lists.{list_from}
-use Rattle.house.proofs.Lists.ByRule.{length-listFrom, getD-listFrom, listFrom-same, set-listFrom}
+use Rattle.house.proofs.Lists.ByRule.{length_list_from, get_or_list_from, list_from_same, set_list_from}
 
 module _ (f : ℕ → ℕ) (m : List ℕ) (from : ℕ) where
   -- word j where the words from `from` up to i are set
@@ -31,9 +31,9 @@ module _ (f : ℕ → ℕ) (m : List ℕ) (from : ℕ) where
 
   pub set_none : m ≡ set_to from
   set_none =
-      ext_get_or 0 m (set_to from) (sym (length-listFrom (rule from) 0 (length m))) λ j b.
+      ext_get_or 0 m (set_to from) (sym (length_list_from (rule from) 0 (length m))) λ j b.
       let z : 0 + j ≡ j = omega arith in
-      sym (getD-listFrom (rule from) 0 0 (length m) j b ∙ ap (rule from) z
+      sym (get_or_list_from (rule from) 0 0 (length m) j b ∙ ap (rule from) z
       ∙ by_test (leb from j)
       (λ t. rw (t, le-ltb j from (leb-true from j t)))
       (λ t. rw t))
@@ -42,7 +42,7 @@ module _ (f : ℕ → ℕ) (m : List ℕ) (from : ℕ) where
   set_on i a l =
       let q : rule (i + 1) i ≡ f i = rw (le-leb from i a, lt-ltb i (i + 1) (omega arith)) in
       subst (λ (v : ℕ). set (set_to i) i v ≡ set_to (i + 1)) q
-      (set-listFrom (rule i) (rule (i + 1)) (length m) i
+      (set_list_from (rule i) (rule (i + 1)) (length m) i
       (λ j e. same_rule i (i + 1) j λ _. by_test (ltb j i)
       (λ t. t ∙ sym (lt-ltb j (i + 1) (omega (arith, ltb-true j i t))))
       (λ t. t ∙ sym (le-ltb j (i + 1) (omega (arith, ltb-false j i t)))))
@@ -50,10 +50,10 @@ module _ (f : ℕ → ℕ) (m : List ℕ) (from : ℕ) where
 
   pub set_end : (i k : ℕ) → i ≤ k → min k (length m) ≤ i → set_to i ≡ set_to k
   set_end i k a b =
-      listFrom-same (rule i) (rule k) 0 (length m) λ j l. same_rule i k j λ _. by_test (ltb j i)
+      list_from_same (rule i) (rule k) 0 (length m) λ j l. same_rule i k j λ _. by_test (ltb j i)
       (λ t. t ∙ sym (lt-ltb j k (omega (arith, ltb-true j i t))))
       (λ t. t ∙ sym (le-ltb j k (omega (arith, ltb-false j i t))))
 
 -- all words
 pub set_all : (f : ℕ → ℕ) (m : List ℕ) → set_to f m 0 (length m) ≡ list_from f 0 (length m)
-set_all f m = listFrom-same (rule f m 0 (length m)) f 0 (length m) λ j l. rw (le-leb 0 j (omega arith), lt-ltb j (length m) (omega arith))
+set_all f m = list_from_same (rule f m 0 (length m)) f 0 (length m) λ j l. rw (le-leb 0 j (omega arith), lt-ltb j (length m) (omega arith))

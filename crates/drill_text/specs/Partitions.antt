@@ -8,7 +8,7 @@ use Rattle.dlx.specs.declared.partition.Timer.{Timer}
 use Rattle.addresses.specs.Walk.{entries}
 use Rattle.house.specs.declared.House.{House}
 use Rattle.house.specs.House.{partition, registers_of, frames_of}
-use Rattle.house.specs.House.{shadow_of as entriesIn}
+use Rattle.house.specs.House.{shadow_of as entries_in}
 use Rattle.house.specs.Lists.{all}
 use Rattle.decimal.specs.Decimals.{decimal}
 use Rattle.decimal.specs.Texts.{ascii, joined}
@@ -69,4 +69,4 @@ partition_of i p registers frames shadow =
     ++ (row_of (ascii "registers") registers ++ (row_of (ascii "frames") (take (listed_of frames) frames) ++ shadow_of shadow))
 
 unfoldable pub partitions_of : House → List ℕ
-partitions_of h = joined (λ i. partition_of i (partition h i) (registers_of h i) (frames_of h i) (entriesIn h i)) 8
+partitions_of h = joined (λ i. partition_of i (partition h i) (registers_of h i) (frames_of h i) (entries_in h i)) 8

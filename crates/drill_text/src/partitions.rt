@@ -2,7 +2,7 @@
 ghost use Rattle.std.specs.Prelude.{◌≡◌, ◌+◌, ◌-◌, ◌*◌, ◌<◌, [], ◌++◌, length, take, slice_index_or};
 ghost use Rattle.decimal.specs.Texts.{ascii, Puts, joined};
 ghost use Rattle.dlx.specs.Parts.{inner};
-ghost use Rattle.addresses.specs.Walk.{entries as shadowLength};
+ghost use Rattle.addresses.specs.Walk.{entries as shadow_length};
 ghost use Rattle.house.specs.House.{all_entries, no_partition};
 ghost use Rattle.drill_text.specs.Lines.{row_of};
 ghost use Rattle.drill_text.specs.Numbers.{number_of};
@@ -143,7 +143,7 @@ fn arrays(
 ) -> usize
     requires fact_1 { length registers.now ≡ 32 }
     requires fact_2 { length frames.now ≡ 256 }
-    requires fact_3 { length entries.now ≡ shadowLength }
+    requires fact_3 { length entries.now ≡ shadow_length }
     ensures { Puts text.old used text.new result (row_of (ascii "registers") registers.now ++ (row_of (ascii "frames") (take (listed_of frames.now) frames.now) ++ shadow_of entries.now)) (longest - 388) }
 {
     let n = listed(frames);
@@ -163,7 +163,7 @@ fn partition(
 ) -> usize
     requires fact_1 { length registers.now ≡ 32 }
     requires fact_2 { length frames.now ≡ 256 }
-    requires fact_3 { length entries.now ≡ shadowLength }
+    requires fact_3 { length entries.now ≡ shadow_length }
     ensures { Puts text.old used text.new result (partition_of i p registers.now frames.now entries.now) longest }
 {
     if blank(p, registers, frames, entries) {
@@ -187,7 +187,7 @@ fn nth(
     requires fact_2 { length registers.now ≡ 256 }
     requires fact_3 { length frames.now ≡ 2048 }
     requires fact_4 { length shadows.now ≡ all_entries }
-    ensures { Puts text.old used text.new result (partition_of i p (inner (i * 32) 32 registers.now) (inner (i * 256) 256 frames.now) (inner (i * shadowLength) shadowLength shadows.now)) longest }
+    ensures { Puts text.old used text.new result (partition_of i p (inner (i * 32) 32 registers.now) (inner (i * 256) 256 frames.now) (inner (i * shadow_length) shadow_length shadows.now)) longest }
 {
     let a = i * 32;
     let b = a + 32;
@@ -217,7 +217,7 @@ fn each(
     requires fact_1 { length registers.now ≡ 256 }
     requires fact_2 { length frames.now ≡ 2048 }
     requires fact_3 { length shadows.now ≡ all_entries }
-    ensures { Puts text.old used text.new result (joined (λ k. partition_of k (slice_index_or parts k no_partition) (inner (k * 32) 32 registers.now) (inner (k * 256) 256 frames.now) (inner (k * shadowLength) shadowLength shadows.now)) 8) (8 * longest) }
+    ensures { Puts text.old used text.new result (joined (λ k. partition_of k (slice_index_or parts k no_partition) (inner (k * 32) 32 registers.now) (inner (k * 256) 256 frames.now) (inner (k * shadow_length) shadow_length shadows.now)) 8) (8 * longest) }
 {
     let mut end = used;
     let mut i = 0;

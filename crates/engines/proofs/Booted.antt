@@ -12,7 +12,7 @@ use Rattle.house.specs.Boot.{booted_house}
 use Rattle.house.specs.Turns.{World, world, stale_at}
 use Rattle.house.specs.Calls.{answered, run_verdict, run_call}
 use Rattle.demands.specs.Histories.{Boot, booted, history, Grown}
-use Rattle.demands.proofs.Booted.FreshHouse.{booted-whole}
+use Rattle.demands.proofs.Booted.FreshHouse.{booted_whole}
 use Rattle.demands.proofs.Histories.Grown.{standing}
 use Rattle.staleness.specs.Audit.{has_stale, first_stale, audit_call}
 use Rattle.staleness.specs.Promises.{Passes}
@@ -31,7 +31,7 @@ module _ (b : Boot) where
 
   whole : AuditDone (booted b)
   unfolding booted_house
-  whole = record { whole = booted-whole b; size = refl }
+  whole = record { whole = booted_whole b; size = refl }
 
   found_plain : (w : World) → (first_stale w).number ≡ 0
   unfolding first_stale

@@ -18,11 +18,11 @@ use Rattle.house.specs.Sound.{Typed}
 use Rattle.house.specs.Calls.{run_verdict, run_call}
 use Rattle.house.proofs.Calls.Verdicts.{run_done}
 use Rattle.demands.specs.Histories.{Boot, booted, Call, run, empty, after, history, Grown, turns_in, steps_of, steps_made, turns_made, lone_of, lone_at_boot, lone_asks, lone_answer, Event, event_of, log_in, log_of, answers_to}
-use Rattle.demands.proofs.Booted.FreshHouse.{booted-whole, booted-ready}
+use Rattle.demands.proofs.Booted.FreshHouse.{booted_whole, booted_ready}
 use Rattle.demands.proofs.Demands.{never_damaged, histories_demand}
-use Rattle.demands.proofs.Histories.Grown.{standing, history-then}
-use Rattle.demands.proofs.Histories.Stays.{history-stays}
-use Rattle.demands.proofs.Instances.ClosedCalls.{Fit, fit-after}
+use Rattle.demands.proofs.Histories.Grown.{standing, history_then}
+use Rattle.demands.proofs.Histories.Stays.{history_stays}
+use Rattle.demands.proofs.Instances.ClosedCalls.{Fit, fit_after}
 use Rattle.staleness.specs.Promises.{Passes}
 use Rattle.staleness.proofs.Promises.{grown_pass}
 use Rattle.unshadowed.specs.Turns.{unshadowed_steps, all_empty}
@@ -59,7 +59,7 @@ run_then_empty w y p k =
     let d = run_done w k e in
     let f : Fit w.house.count w = record { typed = y; whole = d.whole; size = d.size; count = refl } in
     done_runs w y.shaped p k e
-    ∙ sym (each_emptied (run_call w k).world (fit-after w f (run k) refl))
+    ∙ sym (each_emptied (run_call w k).world (fit_after w f (run k) refl))
     ∙ ap (λ (cs : List Call). history cs w) (sym (instead_done w k e)))
     (λ n. refused_runs w y.shaped p k n ∙ ap (λ (cs : List Call). history cs w) (sym (instead_refused w k n)))
 
@@ -187,7 +187,7 @@ module _ (w : World) (y : Typed w) (p : Passes w) (k : ℕ) where
 
 module _ (b : Boot) (words : (i : ℕ) → get_or b.memory i 0 < 2 ^ 32) where
   grown_typed : (w : World) → Grown b w → Typed w
-  grown_typed w g = subst Typed (sym g.1) (history-stays (booted b) (booted-ready b words).typed (booted-whole b) g.0).typed
+  grown_typed w g = subst Typed (sym g.1) (history_stays (booted b) (booted_ready b words).typed (booted_whole b) g.0).typed
 
   one_alike : (e : EitherCall) (w : World) → Grown b w → AlikeOne e (one_as_calls e w) w
   unfolding one_as_calls
@@ -197,7 +197,7 @@ module _ (b : Boot) (words : (i : ℕ) → get_or b.memory i 0 < 2 ^ 32) where
   pub grown_after : (e : EitherCall) (w : World) → Grown b w → Grown b (after_either e w)
   grown_after e w g = (
     g.0 ++ one_as_calls e w,
-    (one_alike e w g).left ∙ ap (history (one_as_calls e w)) g.1 ∙ sym (history-then g.0 (one_as_calls e w) (booted b)),
+    (one_alike e w g).left ∙ ap (history (one_as_calls e w)) g.1 ∙ sym (history_then g.0 (one_as_calls e w) (booted b)),
   )
 
   pub grown_fit : (w : World) → Grown b w → Fit (length b.pages) w
@@ -221,7 +221,7 @@ module _ (b : Boot) (words : (i : ℕ) → get_or b.memory i 0 < 2 ^ 32) where
       let ds = as_calls es v in
       let h = either_on es v (grown_after e w g) in
       record {
-        left = h.left ∙ ap (history ds) o.left ∙ sym (history-then cs ds w);
+        left = h.left ∙ ap (history ds) o.left ∙ sym (history_then cs ds w);
         steps = omega (arith, h.steps, o.steps, made_then cs ds w, ap (steps_made ds) o.left);
         turns = λ i. omega (arith, h.turns i, o.turns i, turns_then i cs ds w, ap (λ (x : World). turns_made ds x i) o.left);
         log = ap (λ (l : List Event). l ++ either_log_of es v) o.log

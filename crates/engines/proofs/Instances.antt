@@ -15,7 +15,7 @@ use Rattle.dlx.specs.Processor.{special_of, with_special, with_count}
 use Rattle.dlx.specs.Interrupts.{level_of, interrupted}
 use Rattle.dlx.specs.Timer.{ticked, raised}
 use Rattle.dlx.specs.Execute.{written, value_of, overflows_of, operated, reached, loads, stores, moved_to, trap_of, effect_of}
-use Rattle.dlx.specs.Machine.{executed, fetched, loaded, stored, accessed, received, after_read, after_write, left as leftBy, handled, changed as changedBy, settled, retabled, step, steps, asked, request_of as effectRequest, reply}
+use Rattle.dlx.specs.Machine.{executed, fetched, loaded, stored, accessed, received, after_read, after_write, left as left_by, handled, changed as changed_by, settled, retabled, step, steps, asked, request_of as effect_request, reply}
 use Rattle.dlx.specs.Parts.{inner, outer}
 use Rattle.addresses.specs.Entries.{entry_of, judged}
 use Rattle.addresses.specs.Walk.{walked, direct}
@@ -28,8 +28,8 @@ use Rattle.house.specs.Turns.{World, world, next_from, turn_of, request_now, rep
 use Rattle.house.specs.Calls.{run_verdict, run_call, stopped}
 use Rattle.demands.specs.Histories.{Boot, booted, Call, run, stop, empty, after, history, Grown, steps_of, lone_of, lone_at_boot, lone_asks, lone_answer, event_of, each, answers_to}
 use Rattle.demands.proofs.Histories.Grown.{standing}
-use Rattle.demands.proofs.Instances.ClosedCalls.{below, below_at, Fit, run-verdict, after_run, after_stop}
-use Rattle.demands.proofs.Instances.TwoGuests.{two-guests, memory_words, full, grown-full, misled, misled-stays, misled-size}
+use Rattle.demands.proofs.Instances.ClosedCalls.{below, below_at, Fit, run_verdict_lem, after_run, after_stop}
+use Rattle.demands.proofs.Instances.TwoGuests.{two_guests, memory_words, full, grown_full, misled, misled_stays, misled_size}
 use Rattle.staleness.specs.Audit.{audit_call, finding}
 use Rattle.staleness.proofs.Promises.{grown_pass}
 use Rattle.staleness.proofs.Instances.{full_passes, misled_found}
@@ -42,7 +42,7 @@ use Rattle.engines.proofs.Promises.{same_verdicts, refused_untouched, done_empty
 
 -- all that a step computes with, by either engine
 computing : ℕ
-unfolding fresh_shadows two-guests inner outer list_from any laid offset booted_house next_from turn_of request_now reply_now queues_next desk sending taking asked effectRequest guest_step settled_house step_with host_step host_steps stopped judged walked direct hosted given filled looked served host_read emptied host_written host_reads host_writes step fetched executed loaded stored accessed received after_read after_write leftBy handled changedBy settled retabled instruction_of register_type effect_of written value_of overflows_of operated reached loads stores moved_to trap_of special_of with_special with_count ticked raised interrupted level_of count_trailing_zeros extended_by read_in holds part_type field put width brought placed sought sought_read sought_written bare_request bare_reply bare_queues bare_step unshadowed_step unshadowed_steps
+unfolding fresh_shadows two_guests inner outer list_from any laid offset booted_house next_from turn_of request_now reply_now queues_next desk sending taking asked effect_request guest_step settled_house step_with host_step host_steps stopped judged walked direct hosted given filled looked served host_read emptied host_written host_reads host_writes step fetched executed loaded stored accessed received after_read after_write left_by handled changed_by settled retabled instruction_of register_type effect_of written value_of overflows_of operated reached loads stores moved_to trap_of special_of with_special with_count ticked raised interrupted level_of count_trailing_zeros extended_by read_in holds part_type field put width brought placed sought sought_read sought_written bare_request bare_reply bare_queues bare_step unshadowed_step unshadowed_steps
 computing = 0
 
 some : {n : ℕ} (k : ℕ) → n ≡ suc k → n ≡ 0 → ⊥
@@ -53,7 +53,7 @@ some k e z = omega arith
 module _ {n : ℕ} (w : World) (f : Fit n w) where
   after_bare : (k : ℕ) → k ≤ 1000000 → (w.house.left ≡ 0 → ⊥) → (after_either (unshadowed_run k) w ≡ all_empty (unshadowed_steps k w)) × (either_steps_of (unshadowed_run k) w ≡ k)
   unfolding after_either either_steps_of unshadowed_call
-  after_bare k l z = let v = run-verdict w f k l z in (rw v, rw v)
+  after_bare k l z = let v = run_verdict_lem w f k l z in (rw v, rw v)
 
   -- one step too many
   too_long : run_verdict w 1000001 ≡ verdict 14 0
@@ -74,13 +74,13 @@ pub found : audit_call wrong ≡ finding 0 true 0 0
 found = misled_found
 
 fit : Fit 2 wrong
-fit = record { typed = misled-stays.typed; whole = misled-stays.whole; size = misled-size; count = unfold computing in refl }
+fit = record { typed = misled_stays.typed; whole = misled_stays.whole; size = misled_size; count = unfold computing in refl }
 
 busy : wrong.house.left ≡ 3
 busy = unfold computing in refl
 
 both_done : run_verdict wrong 1 ≡ verdict 0 1
-both_done = run-verdict wrong fit 1 (omega arith) (some 2 busy)
+both_done = run_verdict_lem wrong fit 1 (omega arith) (some 2 busy)
 
 pub shadowed_reads : get_or (run_call wrong 1).world.memory 1025 0 ≡ 0x1800
 unfolding run_call
@@ -108,19 +108,19 @@ wrong_refused = refused_untouched wrong 1000001 (some 13 (number 14 0 (too_long 
 -- a run of 0 steps by the first keeps the entry, and by the second every shadow is empty
 pub wrong_kept : get_or (run_call wrong 0).world.house.shadows 0 0 ≡ entry_of 1 0
 unfolding run_call
-wrong_kept = rw (run-verdict wrong fit 0 (omega arith) (some 2 busy)) (unfold computing in refl)
+wrong_kept = rw (run_verdict_lem wrong fit 0 (omega arith) (some 2 busy)) (unfold computing in refl)
 
 pub wrong_emptied : (unshadowed_call wrong 0).world.house.shadows ≡ fresh_shadows
 unfolding unshadowed_call
-wrong_emptied = done_empty wrong 0 (number 0 0 (run-verdict wrong fit 0 (omega arith) (some 2 busy)))
+wrong_emptied = done_empty wrong 0 (number 0 0 (run_verdict_lem wrong fit 0 (omega arith) (some 2 busy)))
 
 -- ---- a grown house: the runs come to the same, but that the second's shadows are all empty
 
 pub full_same : (unshadowed_call full 1).world ≡ world (with_shadows (run_call full 1).world.house fresh_shadows) (run_call full 1).world.memory
 unfolding unshadowed_call
 full_same =
-    let d = number 0 1 (run-verdict full (grown_fit two-guests memory_words full grown-full) 1 (omega arith) (some 2 (unfold computing in refl))) in
-    same_runs full (standing two-guests full grown-full).shaped full_passes 1
+    let d = number 0 1 (run_verdict_lem full (grown_fit two_guests memory_words full grown_full) 1 (omega arith) (some 2 (unfold computing in refl))) in
+    same_runs full (standing two_guests full grown_full).shaped full_passes 1
     ∙ ap (λ (l : List ℕ). world (with_shadows (run_call full 1).world.house l) (run_call full 1).world.memory) (done_empty full 1 d)
 
 -- the first engine's are not
@@ -213,7 +213,7 @@ pub second_as_calls : second ≡ history (run 5 ∷ empty 0 ∷ empty 1 ∷ empt
 unfolding after_either
 second_as_calls =
     let f = fit_of first grown_first in
-    let e = number 0 5 (run-verdict first f 5 (omega arith) (some 1 (unfold reckoning in refl))) in
+    let e = number 0 5 (run_verdict_lem first f 5 (omega arith) (some 1 (unfold reckoning in refl))) in
     sym to_second.0
     ∙ run_then_empty first f.typed (grown_pass three three_words first grown_first).0 5
     ∙ ap (λ (cs : List Call). history cs first) (instead_done first 5 e ∙ (unfold reckoning in refl))

@@ -8,7 +8,7 @@ use Rattle.house.specs.House.{with_shadows}
 use Rattle.house.specs.Turns.{World, world, host_steps}
 use Rattle.house.specs.Sound.{Shaped}
 use Rattle.house.specs.Calls.{run_verdict, run_call}
-use Rattle.demands.proofs.Histories.Standing.{Firm, firm-step}
+use Rattle.demands.proofs.Histories.Standing.{Firm, firm_step}
 use Rattle.staleness.specs.Promises.{Passes}
 use Rattle.staleness.proofs.Promises.{passed_done, passed_right, firm_passed}
 use Rattle.unshadowed.specs.Turns.{unshadowed_steps, all_empty}
@@ -48,7 +48,7 @@ module _ (w : World) (s : Shaped w.house) (p : Passes w) where
   -- after any number of steps
   pub steps_alike : (n : ℕ) → all_empty (host_steps n w) ≡ all_empty (unshadowed_steps n w)
   steps_alike n =
-      (steps_same Firm firm-step (λ x f. f.right x.house.current f.here) n w
+      (steps_same Firm firm_step (λ x f. f.right x.house.current f.here) n w
       (firm_passed w s (passed_done w p) (passed_right w p))).0
 
   -- a done run by the second engine is one by the first, with every shadow emptied

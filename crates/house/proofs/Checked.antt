@@ -32,17 +32,17 @@ use Rattle.house.specs.Boot.{first_of, sum, boot_verdict, laid, offset, booted_h
 use Rattle.house.specs.Turns.{next_from, turn_of, request_now, reply_now, queues_next, guest_step, settled_house, step_with, host_step, host_steps}
 use Rattle.house.specs.Calls.{boot_call, run_verdict, run_call, one_verdict, started, stopped, emptied_house, start_call, stop_call, empty_call, read_verdict, read_out, read_call}
 use Rattle.house.specs.Examples.{alone, two, idle, three, uneven, seven, busy, pair, interrupt, current, answers, flags, fields, numbers, same_house, same_world, ran, once, mapped, papers, plain, unbooted, boots, widest, after, trapped, six, counts, stepping, comes, timing, tolls, turns, shares, missized, refuses, does, reading, gives, calls, beyond, within, twice, once_each, out_of_turn, in_turn, misset, set_right, astray, used, damages, places, leaves, across, exchanges, whole}
-use Rattle.house.proofs.Damage.Updates.{fresh-long, fresh_at}
+use Rattle.house.proofs.Damage.Updates.{fresh_long, fresh_at}
 use Rattle.house.proofs.Lists.Bounded.{and_right}
-use Rattle.house.proofs.Lists.ByRule.{getD-listFrom, length-listFrom}
+use Rattle.house.proofs.Lists.ByRule.{get_or_list_from, length_list_from}
 
 -- ---- what stands at a place of a list, without walking there
 
 rule_at : (f : ℕ → ℕ) (n i : ℕ) → get_or (list_from f 0 n) i 0 ≡ (if ltb i n then f i else 0)
 rule_at f n i =
     by_test (ltb i n)
-    (λ e. let z : 0 + i ≡ i = omega arith in rw (e, getD-listFrom f 0 0 n i (ltb-true i n e), z))
-    (λ e. rw (e, get_or-eq_default (list_from f 0 n) 0 {n = i} (omega (arith, ltb-false i n e, length-listFrom f 0 n))))
+    (λ e. let z : 0 + i ≡ i = omega arith in rw (e, get_or_list_from f 0 0 n i (ltb-true i n e), z))
+    (λ e. rw (e, get_or-eq_default (list_from f 0 n) 0 {n = i} (omega (arith, ltb-false i n e, length_list_from f 0 n))))
 
 part_at : (a s : ℕ) (m : List ℕ) (i : ℕ) → get_or (inner a s m) i 0 ≡ (if ltb i s then get_or m (a + i) 0 else 0)
 unfolding inner
@@ -130,7 +130,7 @@ checked =
     of_damages = unfold damaging computing in refl
 
     of_places : all places ≡ true
-    of_places = unfold damaging in simp (set_at, part_at, rule_at, get_or_replicate_same, fresh_at, fresh-long) (unfold computing in refl)
+    of_places = unfold damaging in simp (set_at, part_at, rule_at, get_or_replicate_same, fresh_at, fresh_long) (unfold computing in refl)
 
     of_exchanges : all exchanges ≡ true
     of_exchanges = unfold damaging computing in refl

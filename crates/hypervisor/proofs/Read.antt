@@ -11,7 +11,7 @@ use Rattle.house.specs.Turns.{world}
 use Rattle.house.specs.Calls.{read_out}
 use Rattle.house.specs.declared.House.{House}
 use Rattle.house.proofs.Calls.Verdicts.{ReadDone}
-use Rattle.house.proofs.Lists.ByRule.{length-listFrom}
+use Rattle.house.proofs.Lists.ByRule.{length_list_from}
 
 list_from_last : (f : ℕ → ℕ) (k n : ℕ) → list_from f k (suc n) ≡ list_from f k n ++ (f (k + n) ∷ [])
 unfolding list_from
@@ -22,7 +22,7 @@ list_from_last f k (suc n) =
 
 pub word_more : (f : ℕ → ℕ) (o : List ℕ) (j : ℕ) → j < length o → set (list_from f 0 j ++ drop j o) j (f j) ≡ list_from f 0 (j + 1) ++ drop (j + 1) o
 word_more f o j h =
-    let l = length-listFrom f 0 j in
+    let l = length_list_from f 0 j in
     let z : 0 + j ≡ j = omega arith in
     ap (λ (d : List ℕ). set (list_from f 0 j ++ d) j (f j)) (drop-cons o j 0 h)
     ∙ ap (λ (x : ℕ). set (list_from f 0 j ++ (get_or o j 0 ∷ drop (suc j) o)) x (f j)) (sym l)

@@ -1,7 +1,7 @@
 // Runs: turns of the current partition, each a stretch of the engine's.
 ghost use Rattle.std.specs.Prelude.{◌≡◌, ◌<◌, ◌≤◌, false, nat_le};
 ghost use Rattle.dlx.specs.Choice.{if◌then◌else◌};
-ghost use Rattle.house.specs.Turns.{world, following as followingOf, next_of, turn_of, span_of, left_alone, later_of, host_steps};
+ghost use Rattle.house.specs.Turns.{world, following as following_of, next_of, turn_of, span_of, left_alone, later_of, host_steps};
 ghost use Rattle.house.specs.Sound.{Sound};
 
 use addresses::ENTRIES;
@@ -11,7 +11,7 @@ use house::{House, Turn};
 // The partition after i, in cyclic order.
 fn following(n: u32, i: u32) -> u32
     requires { i < n }
-    ensures { result ≡ followingOf n i }
+    ensures { result ≡ following_of n i }
 {
     if i + 1 == n {
         return 0;

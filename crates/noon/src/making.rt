@@ -4,7 +4,7 @@ ghost use Rattle.house.specs.Boot.{verdict};
 ghost use Rattle.housefile.specs.Records.{file, right};
 ghost use Rattle.night_run.specs.Ran.{ran_of};
 ghost use Rattle.contents.specs.Contents.{contents_file, Listed};
-ghost use Rattle.report.specs.Report.{refusal as refusalText};
+ghost use Rattle.report.specs.Report.{refusal as refusal_text};
 ghost use Rattle.noon.specs.Noon.{night_refusal, Given, LaidAll, Made};
 
 use crate::images::{lay_all, tell_all};
@@ -46,7 +46,7 @@ fn night_refuses(q: u32, run: u32, pages: &[u32], frames: &[u32]) -> Refusal
 
 // Prints a refusal: the one that the night would.
 fn show(q: u32, run: u32, pages: &[u32], frames: &[u32], text: &[u8])
-    requires { (m : List ℕ) → length m ≡ 16384 → text.now ≡ refusalText (night_refusal (ran_of (right (file q run pages.now frames.now m)))) }
+    requires { (m : List ℕ) → length m ≡ 16384 → text.now ≡ refusal_text (night_refusal (ran_of (right (file q run pages.now frames.now m)))) }
 {
     if !io::write_all(STDOUT_FILENO, text) {
         fail(b"standard output");

@@ -4,7 +4,7 @@
 ghost use Rattle.std.specs.Prelude.{◌≡◌, ℕ, ◌-◌, ◌*◌, ◌%◌, ◌<◌, ◌≤◌, true, false, ◌&&◌, ◌||◌, List, length, nat_eq, nat_lt};
 ghost use Rattle.dlx.specs.Choice.{if◌then◌else◌};
 ghost use Rattle.dlx.specs.Fields.{aligned, loading, storing, width};
-ghost use Rattle.dlx.specs.Words.{plus, minus, rs1 as rs1Of, rd_immediate, extended, test_of};
+ghost use Rattle.dlx.specs.Words.{plus, minus, rs1 as rs1_of, rd_immediate, extended, test_of};
 ghost use Rattle.dlx.specs.Processor.{user, no_timer, special_of};
 ghost use Rattle.dlx.specs.Execute.{effect_of, written, operated, value_of, loads, stores, reg};
 ghost use Rattle.dlx.specs.Instructions.{instruction_of, register_type};
@@ -53,7 +53,7 @@ pub fn held(frames: &[u32], pages: u32, t: Table) -> u32
 
 // The fields of a word with an immediate: the register that it reads, the register behind it, and the immediate.
 fn first(w: u32) -> usize
-    ensures { result ≡ rs1Of w }
+    ensures { result ≡ rs1_of w }
 {
     wide(w / 2097152 % 32)
 }
@@ -354,7 +354,7 @@ fn register_type(
 // The tests of opcodes 24 to 31.
 fn test_type(opcode: u32, regs: &mut [u32], w: u32, y: u32, target: &mut u32) -> bool
     requires { length regs.old ≡ 32 }
-    ensures { (result ≡ true → (24 ≤ opcode) × (opcode < 32) × (regs.new ≡ written regs.old (rd_immediate w) (test_of (opcode - 24) (reg regs.old (rs1Of w)) (extended 16 w))) × (target.new ≡ plus y 4)) × (result ≡ false → regs.new ≡ regs.old) }
+    ensures { (result ≡ true → (24 ≤ opcode) × (opcode < 32) × (regs.new ≡ written regs.old (rd_immediate w) (test_of (opcode - 24) (reg regs.old (rs1_of w)) (extended 16 w))) × (target.new ≡ plus y 4)) × (result ≡ false → regs.new ≡ regs.old) }
 {
     if opcode < 24 {
         return false;
@@ -386,7 +386,7 @@ fn load_word(
     requires fact_2 { Placed frames.now pages (length words.now) }
     requires fact_3 { Shadowed frames.now pages shadow.now }
     requires fact_4 { loading o ≡ true }
-    ensures { (result ≡ true → (page : ℕ) (t : Table) → Does frames.now pages p t page y target.new regs.old regs.new words.now words.now shadow.now (λ _ _. loads o (rd_immediate w) (reg regs.old (rs1Of w)) (extended 16 w))) × (result ≡ false → regs.new ≡ regs.old) }
+    ensures { (result ≡ true → (page : ℕ) (t : Table) → Does frames.now pages p t page y target.new regs.old regs.new words.now words.now shadow.now (λ _ _. loads o (rd_immediate w) (reg regs.old (rs1_of w)) (extended 16 w))) × (result ≡ false → regs.new ≡ regs.old) }
 {
     let rs1 = first(w);
     let rd = second(w);
@@ -416,7 +416,7 @@ fn store_word(
     requires fact_3 { Shadowed frames.now pages shadow.now }
     requires fact_4 { storing o ≡ true }
     requires fact_5 { held ≡ held_of frames.now pages t }
-    ensures { (result ≡ true → (page : ℕ) (rs : List ℕ) → Does frames.now pages p t page y target.new rs rs words.old words.new shadow.now (λ _ _. stores o (reg regs.now (rd_immediate w)) (reg regs.now (rs1Of w)) (extended 16 w))) × (result ≡ false → words.new ≡ words.old) }
+    ensures { (result ≡ true → (page : ℕ) (rs : List ℕ) → Does frames.now pages p t page y target.new rs rs words.old words.new shadow.now (λ _ _. stores o (reg regs.now (rd_immediate w)) (reg regs.now (rs1_of w)) (extended 16 w))) × (result ≡ false → words.new ≡ words.old) }
 {
     let rs1 = first(w);
     let rd = second(w);
@@ -430,7 +430,7 @@ fn store_word(
 
 fn add_word(sr: u32, regs: &mut [u32], w: u32, y: u32, target: &mut u32) -> bool
     requires { length regs.old ≡ 32 }
-    ensures { (result ≡ true → (regs.new ≡ written regs.old (rd_immediate w) (plus (reg regs.old (rs1Of w)) (extended 16 w))) × (target.new ≡ plus y 4) × ((next : ℕ) → operated Add (rd_immediate w) (reg regs.old (rs1Of w)) (extended 16 w) sr next ≡ Done (Plain (rd_immediate w) (plus (reg regs.old (rs1Of w)) (extended 16 w)) next))) × (result ≡ false → regs.new ≡ regs.old) }
+    ensures { (result ≡ true → (regs.new ≡ written regs.old (rd_immediate w) (plus (reg regs.old (rs1_of w)) (extended 16 w))) × (target.new ≡ plus y 4) × ((next : ℕ) → operated Add (rd_immediate w) (reg regs.old (rs1_of w)) (extended 16 w) sr next ≡ Done (Plain (rd_immediate w) (plus (reg regs.old (rs1_of w)) (extended 16 w)) next))) × (result ≡ false → regs.new ≡ regs.old) }
 {
     let rs1 = first(w);
     let rd = second(w);
@@ -441,7 +441,7 @@ fn add_word(sr: u32, regs: &mut [u32], w: u32, y: u32, target: &mut u32) -> bool
 
 fn sub_word(sr: u32, regs: &mut [u32], w: u32, y: u32, target: &mut u32) -> bool
     requires { length regs.old ≡ 32 }
-    ensures { (result ≡ true → (regs.new ≡ written regs.old (rd_immediate w) (minus (reg regs.old (rs1Of w)) (extended 16 w))) × (target.new ≡ plus y 4) × ((next : ℕ) → operated Sub (rd_immediate w) (reg regs.old (rs1Of w)) (extended 16 w) sr next ≡ Done (Plain (rd_immediate w) (minus (reg regs.old (rs1Of w)) (extended 16 w)) next))) × (result ≡ false → regs.new ≡ regs.old) }
+    ensures { (result ≡ true → (regs.new ≡ written regs.old (rd_immediate w) (minus (reg regs.old (rs1_of w)) (extended 16 w))) × (target.new ≡ plus y 4) × ((next : ℕ) → operated Sub (rd_immediate w) (reg regs.old (rs1_of w)) (extended 16 w) sr next ≡ Done (Plain (rd_immediate w) (minus (reg regs.old (rs1_of w)) (extended 16 w)) next))) × (result ≡ false → regs.new ≡ regs.old) }
 {
     let rs1 = first(w);
     let rd = second(w);
@@ -452,7 +452,7 @@ fn sub_word(sr: u32, regs: &mut [u32], w: u32, y: u32, target: &mut u32) -> bool
 
 fn and_word(regs: &mut [u32], w: u32, y: u32, target: &mut u32) -> bool
     requires { length regs.old ≡ 32 }
-    ensures { (result ≡ true) × (regs.new ≡ written regs.old (rd_immediate w) (value_of And (reg regs.old (rs1Of w)) (extended 16 w))) × (target.new ≡ plus y 4) }
+    ensures { (result ≡ true) × (regs.new ≡ written regs.old (rd_immediate w) (value_of And (reg regs.old (rs1_of w)) (extended 16 w))) × (target.new ≡ plus y 4) }
 {
     let rs1 = first(w);
     let rd = second(w);
@@ -463,7 +463,7 @@ fn and_word(regs: &mut [u32], w: u32, y: u32, target: &mut u32) -> bool
 
 fn or_word(regs: &mut [u32], w: u32, y: u32, target: &mut u32) -> bool
     requires { length regs.old ≡ 32 }
-    ensures { (result ≡ true) × (regs.new ≡ written regs.old (rd_immediate w) (value_of Or (reg regs.old (rs1Of w)) (extended 16 w))) × (target.new ≡ plus y 4) }
+    ensures { (result ≡ true) × (regs.new ≡ written regs.old (rd_immediate w) (value_of Or (reg regs.old (rs1_of w)) (extended 16 w))) × (target.new ≡ plus y 4) }
 {
     let rs1 = first(w);
     let rd = second(w);
@@ -474,7 +474,7 @@ fn or_word(regs: &mut [u32], w: u32, y: u32, target: &mut u32) -> bool
 
 fn xor_word(regs: &mut [u32], w: u32, y: u32, target: &mut u32) -> bool
     requires { length regs.old ≡ 32 }
-    ensures { (result ≡ true) × (regs.new ≡ written regs.old (rd_immediate w) (value_of Xor (reg regs.old (rs1Of w)) (extended 16 w))) × (target.new ≡ plus y 4) }
+    ensures { (result ≡ true) × (regs.new ≡ written regs.old (rd_immediate w) (value_of Xor (reg regs.old (rs1_of w)) (extended 16 w))) × (target.new ≡ plus y 4) }
 {
     let rs1 = first(w);
     let rd = second(w);
@@ -495,7 +495,7 @@ fn high_word(regs: &mut [u32], w: u32, y: u32, target: &mut u32) -> bool
 // A branch where register rs1 is 0, or where it is not.
 fn branch(regs: &[u32], zero: bool, w: u32, y: u32, target: &mut u32) -> bool
     requires { length regs.now ≡ 32 }
-    ensures { (result ≡ true) × (target.new ≡ (if nat_eq (reg regs.now (rs1Of w)) 0 then (if zero then plus y (extended 16 w) else plus y 4) else (if zero then plus y 4 else plus y (extended 16 w)))) }
+    ensures { (result ≡ true) × (target.new ≡ (if nat_eq (reg regs.now (rs1_of w)) 0 then (if zero then plus y (extended 16 w) else plus y 4) else (if zero then plus y 4 else plus y (extended 16 w)))) }
 {
     let rs1 = first(w);
     let imm = near(w);
@@ -510,7 +510,7 @@ fn branch(regs: &[u32], zero: bool, w: u32, y: u32, target: &mut u32) -> bool
 
 fn jump(regs: &[u32], w: u32, page: u32, target: &mut u32) -> bool
     requires { length regs.now ≡ 32 }
-    ensures { (result ≡ true) × (plus target.new page ≡ reg regs.now (rs1Of w)) }
+    ensures { (result ≡ true) × (plus target.new page ≡ reg regs.now (rs1_of w)) }
 {
     let rs1 = first(w);
     let x = regs[rs1];
@@ -519,7 +519,7 @@ fn jump(regs: &[u32], w: u32, page: u32, target: &mut u32) -> bool
 
 fn jump_linked(regs: &mut [u32], w: u32, page: u32, y: u32, target: &mut u32) -> bool
     requires { length regs.old ≡ 32 }
-    ensures { (result ≡ true) × (regs.new ≡ written regs.old 31 (plus (plus y page) 4)) × (plus target.new page ≡ reg regs.old (rs1Of w)) }
+    ensures { (result ≡ true) × (regs.new ≡ written regs.old 31 (plus (plus y page) 4)) × (plus target.new page ≡ reg regs.old (rs1_of w)) }
 {
     let rs1 = first(w);
     let x = regs[rs1];

@@ -16,7 +16,7 @@ use Rattle.house.specs.Boot.{Verdict, verdict, first_of}
 use Rattle.house.specs.Turns.{World}
 use Rattle.house.specs.Calls.{Read, read, answered, beyond_of, read_verdict, read_call}
 use Rattle.house.proofs.Lists.Bounded.{or_right}
-use Rattle.house.proofs.Damage.Undamaged.{undamaged-gives}
+use Rattle.house.proofs.Damage.Undamaged.{undamaged_gives}
 use Rattle.house.specs.declared.House.{House}
 use Rattle.housefile.specs.Records.{number}
 use Rattle.decimal.specs.Raw.{low_first}
@@ -104,7 +104,7 @@ there_12 w i a count out =
     either (Told12 i) (not (eqb (length w.memory) h.words)) (λ _ e. absurd (omega arith)) λ _.
     either (Told12 i) (leb h.count i) (λ _ e. absurd (omega arith)) λ k.
     either (Told12 i) (beyond_of (pages_of h i) a count)
-    (λ _ e. omega (arith, leb-false h.count i k, (undamaged-gives h d).few))
+    (λ _ e. omega (arith, leb-false h.count i k, (undamaged_gives h d).few))
     (λ _.
     either (Told12 i) (ltb (length out) count) (λ _ e. absurd (omega arith)) (λ _ e. absurd (omega arith)))
 
@@ -128,7 +128,7 @@ never_short w i a count out l =
       l,
       ltb-true (length out) count t,
       ltb-false (4096 * pages_of h i) (a + 4 * count) (or_right (not (eqb (a % 4) 0)) high b),
-      ((undamaged-gives h d).pages i (leb-false h.count i k)).1,
+      ((undamaged_gives h d).pages i (leb-false h.count i k)).1,
     ))
     (λ _ e. omega arith)
 

@@ -17,7 +17,7 @@ use Rattle.decimal.proofs.Decimals.{few_digits}
 use Rattle.decimal.proofs.Texts.{put_behind, whole, ◌then◌, nothing, roomy}
 use Rattle.report.specs.Report.{field, line_of, lines_from}
 use Rattle.report.specs.Put.{Counts}
-use Rattle.report.specs.Put.{put as at-start}
+use Rattle.report.specs.Put.{put as at_start}
 
 -- a number of at most k + 1 digits, and the byte behind it
 pub field_short : (k n b : ℕ) → n < 10 ^ suc k → length (field n b) ≤ suc k + 1
@@ -42,11 +42,11 @@ whole_is {out} {o} {bs} {r} p l =
     ((n, w), (k, sym (length-take-le r o k)))
 
 -- the text t, put as it is, is the text t'
-pub put_as : (t t' out : List ℕ) (n : ℕ) (now : List ℕ) → n ≡ length t → now ≡ t ++ drop (length t) out → t ≡ t' → (n, now) ≡ at-start t' out
-put_as t t' out n now l h e = ap (λ (x : ℕ). (x, now)) l ∙ ap (λ (x : List ℕ). (length t, x)) h ∙ ap (λ (x : List ℕ). at-start x out) e
+pub put_as : (t t' out : List ℕ) (n : ℕ) (now : List ℕ) → n ≡ length t → now ≡ t ++ drop (length t) out → t ≡ t' → (n, now) ≡ at_start t' out
+put_as t t' out n now l h e = ap (λ (x : ℕ). (x, now)) l ∙ ap (λ (x : List ℕ). (length t, x)) h ∙ ap (λ (x : List ℕ). at_start x out) e
 
 -- a text that was put stands at the buffer's start
-pub put_there : (t out now : List ℕ) (n : ℕ) → (n, now) ≡ at-start t out → take n now ≡ t
+pub put_there : (t out now : List ℕ) (n : ℕ) → (n, now) ≡ at_start t out → take n now ≡ t
 put_there t out now n e = ap (λ (g : ℕ × List ℕ). take g.0 g.1) e ∙ take_at t (drop (length t) out) (length t) refl
 
 -- ---- the lines

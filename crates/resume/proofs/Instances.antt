@@ -9,7 +9,7 @@ use Rattle.house.specs.Boot.{verdict}
 use Rattle.house.specs.Turns.{World, host_steps}
 use Rattle.house.specs.Calls.{answered, run_call}
 use Rattle.demands.specs.Histories.{history}
-use Rattle.demands.proofs.Instances.ClosedCalls.{Fit, run-verdict}
+use Rattle.demands.proofs.Instances.ClosedCalls.{Fit, run_verdict_lem}
 use Rattle.demands.proofs.Histories.Grown.{standing}
 use Rattle.staleness.proofs.Promises.{grown_pass}
 use Rattle.engines.proofs.Promises.{steps_alike}
@@ -53,7 +53,7 @@ counters = (
 
 three_run : (resumed (answered (verdict 0 0) third) 3).verdict.number ≡ 0
 unfolding resumed full_runs after_boot run_call
-three_run = rw (run-verdict third (fit_of third grown_third) 3 (omega arith) (λ z. omega (arith, third_left)))
+three_run = rw (run_verdict_lem third (fit_of third grown_third) 3 (omega arith) (λ z. omega (arith, third_left)))
 
 pub in_one : (resumed (answered (verdict 0 0) third) 3).world ≡ host_steps 3 third
 in_one = one_run third 3 three_run

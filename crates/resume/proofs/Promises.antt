@@ -12,7 +12,7 @@ use Rattle.house.specs.Turns.{World, host_steps}
 use Rattle.house.specs.Calls.{Answered, answered, run_verdict, run_call}
 use Rattle.house.proofs.Turns.Stretch.{steps_add}
 use Rattle.demands.specs.Histories.{Boot, booted, Grown, history}
-use Rattle.demands.proofs.Histories.Grown.{standing, history-then}
+use Rattle.demands.proofs.Histories.Grown.{standing, history_then}
 use Rattle.staleness.proofs.Promises.{grown_pass}
 use Rattle.unshadowed.specs.Turns.{unshadowed_step, unshadowed_steps, all_empty}
 use Rattle.unshadowed.proofs.Steps.{step_bare}
@@ -92,7 +92,7 @@ back_grown b t w g =
       g.0 ++ emptyings w.house.count,
       restores w (emptied w) (file_of w) v.typed k.0 k.1
           ∙ ap (history (emptyings w.house.count)) g.1
-          ∙ sym (history-then g.0 (emptyings w.house.count) (booted b)),
+          ∙ sym (history_then g.0 (emptyings w.house.count) (booted b)),
     )
 
 pub never_stopped : NeverStopped

@@ -139,11 +139,11 @@ record_made (a ∷ b ∷ c ∷ d ∷ e ∷ f ∷ bs) l z g =
     let s = number (a ∷ b ∷ c ∷ d ∷ []) in
     let n = s / 4 in
     let count : length (words_of n bs) ≡ n = length_words n bs in
-    let four-times : 4 * length (words_of n bs) ≡ s = omega (arith, count) in
+    let four_times : 4 * length (words_of n bs) ≡ s = omega (arith, count) in
     let whole : length bs ≡ 4 * n = omega arith in
     let head = little_number 4 (a ∷ b ∷ c ∷ d ∷ []) refl (four a b c d (g 0) (g 1) (g 2) (g 3)) in
     let next = little_number 2 (e ∷ f ∷ []) refl (λ i. below_left 256 (e ∷ f ∷ []) bs (omega arith) (λ j. g (suc (suc (suc (suc j))))) i) in
-    sym (rw (four-times, head, next, bytes_words n bs whole (λ i. g (suc (suc (suc (suc (suc (suc i)))))))))
+    sym (rw (four_times, head, next, bytes_words n bs whole (λ i. g (suc (suc (suc (suc (suc (suc i)))))))))
 
 -- ---- a file is bytes
 

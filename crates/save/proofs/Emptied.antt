@@ -17,11 +17,11 @@ use Rattle.house.specs.Turns.{World, world}
 use Rattle.house.specs.Calls.{one_verdict, empty_call, emptied_house}
 use Rattle.house.specs.Sound.{Typed, Undamaged, Stays}
 use Rattle.house.specs.declared.House.{House}
-use Rattle.house.proofs.Damage.Updates.{fresh-long, fresh_at}
-use Rattle.house.proofs.Damage.Undamaged.{undamaged-gives}
+use Rattle.house.proofs.Damage.Updates.{fresh_long, fresh_at}
+use Rattle.house.proofs.Damage.Undamaged.{undamaged_gives}
 use Rattle.demands.specs.Histories.{Call, empty, after, history}
-use Rattle.demands.proofs.Histories.Grown.{history-then}
-use Rattle.demands.proofs.Histories.Stays.{history-stays}
+use Rattle.demands.proofs.Histories.Grown.{history_then}
+use Rattle.demands.proofs.Histories.Stays.{history_stays}
 use Rattle.save.specs.Promises.{emptyings}
 use Rattle.save.proofs.Joined.{joined, joined_outer, joined_all}
 use Rattle.save.proofs.Restored.{part_zero}
@@ -35,7 +35,7 @@ module _ (w : World) (typed : Typed w) (whole : damaged w.house ≡ false) where
   h = w.house
 
   u : Undamaged h
-  u = undamaged-gives h whole
+  u = undamaged_gives h whole
 
   -- with the first n shadows empty
   abbrev emptied_to : ℕ → World
@@ -48,7 +48,7 @@ module _ (w : World) (typed : Typed w) (whole : damaged w.house ≡ false) where
         e,
         lt-leb h.count n l,
         ← fresh_part n (omega (arith, u.few)),
-        joined_outer (n * entries) entries (suc n * entries) fresh_shadows h.shadows (omega arith) (omega (arith, fresh-long, u.few)) (omega (arith, typed.shaped.shadows, u.few)),
+        joined_outer (n * entries) entries (suc n * entries) fresh_shadows h.shadows (omega arith) (omega (arith, fresh_long, u.few)) (omega (arith, typed.shaped.shadows, u.few)),
       )
 
   emptied_so_far : (n : ℕ) → n ≤ h.count → history (emptyings n) w ≡ emptied_to n
@@ -56,18 +56,18 @@ module _ (w : World) (typed : Typed w) (whole : damaged w.house ≡ false) where
   emptied_so_far zero l = refl
   emptied_so_far (suc n) l =
       let e = emptied_so_far n (omega arith) in
-      history-then (emptyings n) (empty n ∷ []) w
+      history_then (emptyings n) (empty n ∷ []) w
       ∙ ap (after (empty n)) e
-      ∙ emptied_next n l (subst (λ (x : World). damaged x.house ≡ false) e (history-stays w typed whole (emptyings n)).whole)
+      ∙ emptied_next n l (subst (λ (x : World). damaged x.house ≡ false) e (history_stays w typed whole (emptyings n)).whole)
 
   pub all_emptied : history (emptyings h.count) w ≡ world (with_shadows h fresh_shadows) w.memory
   all_emptied =
       emptied_so_far h.count (omega arith)
       ∙ ap (λ (x : List ℕ). world (with_shadows h x) w.memory)
-      (joined_all (h.count * entries) fresh_shadows h.shadows 0 (typed.shaped.shadows ∙ sym fresh-long) λ x l m.
+      (joined_all (h.count * entries) fresh_shadows h.shadows 0 (typed.shaped.shadows ∙ sym fresh_long) λ x l m.
       part_zero h.shadows entries (x / entries) (x % entries) x (omega arith) (omega arith)
-      ((u.unused (x / entries) (omega arith) (omega (arith, fresh-long))).shadows (x % entries) (omega arith))
+      ((u.unused (x / entries) (omega arith) (omega (arith, fresh_long))).shadows (x % entries) (omega arith))
       ∙ sym (fresh_at x))
 
   pub emptied_stays : Stays w (world (with_shadows h fresh_shadows) w.memory)
-  emptied_stays = subst (Stays w) all_emptied (history-stays w typed whole (emptyings h.count))
+  emptied_stays = subst (Stays w) all_emptied (history_stays w typed whole (emptyings h.count))

@@ -15,7 +15,7 @@ use Rattle.house.specs.Turns.{World, world}
 use Rattle.house.specs.Calls.{answered}
 use Rattle.demands.specs.Histories.{booted, Call, run, after, history, steps_made, turns_made, lone_of, log_of}
 use Rattle.demands.proofs.Demands.{never_damaged}
-use Rattle.demands.proofs.Instances.TwoGuests.{two-guests, memory_words, full, grown-full, by_store}
+use Rattle.demands.proofs.Instances.TwoGuests.{two_guests, memory_words, full, grown_full, by_store}
 use Rattle.housefile.specs.Records.{number, words_of}
 use Rattle.save.specs.Saved.{little, all_bytes, record_of, file_of}
 use Rattle.save.specs.Reading.{Reading, begun, turned, may_come, content_right, taken, settled, took, fed}
@@ -34,10 +34,10 @@ saved = full
 
 -- the history of it
 abbrev calls_made : List Call
-calls_made = grown-full.0
+calls_made = grown_full.0
 
 savable : Savable saved
-savable = grown_savable two-guests memory_words saved grown-full
+savable = grown_savable two_guests memory_words saved grown_full
 
 kept : SaveOf saved (file_of saved) × RestoreOf (file_of saved) (emptied saved)
 kept = saves saved savable
@@ -59,40 +59,40 @@ over_sevens =
 
 -- ---- the life
 
-first : Life two-guests calls_made saved
-first = subst (Life two-guests calls_made) (sym grown-full.1) (lives_on two-guests calls_made [] (booted two-guests) begins)
+first : Life two_guests calls_made saved
+first = subst (Life two_guests calls_made) (sym grown_full.1) (lives_on two_guests calls_made [] (booted two_guests) begins)
 
 abbrev before : List Call
 before = calls_made ++ emptyings saved.house.count
 
-second : Life two-guests before (emptied saved)
+second : Life two_guests before (emptied saved)
 second = resumes first kept.0 kept.1
 
-third : Life two-guests (before ++ (run 4 ∷ [])) (after (run 4) (emptied saved))
+third : Life two_guests (before ++ (run 4 ∷ [])) (after (run 4) (emptied saved))
 third = calls second (run 4)
 
-pub grown : after (run 4) (emptied saved) ≡ history (before ++ (run 4 ∷ [])) (booted two-guests)
-grown = lives_grown two-guests memory_words (before ++ (run 4 ∷ [])) (after (run 4) (emptied saved)) third
+pub grown : after (run 4) (emptied saved) ≡ history (before ++ (run 4 ∷ [])) (booted two_guests)
+grown = lives_grown two_guests memory_words (before ++ (run 4 ∷ [])) (after (run 4) (emptied saved)) third
 
 pub still_whole : damaged (after (run 4) (emptied saved)).house ≡ false
-still_whole = never_damaged two-guests memory_words (after (run 4) (emptied saved)) (before ++ (run 4 ∷ []), grown)
+still_whole = never_damaged two_guests memory_words (after (run 4) (emptied saved)) (before ++ (run 4 ∷ []), grown)
 
 -- each lone machine stands where it stood, and no step is counted twice
 pub same_machine : (i : ℕ) → lone_of (emptied saved) i ≡ lone_of saved i
 same_machine i =
     ap (λ (w : World). lone_of w i) (restores saved (emptied saved) (file_of saved) savable.typed kept.0 kept.1) ∙ (emptyings_nothing saved.house.count saved).lone i
 
-nothing : Nothing (emptyings saved.house.count) (history calls_made (booted two-guests))
-nothing = emptyings_nothing saved.house.count (history calls_made (booted two-guests))
+nothing : Nothing (emptyings saved.house.count) (history calls_made (booted two_guests))
+nothing = emptyings_nothing saved.house.count (history calls_made (booted two_guests))
 
-pub same_steps : steps_made before (booted two-guests) ≡ steps_made calls_made (booted two-guests)
-same_steps = steps_then calls_made (emptyings saved.house.count) (booted two-guests) ∙ omega (arith, nothing.steps)
+pub same_steps : steps_made before (booted two_guests) ≡ steps_made calls_made (booted two_guests)
+same_steps = steps_then calls_made (emptyings saved.house.count) (booted two_guests) ∙ omega (arith, nothing.steps)
 
-pub same_turns : (i : ℕ) → turns_made before (booted two-guests) i ≡ turns_made calls_made (booted two-guests) i
-same_turns i = turns_then calls_made (emptyings saved.house.count) (booted two-guests) i ∙ omega (arith, nothing.turns i)
+pub same_turns : (i : ℕ) → turns_made before (booted two_guests) i ≡ turns_made calls_made (booted two_guests) i
+same_turns i = turns_then calls_made (emptyings saved.house.count) (booted two_guests) i ∙ omega (arith, nothing.turns i)
 
-pub same_log : log_of before (booted two-guests) ≡ log_of calls_made (booted two-guests)
-same_log = log_then calls_made (emptyings saved.house.count) (booted two-guests) ∙ ap (λ l. log_of calls_made (booted two-guests) ++ l) nothing.log ∙ append-nil (log_of calls_made (booted two-guests))
+pub same_log : log_of before (booted two_guests) ≡ log_of calls_made (booted two_guests)
+same_log = log_then calls_made (emptyings saved.house.count) (booted two_guests) ∙ ap (λ l. log_of calls_made (booted two_guests) ++ l) nothing.log ∙ append-nil (log_of calls_made (booted two_guests))
 
 -- ---- a file that is cut, over a memory of nines
 

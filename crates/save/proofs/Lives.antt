@@ -16,9 +16,9 @@ use Rattle.house.specs.Turns.{World, world, host_steps}
 use Rattle.house.specs.Calls.{Answered, answered, one_verdict, empty_call, emptied_house}
 use Rattle.house.specs.Sound.{Typed}
 use Rattle.demands.specs.Histories.{Boot, booted, Call, empty, after, history, turns_in, steps_of, turns_made, steps_made, lone_of, log_in, log_of}
-use Rattle.demands.proofs.Booted.FreshHouse.{booted-ready, booted-whole}
-use Rattle.demands.proofs.Histories.Grown.{history-then}
-use Rattle.demands.proofs.Histories.Stays.{history-stays}
+use Rattle.demands.proofs.Booted.FreshHouse.{booted_ready, booted_whole}
+use Rattle.demands.proofs.Histories.Grown.{history_then}
+use Rattle.demands.proofs.Histories.Stays.{history_stays}
 use Rattle.save.specs.Saved.{record_of, records, turn_words, file_of}
 use Rattle.save.specs.Reading.{Progress, Reading, reading, begun, refused_by, over, may_come, content_right, taken, took, fed, lent}
 use Rattle.save.specs.Calls.{piece_length, save_verdict, save_call, read_piece, read_verdict, finished}
@@ -68,11 +68,11 @@ restores w w' f typed s r =
 pub lives_grown : LivesGrown
 unfolding history
 lives_grown b t cs w begins = refl
-lives_grown b t cs w (calls {cs = ds} {w = v} l c) = ap (after c) (lives_grown b t ds v l) ∙ sym (history-then ds (c ∷ []) (booted b))
+lives_grown b t cs w (calls {cs = ds} {w = v} l c) = ap (after c) (lives_grown b t ds v l) ∙ sym (history_then ds (c ∷ []) (booted b))
 lives_grown b t cs w (resumes {cs = ds} {w = v} {w' = v'} {f = f} l s r) =
     let e = lives_grown b t ds v l in
-    let y : Typed v = subst Typed (sym e) (history-stays (booted b) (booted-ready b t).typed (booted-whole b) ds).typed in
-    restores v v' f y s r ∙ ap (history (emptyings v.house.count)) e ∙ sym (history-then ds (emptyings v.house.count) (booted b))
+    let y : Typed v = subst Typed (sym e) (history_stays (booted b) (booted_ready b t).typed (booted_whole b) ds).typed in
+    restores v v' f y s r ∙ ap (history (emptyings v.house.count)) e ∙ sym (history_then ds (emptyings v.house.count) (booted b))
 
 -- every history is a life, and whatever a life comes to may be saved
 pub lives_on : (b : Boot) (cs ds : List Call) (w : World) → Life b ds w → Life b (ds ++ cs) (history cs w)
@@ -86,7 +86,7 @@ booted_size b = refl
 
 pub grown_savable : GrownSavable
 grown_savable b t w g =
-    let s = history-stays (booted b) (booted-ready b t).typed (booted-whole b) g.0 in
+    let s = history_stays (booted b) (booted_ready b t).typed (booted_whole b) g.0 in
     subst Savable (sym g.1) (record { typed = s.typed; whole = s.whole; size = s.size ∙ booted_size b ∙ sym s.layout.words })
 
 -- ---- emptyings count for nothing
@@ -120,7 +120,7 @@ emptyings_nothing (suc n) w =
       steps = steps_then (emptyings n) (empty n ∷ []) w ∙ omega (arith, x.steps);
       turns = λ i. turns_then (emptyings n) (empty n ∷ []) w i ∙ omega (arith, x.turns i);
       log = log_then (emptyings n) (empty n ∷ []) w ∙ rw x.log;
-      lone = λ i. ap (λ (z : World). lone_of z i) (history-then (emptyings n) (empty n ∷ []) w) ∙ empty_lone v n i ∙ x.lone i;
+      lone = λ i. ap (λ (z : World). lone_of z i) (history_then (emptyings n) (empty n ∷ []) w) ∙ empty_lone v n i ∙ x.lone i;
     }
 
 -- ---- refusals

@@ -17,7 +17,7 @@ use Rattle.house.specs.declared.House.{House}
 use Rattle.house.specs.Damage.{damaged}
 use Rattle.house.specs.Boot.{verdict, first_of}
 use Rattle.house.specs.Turns.{World, world}
-use Rattle.house.proofs.Damage.Undamaged.{undamaged-gives}
+use Rattle.house.proofs.Damage.Undamaged.{undamaged_gives}
 use Rattle.save.specs.Calls.{written, piece_length, save_verdict, save_call}
 use Rattle.decimal.specs.Texts.{Puts, joined as parts}
 use Rattle.decimal.proofs.Texts.{whole, roomy, ◌then◌}
@@ -232,7 +232,7 @@ file_is h m = simp append_assoc
 
 pub head_fits : (h : House) → damaged h ≡ false → HeadFits h
 head_fits h e =
-    let u = undamaged-gives h e in
+    let u = undamaged_gives h e in
     record { few = u.few; pages = λ i l. (u.pages i l).1; most = λ j l. (u.queued j (omega (arith, u.few))).most }
 
 module _ (h : House) (m : List ℕ) (at : ℕ) (out : List ℕ) where
@@ -247,7 +247,7 @@ module _ (h : House) (m : List ℕ) (at : ℕ) (out : List ℕ) where
 
     module _ (l : length m ≡ h.words) where
       pub few_frames : length m / 1024 ≤ 1024
-      few_frames = omega (arith, (undamaged-gives h e).size)
+      few_frames = omega (arith, (undamaged_gives h e).size)
 
       save_is : (count : ℕ) (out' : List ℕ) → count ≡ piece_length (world h m) at (length out) → out' ≡ take count (drop at (file_of (world h m))) ++ drop count out
           → written (verdict 0 0) count h out' ≡ save_call (world h m) at out

@@ -15,15 +15,15 @@ use Rattle.house.specs.House.{partition, pages_of, shadow_of, with_shadows, turn
 use Rattle.house.specs.Turns.{World, world, next_from, turn_of, turn_after, stale_at, host_step, host_steps}
 use Rattle.house.specs.Calls.{Answered, answered}
 use Rattle.house.specs.declared.Turn.{Turn}
-use Rattle.house.proofs.Damage.Undamaged.{count-within}
+use Rattle.house.proofs.Damage.Undamaged.{count_within}
 use Rattle.house.proofs.Lists.ByRule.{first_is}
 use Rattle.house.specs.Damage.{damaged}
 use Rattle.house.specs.Boot.{verdict, booted_house}
 use Rattle.demands.specs.Histories.{booted, run, stop, history, Grown, lone_of, lone_answer}
 use Rattle.demands.specs.Demands.{StepOf, by_shadow, by_table}
-use Rattle.demands.proofs.Booted.FreshHouse.{booted-whole}
-use Rattle.demands.proofs.Histories.Stays.{history-stays}
-use Rattle.demands.proofs.Instances.TwoGuests.{two-guests, memory_words, ready, full, grown-full, misled, misled-stays, misled-stale, misled-size}
+use Rattle.demands.proofs.Booted.FreshHouse.{booted_whole}
+use Rattle.demands.proofs.Histories.Stays.{history_stays}
+use Rattle.demands.proofs.Instances.TwoGuests.{two_guests, memory_words, ready, full, grown_full, misled, misled_stays, misled_stale, misled_size}
 use Rattle.staleness.specs.Audit.{finding, first_page, audit_call, stale_count, stale_counts, counts, counts_call, mend_call}
 use Rattle.staleness.specs.Examples.{remaining, ours, six_stale, outgrown}
 use Rattle.staleness.specs.Promises.{Passes, NamesFirst, Mends, called, audited, tallied, mended_in, used, uses}
@@ -34,40 +34,40 @@ use Rattle.staleness.proofs.SixStale.{kept_is, six_audit, six_counts, six_mend, 
 use Rattle.staleness.proofs.Verdicts.{AuditDone, done_audit, audit_found}
 
 pub full_passes : Passes full
-full_passes = (grown_pass two-guests memory_words full grown-full).0
+full_passes = (grown_pass two_guests memory_words full grown_full).0
 
 pub full_counted : counts_call full ≡ counts 0 (replicate 8 0)
-full_counted = (grown_pass two-guests memory_words full grown-full).1
+full_counted = (grown_pass two_guests memory_words full grown_full).1
 
 pub full_mended : mend_call full ≡ answered (verdict 0 0) full
-full_mended = (grown_pass two-guests memory_words full grown-full).2
+full_mended = (grown_pass two_guests memory_words full grown_full).2
 
 abbrev astray : World
 astray = world misled full.memory
 
 done : AuditDone astray
-done = record { whole = misled-stays.whole; size = misled-size }
+done = record { whole = misled_stays.whole; size = misled_size }
 
 -- the first entry of all
 first : first_page astray 0 ≡ 0
 unfolding any
-first = first_is (stale_at astray 0) entries 0 refl (omega arith) misled-stale
+first = first_is (stale_at astray 0) entries 0 refl (omega arith) misled_stale
 
 pub misled_found : audit_call astray ≡ finding 0 true 0 0
 unfolding any
 misled_found =
     audit_found astray _ refl (done_audit astray 0 done)
-    ∙ first_found astray 0 refl (omega (arith, (count-within misled misled-stays.whole).0)) (omega (arith, first))
+    ∙ first_found astray 0 refl (omega (arith, (count_within misled misled_stays.whole).0)) (omega (arith, first))
     ∙ ap (finding 0 true 0) first
 
 pub misled_mended : Passes (mend_call astray).world
 unfolding mend_call
-misled_mended = (mends_all astray misled-stays.typed (done_audit astray _ done)).passes
+misled_mended = (mends_all astray misled_stays.typed (done_audit astray _ done)).passes
 
 -- ---- a history with an audit, a count and a mend in it
 
-pub still : Grown two-guests (uses (called (run 4) ∷ audited ∷ mended_in ∷ tallied ∷ called (stop 1) ∷ mended_in ∷ []) (booted two-guests))
-still = still_grown two-guests (called (run 4) ∷ audited ∷ mended_in ∷ tallied ∷ called (stop 1) ∷ mended_in ∷ [])
+pub still : Grown two_guests (uses (called (run 4) ∷ audited ∷ mended_in ∷ tallied ∷ called (stop 1) ∷ mended_in ∷ []) (booted two_guests))
+still = still_grown two_guests (called (run 4) ∷ audited ∷ mended_in ∷ tallied ∷ called (stop 1) ∷ mended_in ∷ [])
 
 -- what the mend left is what went on
 pub handed_on : uses (mended_in ∷ []) astray ≡ (mend_call astray).world
@@ -77,21 +77,21 @@ handed_on = refl
 -- ---- a house in which none is current, after both were stopped
 
 abbrev idle : World
-idle = history (stop 0 ∷ stop 1 ∷ []) (booted two-guests)
+idle = history (stop 0 ∷ stop 1 ∷ []) (booted two_guests)
 
-grown_idle : Grown two-guests idle
+grown_idle : Grown two_guests idle
 grown_idle = (stop 0 ∷ stop 1 ∷ [], refl)
 
 pub idle_reaches : (store user : Bool) (a : ℕ) → by_shadow idle 0 store user a ≡ by_table idle 0 store user a
 idle_reaches =
-    let l = history-stays (booted two-guests) ready.typed (ready_whole) (stop 0 ∷ stop 1 ∷ []) in
-    passed_reach idle l.typed.shaped (grown_pass two-guests memory_words idle grown_idle).0 0 (omega (arith, l.layout.count, two))
+    let l = history_stays (booted two_guests) ready.typed (ready_whole) (stop 0 ∷ stop 1 ∷ []) in
+    passed_reach idle l.typed.shaped (grown_pass two_guests memory_words idle grown_idle).0 0 (omega (arith, l.layout.count, two))
   where
-    ready_whole : damaged (booted two-guests).house ≡ false
-    ready_whole = booted-whole two-guests
+    ready_whole : damaged (booted two_guests).house ≡ false
+    ready_whole = booted_whole two_guests
 
-    two : (booted two-guests).house.count ≡ 2
-    two = unfold two-guests booted_house in refl
+    two : (booted two_guests).house.count ≡ 2
+    two = unfold two_guests booted_house in refl
 
 -- ---- the house with six stale entries, of four partitions: what the audit names
 

@@ -19,10 +19,10 @@ use Rattle.house.specs.House.{all_entries, partition, pages_of, frames_of, shado
 use Rattle.house.specs.Turns.{World, world, stale_at}
 use Rattle.house.specs.Sound.{Proper, Undamaged, Typed, Stays}
 use Rattle.house.specs.declared.House.{House}
-use Rattle.house.proofs.Lists.ByRule.{length-listFrom, listFrom-at, listFrom-same}
-use Rattle.house.proofs.Damage.Conditions.{empty-proper}
-use Rattle.house.proofs.Damage.Undamaged.{undamaged-gives}
-use Rattle.house.proofs.Damage.Changed.{ShadowsRight, same_flags, changed-stays}
+use Rattle.house.proofs.Lists.ByRule.{length_list_from, list_from_at, list_from_same}
+use Rattle.house.proofs.Damage.Conditions.{empty_proper}
+use Rattle.house.proofs.Damage.Undamaged.{undamaged_gives}
+use Rattle.house.proofs.Damage.Changed.{ShadowsRight, same_flags, changed_stays}
 use Rattle.staleness.specs.Audit.{kept_at, kept_in, mended_one, mended_to, mended}
 use Rattle.staleness.proofs.Searching.{all_right}
 use Rattle.staleness.proofs.SoFar.{list_from_self, list_from_each}
@@ -52,7 +52,7 @@ module _ (w : World) (long : length w.house.shadows ≡ all_entries) where
   mended_long zero l = long
   mended_long (suc n) l =
       let s = mended_long n (omega arith) in
-      outer_length (mended_to n w).house.shadows (n * entries) entries (omega arith) _ (length-listFrom (kept_at (mended_to n w) n) 0 entries) ∙ s
+      outer_length (mended_to n w).house.shadows (n * entries) entries (omega arith) _ (length_list_from (kept_at (mended_to n w) n) 0 entries) ∙ s
 
   module _ (n : ℕ) (l : n < 8) where
     room : (i : ℕ) → i < 8 → i * entries + entries ≤ length (mended_to n w).house.shadows
@@ -60,11 +60,11 @@ module _ (w : World) (long : length w.house.shadows ≡ all_entries) where
 
     next_own : shadow_of (mended_to (suc n) w).house n ≡ list_from (kept_at (mended_to n w) n) 0 entries
     unfolding mended_to mended_one
-    next_own = inner_outer (mended_to n w).house.shadows (n * entries) entries (room n l) _ (length-listFrom (kept_at (mended_to n w) n) 0 entries)
+    next_own = inner_outer (mended_to n w).house.shadows (n * entries) entries (room n l) _ (length_list_from (kept_at (mended_to n w) n) 0 entries)
 
     next_other : (i : ℕ) → i < 8 → (i ≡ n → ⊥) → shadow_of (mended_to (suc n) w).house i ≡ shadow_of (mended_to n w).house i
     unfolding mended_to mended_one
-    next_other i b d = parts_apart entries (mended_to n w).house.shadows _ n i (room n l) (room i b) (length-listFrom (kept_at (mended_to n w) n) 0 entries) d
+    next_other i b d = parts_apart entries (mended_to n w).house.shadows _ n i (room n l) (room i b) (length_list_from (kept_at (mended_to n w) n) 0 entries) d
 
   -- a partition that is not mended yet, and one that is
   pub mended_later : (n i : ℕ) → n ≤ i → i < 8 → shadow_of (mended_to n w).house i ≡ shadow_of w.house i
@@ -85,7 +85,7 @@ module _ (w : World) (long : length w.house.shadows ≡ all_entries) where
       (λ d. next_other n (omega arith) i (omega arith) d ∙ mended_own n i (omega arith) (omega arith))
 
   pub mended_entry : (n i px : ℕ) → i < n → n ≤ 8 → px < entries → get_or (shadow_of (mended_to n w).house i) px 0 ≡ kept_at w i px
-  mended_entry n i px l b m = ap (λ (sh : List ℕ). get_or sh px 0) (mended_own n i l b) ∙ listFrom-at (kept_at w i) 0 entries px m
+  mended_entry n i px l b m = ap (λ (sh : List ℕ). get_or sh px 0) (mended_own n i l b) ∙ list_from_at (kept_at w i) 0 entries px m
 
   -- what holds of 0 and of every entry
   pub mended_each : (P : ℕ → Type 0) → P 0 → ((k : ℕ) → P (get_or w.house.shadows k 0)) → (n : ℕ) → n ≤ 8 → (k : ℕ) → P (get_or (mended_to n w).house.shadows k 0)
@@ -93,7 +93,7 @@ module _ (w : World) (long : length w.house.shadows ≡ all_entries) where
   mended_each P z h zero l k = h k
   mended_each P z h (suc n) l k =
       let g = mended_each P z h n (omega arith) in
-      outer_each (mended_to n w).house.shadows (n * entries) entries (room n (omega arith) n (omega arith)) _ (length-listFrom (kept_at (mended_to n w) n) 0 entries) P g
+      outer_each (mended_to n w).house.shadows (n * entries) entries (room n (omega arith) n (omega arith)) _ (length_list_from (kept_at (mended_to n w) n) 0 entries) P g
       (list_from_each P (kept_at (mended_to n w) n) entries z (λ j. kept_each P (mended_to n w) n j z (part_each P (mended_to n w).house.shadows (n * entries) entries z g j))) k
 
   -- none of a mended shadow is stale
@@ -117,7 +117,7 @@ module _ (w : World) (y : Typed w) (d : AuditDone w) where
   h = w.house
 
   u : Undamaged h
-  u = undamaged-gives h d.whole
+  u = undamaged_gives h d.whole
 
   abbrev after : List ℕ
   after = (mended_to h.count w).house.shadows
@@ -127,7 +127,7 @@ module _ (w : World) (y : Typed w) (d : AuditDone w) where
     long = mended_long w y.shaped.shadows h.count u.few;
     proper = λ i px l m.
         rw (mended_entry w y.shaped.shadows h.count i px l u.few m)
-        (kept_each (Proper (frames_of h i) (pages_of h i)) w i px (empty-proper (frames_of h i) (pages_of h i)) (u.proper i px l m));
+        (kept_each (Proper (frames_of h i) (pages_of h i)) w i px (empty_proper (frames_of h i) (pages_of h i)) (u.proper i px l m));
     none = λ i k l b m. rw (mended_later w y.shaped.shadows h.count i l b) ((u.unused i l b).shadows k m);
     words = mended_each w y.shaped.shadows (λ x. x < 2 ^ 32) (omega arith) y.shadows h.count u.few;
   }
@@ -136,14 +136,14 @@ module _ (w : World) (y : Typed w) (d : AuditDone w) where
   unfolding mended
   mended_stays =
       subst (Stays w) (sym (mended_rest h.count w))
-      (changed-stays h w.memory u y _ (turn h.current h.left) after (same_flags h w.memory u y) (record { idle = u.idle; busy = u.busy }) mended_shadows)
+      (changed_stays h w.memory u y _ (turn h.current h.left) after (same_flags h w.memory u y) (record { idle = u.idle; busy = u.busy }) mended_shadows)
 
 -- ---- where nothing is stale nothing changes
 
 module _ (w : World) (long : length w.house.shadows ≡ all_entries) where
   shadow_same : (i : ℕ) → i < 8 → ((px : ℕ) → stale_at w i px ≡ false) → list_from (kept_at w i) 0 entries ≡ shadow_of w.house i
   shadow_same i l h =
-      listFrom-same (kept_at w i) (λ px. get_or (shadow_of w.house i) px 0) 0 entries (λ px _. rw (h px))
+      list_from_same (kept_at w i) (λ px. get_or (shadow_of w.house i) px 0) 0 entries (λ px _. rw (h px))
       ∙ list_from_self (shadow_of w.house i) entries (inner_length w.house.shadows (i * entries) entries (omega arith))
 
   one_same : (i : ℕ) → i < 8 → ((px : ℕ) → stale_at w i px ≡ false) → mended_one w i ≡ w

@@ -14,16 +14,16 @@ use Rattle.house.specs.Boot.{verdict, sum, booted_house}
 use Rattle.house.specs.Turns.{World, world, stale_at, host_step, host_steps}
 use Rattle.house.specs.Sound.{Shaped, Typed, Ready}
 use Rattle.house.specs.Calls.{Answered, answered}
-use Rattle.house.proofs.Damage.Denied.{undamaged-from}
-use Rattle.house.proofs.Damage.Undamaged.{undamaged-gives, current-below, sound-partition, queues-most}
-use Rattle.house.proofs.Lists.ByRule.{listFrom-same, listFrom-replicate}
-use Rattle.house.proofs.Turns.HostStep.{step-ready}
-use Rattle.house.proofs.Turns.Kept.{steps-keep}
+use Rattle.house.proofs.Damage.Denied.{undamaged_from}
+use Rattle.house.proofs.Damage.Undamaged.{undamaged_gives, current_below, sound_partition, queues_most}
+use Rattle.house.proofs.Lists.ByRule.{list_from_same, list_from_replicate}
+use Rattle.house.proofs.Turns.HostStep.{step_ready}
+use Rattle.house.proofs.Turns.Kept.{steps_keep}
 use Rattle.demands.specs.Histories.{Boot, booted, history, Grown}
 use Rattle.demands.proofs.Demands.{never_damaged}
 use Rattle.demands.proofs.Histories.Grown.{standing, grown_after}
 use Rattle.demands.proofs.Histories.Landings.{lands}
-use Rattle.demands.proofs.Histories.Standing.{Standing, Firm, step_of, firm-step}
+use Rattle.demands.proofs.Histories.Standing.{Standing, Firm, step_of, firm_step}
 use Rattle.staleness.specs.Audit.{audit_verdict, finding, first_stale, audit_call, stale_count, count_at, stale_counts, counts_call, counts, mended, mended_to, mend_call}
 use Rattle.staleness.specs.Promises.{Passes, GrownPass, Use, called, audited, tallied, mended_in, used, uses, StillGrown, NamesFirst, Names, PassesRight, CountsStale, Mends, MendsAll, MendRefused, PassedSteps, PassedReach, PassesOn}
 use Rattle.staleness.specs.declared.Finding.{Finding}
@@ -62,16 +62,16 @@ module _ (w : World) where
 
 module _ (w : World) (s : Shaped w.house) (d : AuditDone w) (r : AllRight w) where
   few : w.house.count ≤ 8
-  few = (undamaged-gives w.house d.whole).few
+  few = (undamaged_gives w.house d.whole).few
 
   no_counts : stale_counts w ≡ replicate 8 0
   unfolding stale_counts
   no_counts =
-      listFrom-same (count_at w) (λ _. 0) 0 8
+      list_from_same (count_at w) (λ _. 0) 0 8
       (λ i _. by_test (ltb i w.house.count)
       (λ t. rw t (count_none (stale_at w i) entries (λ px _. r i px (ltb-true i w.house.count t))))
       (λ t. rw t))
-      ∙ listFrom-replicate 0 0 8
+      ∙ list_from_replicate 0 0 8
 
   nothing_mended : mend_call w ≡ answered (verdict 0 0) w
   unfolding mend_call mended
@@ -113,7 +113,7 @@ module _ (w : World) where
   unfolding mended
   mended_mends y d =
       let h = w.house in
-      let u = undamaged-gives h d.whole in
+      let u = undamaged_gives h d.whole in
       let s = mended_stays w y d in
       let c : (mended_to h.count w).house.count ≡ h.count = ap (λ (x : World). x.house.count) (mended_rest h.count w) in
       record {
@@ -165,11 +165,11 @@ module _ (w : World) (s : Shaped w.house) (d : AuditDone w) (r : AllRight w) whe
       let h = w.house in
       record {
         shaped = s;
-        few = (undamaged-gives h d.whole).few;
-        placed = λ i l. (sound-partition h d.whole w.memory s d.size i l).placed;
-        apart = λ i j k l a b a' b' e. ((undamaged-gives h d.whole).once i j k l a b a' b' e).0;
-        here = current-below h d.whole;
-        most = queues-most h d.whole w.memory s d.size;
+        few = (undamaged_gives h d.whole).few;
+        placed = λ i l. (sound_partition h d.whole w.memory s d.size i l).placed;
+        apart = λ i j k l a b a' b' e. ((undamaged_gives h d.whole).once i j k l a b a' b' e).0;
+        here = current_below h d.whole;
+        most = queues_most h d.whole w.memory s d.size;
         right = λ i l px. r i px l;
       }
 
@@ -185,17 +185,17 @@ pub record Going (w : World) : Type 0 where
   pub right : AllRight w
 
 going_done : (w : World) → Going w → AuditDone w
-going_done w g = record { whole = undamaged-from w.house g.ready.whole; size = g.ready.size }
+going_done w g = record { whole = undamaged_from w.house g.ready.whole; size = g.ready.size }
 
 going_step : (w : World) → Going w → Going (host_step w)
 going_step w g = record {
-  ready = step-ready w g.ready;
-  right = λ i px l. (firm-step w (firm_passed w g.ready.typed.shaped (going_done w g) g.right)).right i l px;
+  ready = step_ready w g.ready;
+  right = λ i px l. (firm_step w (firm_passed w g.ready.typed.shaped (going_done w g) g.right)).right i l px;
 }
 
 pub passes_on : PassesOn
 passes_on w y p busy k =
     let d = passed_done w p in
-    let g : Going w = record { ready = record { typed = y; whole = undamaged-gives w.house d.whole; size = d.size; busy = busy }; right = passed_right w p } in
-    let g' = steps-keep Going going_step k w g in
+    let g : Going w = record { ready = record { typed = y; whole = undamaged_gives w.house d.whole; size = d.size; busy = busy }; right = passed_right w p } in
+    let g' = steps_keep Going going_step k w g in
     right_passes (host_steps k w) (going_done (host_steps k w) g') g'.right

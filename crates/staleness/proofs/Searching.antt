@@ -17,7 +17,7 @@ use Rattle.house.specs.Lists.{any, first_from}
 use Rattle.house.specs.House.{partition, frames_of}
 use Rattle.house.specs.Turns.{World, stale_at}
 use Rattle.house.proofs.Lists.Bounded.{one_way}
-use Rattle.house.proofs.Lists.ByRule.{first_is, first-none}
+use Rattle.house.proofs.Lists.ByRule.{first_is, first_none}
 use Rattle.staleness.specs.Audit.{finding, first_page, has_stale, first_stale}
 use Rattle.staleness.specs.Promises.{NamesFirst}
 
@@ -53,7 +53,7 @@ module _ (w : World) where
 
   pub none_found : any (has_stale w) w.house.count ≡ false → first_stale w ≡ finding 0 false 0 0
   unfolding first_stale
-  none_found e = rw (first-none (has_stale w) w.house.count e, le-ltb w.house.count w.house.count (omega arith))
+  none_found e = rw (first_none (has_stale w) w.house.count e, le-ltb w.house.count w.house.count (omega arith))
 
 -- ---- what the first stale entry tells
 

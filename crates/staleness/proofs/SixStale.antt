@@ -25,9 +25,9 @@ use Rattle.house.specs.Calls.{answered}
 use Rattle.house.specs.Turns.{stale_at}
 use Rattle.house.specs.Damage.{outside_limits, frame_twice, turn_wrong, registers_wrong, shadow_wrong, unused_wrong, partition_used, queues_wrong, damaged}
 use Rattle.house.specs.Sound.{TypedPartition, Typed}
-use Rattle.house.proofs.Damage.Updates.{none-typed, layout-typed, turn_typed, guests-shaped, guests-typed, fresh-typed, unused-typed}
+use Rattle.house.proofs.Damage.Updates.{none_typed, layout_typed, turn_typed, guests_shaped, guests_typed, fresh_typed, unused_typed}
 use Rattle.house.proofs.Lists.Bounded.{any_none, any_same}
-use Rattle.house.proofs.Lists.ByRule.{getD-listFrom, length-listFrom}
+use Rattle.house.proofs.Lists.ByRule.{get_or_list_from, length_list_from}
 use Rattle.demands.proofs.Instances.ClosedCalls.{below, below_at}
 use Rattle.staleness.specs.Audit.{audit_verdict, finding, audit_call, count_of, stale_counts, counts, counts_call, kept_at, mended, mend_call}
 use Rattle.staleness.specs.Examples.{theirs, entered, remaining, ours, six_stale, outgrown, unlike}
@@ -39,8 +39,8 @@ use Rattle.staleness.proofs.Searching.{first_found}
 rule_at : (f : ℕ → ℕ) (n i : ℕ) → get_or (list_from f 0 n) i 0 ≡ (if ltb i n then f i else 0)
 rule_at f n i =
     by_test (ltb i n)
-    (λ e. let z : 0 + i ≡ i = omega arith in rw (e, getD-listFrom f 0 0 n i (ltb-true i n e), z))
-    (λ e. rw (e, get_or-eq_default (list_from f 0 n) 0 {n = i} (omega (arith, ltb-false i n e, length-listFrom f 0 n))))
+    (λ e. let z : 0 + i ≡ i = omega arith in rw (e, get_or_list_from f 0 0 n i (ltb-true i n e), z))
+    (λ e. rw (e, get_or-eq_default (list_from f 0 n) 0 {n = i} (omega (arith, ltb-false i n e, length_list_from f 0 n))))
 
 part_at : (a s : ℕ) (m : List ℕ) (i : ℕ) → get_or (inner a s m) i 0 ≡ (if ltb i s then get_or m (a + i) 0 else 0)
 unfolding inner
@@ -104,7 +104,7 @@ pub six_left : unlike (λ i px. get_or (shadow_of (mended six_stale).house i) px
 unfolding mended
 six_left =
     any_same _ _ 4 (λ i l. any_same _ _ entries (λ px m.
-    ap (λ (e : ℕ). not (eqb e (remaining (i * entries + px)))) (mended_entry six_stale (length-listFrom entered 0 8192) 4 i px l (omega arith) m)))
+    ap (λ (e : ℕ). not (eqb e (remaining (i * entries + px)))) (mended_entry six_stale (length_list_from entered 0 8192) 4 i px l (omega arith) m)))
     ∙ kept_so
 
 -- ---- refused
@@ -140,8 +140,8 @@ entries_words k =
     (small (eqb k 3074) (omega arith) (small (eqb k 4095) (omega arith) (omega arith)))))))))))) (omega arith))
 
 unused_each : (n i : ℕ) → TypedPartition (get_or (replicate n no_partition) i no_partition)
-unused_each zero i = unused-typed
-unused_each (suc n) zero = unused-typed
+unused_each zero i = unused_typed
+unused_each (suc n) zero = unused_typed
 unused_each (suc n) (suc i) = unused_each n i
 
 module _ (p : Partition) (t : TypedPartition p) where
@@ -209,10 +209,10 @@ guest_typed = record {
 }
 
 each_typed : (i : ℕ) → TypedPartition (get_or ours i no_partition)
-each_typed zero = counter_typed (fresh_of 1) (fresh-typed 1 (omega arith)) (2 ^ 64 - 1) (omega arith)
+each_typed zero = counter_typed (fresh_of 1) (fresh_typed 1 (omega arith)) (2 ^ 64 - 1) (omega arith)
 each_typed (suc zero) = guest_typed
-each_typed (suc (suc zero)) = table_typed (fresh_of 1) (fresh-typed 1 (omega arith)) 0 4 (omega arith) (omega arith)
-each_typed (suc (suc (suc zero))) = table_typed (fresh_of 1) (fresh-typed 1 (omega arith)) 0 4 (omega arith) (omega arith)
+each_typed (suc (suc zero)) = table_typed (fresh_of 1) (fresh_typed 1 (omega arith)) 0 4 (omega arith) (omega arith)
+each_typed (suc (suc (suc zero))) = table_typed (fresh_of 1) (fresh_typed 1 (omega arith)) 0 4 (omega arith) (omega arith)
 each_typed (suc (suc (suc (suc i)))) = unused_each 4 i
 
 memory_words : (k : ℕ) → get_or six_stale.memory k 0 < 2 ^ 32
@@ -221,7 +221,7 @@ memory_words = below_at six_stale.memory refl
 
 pub six_typed : Typed six_stale
 six_typed =
-    let a = layout-typed _ _ (none-typed six_stale.memory memory_words) (layout 4 1 7168 (list_from theirs 0 2048)) (omega arith) (omega arith) (omega arith) (length-listFrom theirs 0 2048) frames_words in
+    let a = layout_typed _ _ (none_typed six_stale.memory memory_words) (layout 4 1 7168 (list_from theirs 0 2048)) (omega arith) (omega arith) (omega arith) (length_list_from theirs 0 2048) frames_words in
     let b = turn_typed _ _ a (true ∷ false ∷ true ∷ true ∷ replicate 4 false) (turn 0 1) refl (omega arith) (omega arith) in
     let g = guests ours (replicate 256 0) (list_from entered 0 8192) in
-    guests-typed _ _ b g (guests-shaped _ b.shaped g refl refl (length-listFrom entered 0 8192)) each_typed (zeros_words 256) entries_words
+    guests_typed _ _ b g (guests_shaped _ b.shaped g refl refl (length_list_from entered 0 8192)) each_typed (zeros_words 256) entries_words

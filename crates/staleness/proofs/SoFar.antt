@@ -14,38 +14,38 @@ use Rattle.dlx.specs.declared.partition.Table.{Table}
 use Rattle.addresses.specs.Walk.{entries}
 use Rattle.addresses.specs.Memory.{stale}
 use Rattle.house.specs.Lists.{list_from}
-use Rattle.house.proofs.Lists.ByRule.{length-listFrom, listFrom-at, listFrom-same, set-listFrom}
+use Rattle.house.proofs.Lists.ByRule.{length_list_from, list_from_at, list_from_same, set_list_from}
 use Rattle.staleness.specs.Audit.{kept_in}
 
 -- a list is the one by its own elements
 pub list_from_self : (l : List ℕ) (n : ℕ) → length l ≡ n → list_from (λ k. get_or l k 0) 0 n ≡ l
 list_from_self l n e =
-    ext_get_or 0 _ l (length-listFrom (λ k. get_or l k 0) 0 n ∙ sym e) λ i b.
-    listFrom-at (λ k. get_or l k 0) 0 n i (omega (arith, length-listFrom (λ k. get_or l k 0) 0 n))
+    ext_get_or 0 _ l (length_list_from (λ k. get_or l k 0) 0 n ∙ sym e) λ i b.
+    list_from_at (λ k. get_or l k 0) 0 n i (omega (arith, length_list_from (λ k. get_or l k 0) 0 n))
 
 -- what holds of 0 and of every number by the rule
 pub list_from_each : (P : ℕ → Type 0) (f : ℕ → ℕ) (n : ℕ) → P 0 → ((k : ℕ) → P (f k)) → (k : ℕ) → P (get_or (list_from f 0 n) k 0)
 list_from_each P f n z h k =
     by_test (ltb k n)
-    (λ t. rw (listFrom-at f 0 n k (ltb-true k n t)) (h k))
-    (λ t. rw (get_or-eq_default (list_from f 0 n) 0 {n = k} (omega (arith, length-listFrom f 0 n, ltb-false k n t))) z)
+    (λ t. rw (list_from_at f 0 n k (ltb-true k n t)) (h k))
+    (λ t. rw (get_or-eq_default (list_from f 0 n) 0 {n = k} (omega (arith, length_list_from f 0 n, ltb-false k n t))) z)
 
 module _ (f g : ℕ → ℕ) (n : ℕ) where
   abbrev pub so_far : ℕ → List ℕ
   so_far px = list_from (λ k. if ltb k px then f k else g k) 0 n
 
   pub far_none : so_far 0 ≡ list_from g 0 n
-  far_none = listFrom-same _ g 0 n (λ k _. rw (le-ltb k 0 (omega arith)))
+  far_none = list_from_same _ g 0 n (λ k _. rw (le-ltb k 0 (omega arith)))
 
   pub far_length : (px : ℕ) → length (so_far px) ≡ n
-  far_length px = length-listFrom (λ k. if ltb k px then f k else g k) 0 n
+  far_length px = length_list_from (λ k. if ltb k px then f k else g k) 0 n
 
   -- where the rules agree on the rest, all is done
   pub far_all : (px : ℕ) → ((k : ℕ) → px ≤ k → k < n → f k ≡ g k) → so_far px ≡ list_from f 0 n
-  far_all px h = listFrom-same _ f 0 n (λ k l. by_test (ltb k px) (λ t. rw t) (λ t. rw t (sym (h k (ltb-false k px t) (omega arith)))))
+  far_all px h = list_from_same _ f 0 n (λ k l. by_test (ltb k px) (λ t. rw t) (λ t. rw t (sym (h k (ltb-false k px t) (omega arith)))))
 
   pub far_at : (px : ℕ) → px < n → get_or (so_far px) px 0 ≡ g px
-  far_at px l = listFrom-at (λ k. if ltb k px then f k else g k) 0 n px l ∙ rw (le-ltb px px (omega arith))
+  far_at px l = list_from_at (λ k. if ltb k px then f k else g k) 0 n px l ∙ rw (le-ltb px px (omega arith))
 
   pub far_more : (px : ℕ) → px < n → set (so_far px) px (f px) ≡ so_far (px + 1)
   far_more px l =
@@ -53,7 +53,7 @@ module _ (f g : ℕ → ℕ) (n : ℕ) where
       let G : ℕ → ℕ = λ k. if ltb k (px + 1) then f k else g k in
       let e : G px ≡ f px = rw (lt-ltb px (px + 1) (omega arith)) in
       ap (λ (v : ℕ). set (so_far px) px v) (sym e)
-      ∙ set-listFrom F G n px
+      ∙ set_list_from F G n px
       (λ j d. by_test (ltb j px)
       (λ t. let b = ltb-true j px t in rw (t, lt-ltb j (px + 1) (omega arith)))
       (λ t. let b = ltb-false j px t in rw (t, le-ltb j (px + 1) (omega arith)))) l

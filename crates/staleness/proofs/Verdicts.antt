@@ -12,7 +12,7 @@ use Rattle.house.specs.Boot.{first_of}
 use Rattle.house.specs.Turns.{World, world}
 use Rattle.house.specs.Sound.{Shaped}
 use Rattle.house.proofs.Calls.Verdicts.{passed}
-use Rattle.house.proofs.Damage.Undamaged.{count-within, sound-partition}
+use Rattle.house.proofs.Damage.Undamaged.{count_within, sound_partition}
 use Rattle.hypervisor.proofs.Refusals.{Plain, plain_case, plain_done}
 use Rattle.staleness.specs.Audit.{audit_verdict, finding, first_stale, audit_call, counts, stale_counts, counts_call, Walkable}
 use Rattle.staleness.specs.declared.Finding.{Finding}
@@ -40,7 +40,7 @@ module _ (w : World) (d : ℕ) where
   audit_plain = plain_case _ 8 d _ (omega arith) (plain_case _ 9 d _ (omega arith) (plain_done d))
 
 pub walkable : (w : World) → Shaped w.house → AuditDone w → Walkable w
-walkable w s a = record { few = (count-within w.house a.whole).1; each = λ i l. (sound-partition w.house a.whole w.memory s a.size i l).placed }
+walkable w s a = record { few = (count_within w.house a.whole).1; each = λ i l. (sound_partition w.house a.whole w.memory s a.size i l).placed }
 
 -- ---- what the two readings answer, by the number n that the refusals come to
 

@@ -97,11 +97,11 @@ signed_said w l =
 idle_said : (k : List ℕ) (b : ℕ) (l : List ℕ) → idle true k b ≡ true → word_said (k ++ l) ≡ word_said (k ++ (b ∷ l))
 unfolding idle word_said number_of with_digits with_digit negated ascii
 idle_said k b l e =
-    let zero-byte : b ≡ 48 = eqb-true b 48 (and_left (eqb b 48) _ e) in
+    let zero_byte : b ≡ 48 = eqb-true b 48 (and_left (eqb b 48) _ e) in
     let zeros = and_right (eqb b 48) (same k (48 ∷ []) || same k (45 ∷ 48 ∷ [])) e in
     by_test (same k (48 ∷ []))
-    (λ q. let z : k ≡ 48 ∷ [] = same_eq k (48 ∷ []) q in rw (z, zero-byte))
-    (λ q. let z : k ≡ 45 ∷ 48 ∷ [] = same_eq k (45 ∷ 48 ∷ []) (rw q at zeros) in rw (z, zero-byte))
+    (λ q. let z : k ≡ 48 ∷ [] = same_eq k (48 ∷ []) q in rw (z, zero_byte))
+    (λ q. let z : k ≡ 45 ∷ 48 ∷ [] = same_eq k (45 ∷ 48 ∷ []) (rw q at zeros) in rw (z, zero_byte))
 
 from_said : (k l : List ℕ) → word_said (bared_from true k l) ≡ word_said (k ++ l)
 unfolding bared_from

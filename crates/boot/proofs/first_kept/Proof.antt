@@ -8,8 +8,8 @@ use lib.ListN.{length}
 use borrow.Author.Tests.{eq-eqb, ne_eqb}
 use Rattle.house.specs.Lists.{any}
 use Rattle.house.specs.Boot.{frame_kept}
-use Rattle.house.proofs.Lists.Bounded.{any-more}
-use Rattle.house.proofs.Lists.ByRule.{first_is, first-none}
+use Rattle.house.proofs.Lists.Bounded.{any_more}
+use Rattle.house.proofs.Lists.ByRule.{first_is, first_none}
 use Rattle.boot.proofs.first_kept.Statement.{statement}
 use Rattle.boot.proofs.first_kept.Tie as tie
 
@@ -39,10 +39,10 @@ loop-less : tie.Need-loop-smaller invariant-loop decreases-loop
 loop-less c = search rules
 
 loop-again : tie.Need-loop-preserved invariant-loop decreases-loop
-loop-again c = (any-more (frame_kept c.before.before.before.before.args.frames.now) c.before.before.before.loop.i c.before.before.before.loop.invariant.0 (ne_eqb _ _ c.if1.false), omega arith)
+loop-again c = (any_more (frame_kept c.before.before.before.before.args.frames.now) c.before.before.before.loop.i c.before.before.before.loop.invariant.0 (ne_eqb _ _ c.if1.false), omega arith)
 
 returns-2 : tie.Need-returns-2 invariant-loop decreases-loop
-returns-2 c = rw (le_antisymm c.loop-test.false c.before.loop.invariant.1) (sym (first-none (frame_kept c.before.before.args.frames.now) c.before.loop.i c.before.loop.invariant.0))
+returns-2 c = rw (le_antisymm c.loop-test.false c.before.loop.invariant.1) (sym (first_none (frame_kept c.before.before.args.frames.now) c.before.loop.i c.before.loop.invariant.0))
 
 pub first-kept-spec : {M : Type 1} → statement M
 first-kept-spec =

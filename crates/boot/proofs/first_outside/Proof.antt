@@ -8,8 +8,8 @@ use lib.ListN.{length}
 use borrow.Author.Tests.{le-leb, lt-leb}
 use Rattle.house.specs.Lists.{any}
 use Rattle.house.specs.Boot.{frame_outside}
-use Rattle.house.proofs.Lists.Bounded.{any-more}
-use Rattle.house.proofs.Lists.ByRule.{first_is, first-none}
+use Rattle.house.proofs.Lists.Bounded.{any_more}
+use Rattle.house.proofs.Lists.ByRule.{first_is, first_none}
 use Rattle.boot.proofs.first_outside.Statement.{statement}
 use Rattle.boot.proofs.first_outside.Tie as tie
 
@@ -42,10 +42,10 @@ loop-less : tie.Need-loop-smaller invariant-loop decreases-loop
 loop-less c = search rules
 
 loop-again : tie.Need-loop-preserved invariant-loop decreases-loop
-loop-again c = (any-more (frame_outside c.before.before.before.before.before.before.args.frames.now c.before.before.before.before.before.before.args.words) c.before.before.before.before.loop.i c.before.before.before.before.loop.invariant.0 (lt-leb _ _ (simp c.before.wide.ensures at c.if1.false)), omega arith)
+loop-again c = (any_more (frame_outside c.before.before.before.before.before.before.args.frames.now c.before.before.before.before.before.before.args.words) c.before.before.before.before.loop.i c.before.before.before.before.loop.invariant.0 (lt-leb _ _ (simp c.before.wide.ensures at c.if1.false)), omega arith)
 
 returns-2 : tie.Need-returns-2 invariant-loop decreases-loop
-returns-2 c = rw (le_antisymm c.loop-test.false c.before.loop.invariant.1) (sym (first-none (frame_outside c.before.before.before.args.frames.now c.before.before.before.args.words) c.before.loop.i c.before.loop.invariant.0))
+returns-2 c = rw (le_antisymm c.loop-test.false c.before.loop.invariant.1) (sym (first_none (frame_outside c.before.before.before.args.frames.now c.before.before.before.args.words) c.before.loop.i c.before.loop.invariant.0))
 
 pub first-outside-spec : {M : Type 1} → statement M
 first-outside-spec =

@@ -7,8 +7,8 @@ use borrow.Author.Rules.{rules}
 use lib.ListN.{length}
 use Rattle.house.specs.Lists.{any}
 use Rattle.house.specs.Boot.{pages_wrong}
-use Rattle.house.proofs.Lists.Bounded.{any-more}
-use Rattle.house.proofs.Lists.ByRule.{first_is, first-none}
+use Rattle.house.proofs.Lists.Bounded.{any_more}
+use Rattle.house.proofs.Lists.ByRule.{first_is, first_none}
 use Rattle.boot.proofs.first_wrong.Statement.{statement}
 use Rattle.boot.proofs.first_wrong.Tie as tie
 
@@ -41,10 +41,10 @@ loop-less : tie.Need-loop-smaller invariant-loop decreases-loop
 loop-less c = search rules
 
 loop-again : tie.Need-loop-preserved invariant-loop decreases-loop
-loop-again c = (any-more (pages_wrong c.before.before.before.before.before.before.args.pages.now) c.before.before.before.before.loop.i c.before.before.before.before.loop.invariant.0 (sym c.before.wrong.ensures ∙ c.if1.false), omega arith)
+loop-again c = (any_more (pages_wrong c.before.before.before.before.before.before.args.pages.now) c.before.before.before.before.loop.i c.before.before.before.before.loop.invariant.0 (sym c.before.wrong.ensures ∙ c.if1.false), omega arith)
 
 returns-2 : tie.Need-returns-2 invariant-loop decreases-loop
-returns-2 c = rw (le_antisymm c.loop-test.false c.before.loop.invariant.1) (sym (first-none (pages_wrong c.before.before.before.args.pages.now) c.before.loop.i c.before.loop.invariant.0))
+returns-2 c = rw (le_antisymm c.loop-test.false c.before.loop.invariant.1) (sym (first_none (pages_wrong c.before.before.before.args.pages.now) c.before.loop.i c.before.loop.invariant.0))
 
 pub first-wrong-spec : {M : Type 1} → statement M
 first-wrong-spec =

@@ -4,7 +4,7 @@ use native.Mathlib.Omega.{arith}
 use lib.ListN.{length}
 use Rattle.house.specs.Boot.{offset, laid}
 use Rattle.boot.specs.Places.{filled}
-use Rattle.house.proofs.Boot.Offsets.{laid-after}
+use Rattle.house.proofs.Boot.Offsets.{laid_after}
 use Rattle.boot.proofs.Places.{filled_none, filled_whole}
 use Rattle.boot.proofs.lay.Statement.{statement}
 use Rattle.boot.proofs.lay.Tie as tie
@@ -32,7 +32,7 @@ loop-again : tie.Need-loop-preserved invariant-loop decreases-loop
 loop-again c = (c.lay-one.ensures.1, c.lay-one.ensures.0, omega arith)
 
 returns : tie.Need-returns invariant-loop decreases-loop
-returns c = c.before.loop.invariant.0 ∙ filled_whole (laid c.before.before.before.before.args.pages.now c.before.before.before.before.args.frames.now) 0 2048 (c.before.loop.i * 256) (λ j a. laid-after c.before.before.before.before.args.pages.now c.before.before.before.before.args.frames.now j (omega arith))
+returns c = c.before.loop.invariant.0 ∙ filled_whole (laid c.before.before.before.before.args.pages.now c.before.before.before.before.args.frames.now) 0 2048 (c.before.loop.i * 256) (λ j a. laid_after c.before.before.before.before.args.pages.now c.before.before.before.before.args.frames.now j (omega arith))
 
 pub lay-spec : {M : Type 1} → statement M
 lay-spec =

@@ -6,7 +6,7 @@ use borrow.Author.Rules.{rules}
 use lib.ListN.{length, get_or}
 use Rattle.house.specs.Boot.{laid}
 use Rattle.boot.specs.Places.{filled}
-use Rattle.house.proofs.Boot.Offsets.{offset-more, offset-in, laid-page, laid-behind}
+use Rattle.house.proofs.Boot.Offsets.{offset_more, offset_in, laid_page, laid_behind}
 use Rattle.boot.proofs.Places.{filled_more, filled_rest}
 use Rattle.boot.proofs.lay_one.Statement.{statement}
 use Rattle.boot.proofs.lay_one.Tie as tie
@@ -33,7 +33,7 @@ loop-holds : tie.Need-loop-init invariant-loop decreases-loop
 loop-holds c =
     let s = c.before.before.before.before in
     let z : s.args.i * 256 + 0 ≡ s.args.i * 256 = omega arith in
-    (rw z s.requires.1.1.1, zero-le, omega (arith, c.wide.ensures, s.requires.0.few.pages s.args.i), omega (arith, c.wide.ensures, s.requires.0.long, s.requires.1.1.0, offset-in s.args.pages.now s.args.i), omega (arith, s.requires.0.few.count, s.requires.1.0))
+    (rw z s.requires.1.1.1, zero-le, omega (arith, c.wide.ensures, s.requires.0.few.pages s.args.i), omega (arith, c.wide.ensures, s.requires.0.long, s.requires.1.1.0, offset_in s.args.pages.now s.args.i), omega (arith, s.requires.0.few.count, s.requires.1.0))
 
 add-places : tie.Need-overflow-add-places invariant-loop decreases-loop
 add-places c = omega arith
@@ -65,7 +65,7 @@ loop-again c =
     let v = s.requires.1.1.0 in
     let k = c.before.before.loop.k in
     let w : k < get_or s.args.pages.now s.args.i 0 = omega (arith, c.before.before.before.wide.ensures) in
-    let e = laid-page s.args.pages.now s.args.frames.now s.args.i k w (s.requires.0.few.pages s.args.i) in
+    let e = laid_page s.args.pages.now s.args.frames.now s.args.i k w (s.requires.0.few.pages s.args.i) in
     let z : s.args.i * 256 + k + 1 ≡ s.args.i * 256 + (k + 1) = omega arith in
     (rw (c.before.before.loop.invariant.0, v, ← e, ← z) (filled_more (laid s.args.pages.now s.args.frames.now) 0 2048 (s.args.i * 256 + k) (omega arith)), omega arith, omega arith, omega arith, omega arith)
 
@@ -76,8 +76,8 @@ returns : tie.Need-returns invariant-loop decreases-loop
 returns c =
     let s = c.before.before.before.before.before.before in
     let e = le_antisymm c.loop-test.false c.before.loop.invariant.1 in (
-      omega (arith, s.requires.1.1.0, c.before.before.wide.ensures, offset-more s.args.pages.now s.args.i),
-      c.before.loop.invariant.0 ∙ filled_rest (laid s.args.pages.now s.args.frames.now) 0 2048 (s.args.i * 256 + c.before.loop.k) ((s.args.i + 1) * 256) (omega arith) (λ j a b. laid-behind s.args.pages.now s.args.frames.now s.args.i j (omega (arith, c.before.before.wide.ensures)) b),
+      omega (arith, s.requires.1.1.0, c.before.before.wide.ensures, offset_more s.args.pages.now s.args.i),
+      c.before.loop.invariant.0 ∙ filled_rest (laid s.args.pages.now s.args.frames.now) 0 2048 (s.args.i * 256 + c.before.loop.k) ((s.args.i + 1) * 256) (omega arith) (λ j a b. laid_behind s.args.pages.now s.args.frames.now s.args.i j (omega (arith, c.before.before.wide.ensures)) b),
     )
 
 pub lay-one-spec : {M : Type 1} → statement M

@@ -5,7 +5,7 @@ use native.Mathlib.Omega.{arith}
 use borrow.Author.Rules.{rules}
 use lib.ListN.{length}
 use Rattle.house.specs.Boot.{offset}
-use Rattle.house.proofs.Boot.Offsets.{offset-more, offset-sum}
+use Rattle.house.proofs.Boot.Offsets.{offset_more, offset_sum}
 use Rattle.boot.proofs.total.Statement.{statement}
 use Rattle.boot.proofs.total.Tie as tie
 
@@ -38,10 +38,10 @@ loop-less : tie.Need-loop-smaller invariant-loop decreases-loop
 loop-less c = search rules
 
 loop-again : tie.Need-loop-preserved invariant-loop decreases-loop
-loop-again c = (omega (arith, offset-more c.before.before.before.before.before.args.pages.now c.before.before.before.loop.i), omega (arith, c.before.before.before.before.before.requires.pages c.before.before.before.loop.i), omega arith)
+loop-again c = (omega (arith, offset_more c.before.before.before.before.before.args.pages.now c.before.before.before.loop.i), omega (arith, c.before.before.before.before.before.requires.pages c.before.before.before.loop.i), omega arith)
 
 returns : tie.Need-returns invariant-loop decreases-loop
-returns c = c.before.loop.invariant.0 ∙ ap (offset c.before.before.before.args.pages.now) (sym (le_antisymm c.loop-test.false c.before.loop.invariant.2)) ∙ offset-sum c.before.before.before.args.pages.now
+returns c = c.before.loop.invariant.0 ∙ ap (offset c.before.before.before.args.pages.now) (sym (le_antisymm c.loop-test.false c.before.loop.invariant.2)) ∙ offset_sum c.before.before.before.args.pages.now
 
 pub total-spec : {M : Type 1} → statement M
 total-spec =

@@ -6,7 +6,7 @@ use borrow.Author.Rules.{rules}
 use Rattle.decimal.specs.Texts.{Puts, joined}
 use Rattle.decimal.proofs.Texts.{parts_begin, parts_on, parts_end}
 use Rattle.house.specs.Boot.{offset}
-use Rattle.house.proofs.Boot.Offsets.{offset-more, offset-in}
+use Rattle.house.proofs.Boot.Offsets.{offset_more, offset_in}
 use Rattle.contents.specs.Contents.{list_record}
 use Rattle.contents.proofs.Put.{list_put}
 use Rattle.contents.proofs.put_lists.Statement.{statement}
@@ -40,11 +40,11 @@ wide-requires c κs = search rules
 
 -- src/lib.rt:28:18
 add-to : tie.Need-overflow-add-to invariant-loop decreases-loop
-add-to c = omega (arith, c.wide.ensures, c.before.before.before.loop.invariant.1, c.before.before.before.before.before.before.before.requires.pages c.before.before.before.loop.i, c.before.before.before.before.before.before.before.requires.lists, offset-in c.before.before.before.before.before.before.before.args.pages.now c.before.before.before.loop.i)
+add-to c = omega (arith, c.wide.ensures, c.before.before.before.loop.invariant.1, c.before.before.before.before.before.before.before.requires.pages c.before.before.before.loop.i, c.before.before.before.before.before.before.before.requires.lists, offset_in c.before.before.before.before.before.before.before.args.pages.now c.before.before.before.loop.i)
 
 -- src/lib.rt:29:39
 mul-put-record : tie.Need-overflow-mul-put-record invariant-loop decreases-loop
-mul-put-record c = let l : c.before.before.before.before.loop.from ≤ length c.before.before.before.before.before.before.before.before.args.frames.now = omega (arith, c.before.before.before.before.loop.invariant.1, c.before.before.before.before.before.before.before.before.requires.lists, offset-in c.before.before.before.before.before.before.before.before.args.pages.now c.before.before.before.before.loop.i) in search (rules, l)
+mul-put-record c = let l : c.before.before.before.before.loop.from ≤ length c.before.before.before.before.before.before.before.before.args.frames.now = omega (arith, c.before.before.before.before.loop.invariant.1, c.before.before.before.before.before.before.before.before.requires.lists, offset_in c.before.before.before.before.before.before.before.before.args.pages.now c.before.before.before.before.loop.i) in search (rules, l)
 
 -- src/lib.rt:29:39
 sub-put-record : tie.Need-overflow-sub-put-record invariant-loop decreases-loop
@@ -56,7 +56,7 @@ part-put-record-start c = search rules
 
 -- src/lib.rt:29:39
 part-put-record-end : tie.Need-slice-bounds-put-record-end invariant-loop decreases-loop
-part-put-record-end c = omega (arith, c.before.wide.ensures, c.before.before.before.before.loop.invariant.1, c.before.before.before.before.before.before.before.before.requires.lists, offset-in c.before.before.before.before.before.before.before.before.args.pages.now c.before.before.before.before.loop.i)
+part-put-record-end c = omega (arith, c.before.wide.ensures, c.before.before.before.before.loop.invariant.1, c.before.before.before.before.before.before.before.before.requires.lists, offset_in c.before.before.before.before.before.before.before.before.args.pages.now c.before.before.before.before.loop.i)
 
 -- src/lib.rt:29:9
 put-record-requires : tie.Need-put-record-requires invariant-loop decreases-loop
@@ -76,7 +76,7 @@ loop-again c =
     let a = c.before.before.before.before.before.before.before.before.before.before.before.before.args in
     let i = c.before.before.before.before.before.before.before.before.loop.i in
     let e = c.before.before.before.before.before.before.before.before.loop.invariant.1 in
-    (parts_on (list_record a.pages.now a.frames.now) 1030 i c.before.before.before.before.before.before.before.before.loop.invariant.0 (list_put a.pages.now a.frames.now i _ (c.before.before.before.before.before.before.before.before.loop.from + c.before.before.before.before.before.wide.result) e (omega (arith, c.before.before.before.before.before.wide.ensures)) (c.before.before.before.before.before.before.before.before.before.before.before.before.requires.pages i) c.before.before.before.before.before.before.before.before.before.before.before.before.requires.lists c.before.before.put_record.ensures), omega (arith, e, c.before.before.before.before.before.wide.ensures, offset-more a.pages.now i), omega arith, omega arith)
+    (parts_on (list_record a.pages.now a.frames.now) 1030 i c.before.before.before.before.before.before.before.before.loop.invariant.0 (list_put a.pages.now a.frames.now i _ (c.before.before.before.before.before.before.before.before.loop.from + c.before.before.before.before.before.wide.result) e (omega (arith, c.before.before.before.before.before.wide.ensures)) (c.before.before.before.before.before.before.before.before.before.before.before.before.requires.pages i) c.before.before.before.before.before.before.before.before.before.before.before.before.requires.lists c.before.before.put_record.ensures), omega (arith, e, c.before.before.before.before.before.wide.ensures, offset_more a.pages.now i), omega arith, omega arith)
 
 -- src/lib.rt:20:1
 same_length : tie.Need-same-length invariant-loop decreases-loop

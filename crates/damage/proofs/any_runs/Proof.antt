@@ -1,4 +1,4 @@
-use Rattle.house.proofs.Lists.Bounded.{any-more, any-yes}
+use Rattle.house.proofs.Lists.Bounded.{any_more, any_yes}
 use Rattle.house.specs.Lists.{any}
 use lib.ListN.{get_or}
 use Prim.Native.Nat.{ℕ, ◌≤◌, ◌-◌, zero-le}
@@ -23,7 +23,7 @@ element-copy-out-if1 : tie.Need-element-copy-out-if1 invariant-loop decreases-lo
 element-copy-out-if1 c = omega (arith, c.before.before.requires)
 
 returns : tie.Need-returns invariant-loop decreases-loop
-returns c = sym (any-yes _ _ _ c.before.before.loop-test.true c.if1.true)
+returns c = sym (any_yes _ _ _ c.before.before.loop-test.true c.if1.true)
 
 add-i : tie.Need-overflow-add-i invariant-loop decreases-loop
 add-i c = omega arith
@@ -32,7 +32,7 @@ loop-less : tie.Need-loop-smaller invariant-loop decreases-loop
 loop-less c = omega arith
 
 loop-again : tie.Need-loop-preserved invariant-loop decreases-loop
-loop-again c = (any-more _ _ c.before.before.before.loop.invariant.0 c.if1.false, omega arith)
+loop-again c = (any_more _ _ c.before.before.before.loop.invariant.0 c.if1.false, omega arith)
 
 returns-2 : tie.Need-returns-2 invariant-loop decreases-loop
 returns-2 c = let e = le_antisymm c.before.loop.invariant.1 c.loop-test.false in

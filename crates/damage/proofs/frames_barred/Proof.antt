@@ -5,7 +5,7 @@ use mathlib.Core.Path.{◌≡◌, refl, ◌∙◌, sym}
 use Prim.Native.Nat.{◌≤◌, ◌-◌, zero-le}
 use Rattle.dlx.specs.Parts.{inner}
 use Rattle.house.specs.Lists.{any}
-use Rattle.house.proofs.Lists.Bounded.{any-more, any-yes}
+use Rattle.house.proofs.Lists.Bounded.{any_more, any_yes}
 use Rattle.damage.specs.Marks.{frames_barred}
 use Rattle.damage.proofs.frames_barred.Statement.{statement}
 use Rattle.damage.proofs.frames_barred.Tie as tie
@@ -50,7 +50,7 @@ frame-barred-requires c κs = omega (arith, c.before.wide.ensures, c.before.befo
 returns : tie.Need-returns invariant-loop decreases-loop
 unfolding inner
 returns c = let a = c.before.before.before.before.before.before.before.before.args in let l = c.before.before.before.before.before.before.loop in
-    sym (any-yes (frames_barred a.parts a.frames.now a.size) a.n l.i c.before.before.before.before.before.loop-test.true (simp (add-sub_cancel_left, c.before.before.before.wide.ensures ∙ c.before.before.before.before.pages-at.ensures) at (sym c.before.frame-barred.ensures ∙ c.if1.true)))
+    sym (any_yes (frames_barred a.parts a.frames.now a.size) a.n l.i c.before.before.before.before.before.loop-test.true (simp (add-sub_cancel_left, c.before.before.before.wide.ensures ∙ c.before.before.before.before.pages-at.ensures) at (sym c.before.frame-barred.ensures ∙ c.if1.true)))
 
 add-i : tie.Need-overflow-add-i invariant-loop decreases-loop
 add-i c = omega arith
@@ -61,7 +61,7 @@ loop-less c = omega arith
 loop-again : tie.Need-loop-preserved invariant-loop decreases-loop
 unfolding inner
 loop-again c = let a = c.before.before.before.before.before.before.before.before.args in let l = c.before.before.before.before.before.before.loop in
-    (any-more (frames_barred a.parts a.frames.now a.size) l.i l.invariant.0 (simp (add-sub_cancel_left, c.before.before.before.wide.ensures ∙ c.before.before.before.before.pages-at.ensures) at (sym c.before.frame-barred.ensures ∙ c.if1.false)), omega arith)
+    (any_more (frames_barred a.parts a.frames.now a.size) l.i l.invariant.0 (simp (add-sub_cancel_left, c.before.before.before.wide.ensures ∙ c.before.before.before.before.pages-at.ensures) at (sym c.before.frame-barred.ensures ∙ c.if1.false)), omega arith)
 
 returns-2 : tie.Need-returns-2 invariant-loop decreases-loop
 returns-2 c = sym (rw (le_antisymm c.loop-test.false c.before.loop.invariant.1) c.before.loop.invariant.0)

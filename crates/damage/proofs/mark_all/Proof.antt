@@ -8,7 +8,7 @@ use mathlib.Core.Path.{◌≡◌, refl, ◌∙◌, ap, sym}
 use Prim.Native.Nat.{◌≤◌, ◌-◌, ◌+◌, zero-le}
 use Rattle.dlx.specs.Parts.{inner}
 use Rattle.house.specs.Lists.{any}
-use Rattle.house.proofs.Lists.Bounded.{any-more, any-yes}
+use Rattle.house.proofs.Lists.Bounded.{any_more, any_yes}
 use Rattle.damage.specs.Marks.{owners_of, twice_in}
 use Rattle.house.proofs.Lists.Bounded.{one_way}
 use Rattle.damage.proofs.Marks.{owners_length}
@@ -63,7 +63,7 @@ mark-requires c κs = let l = c.before.before.before.before.before.loop in
 returns : tie.Need-returns invariant-loop decreases-loop
 returns c = let a = c.before.before.before.before.before.before.before.before.before.args in let l = c.before.before.before.before.before.before.before.loop in
     let m = mark_part a.parts a.frames.now a.n l.i (c.before.before.before.before.before.before.before.before.before.requires.2 l.i c.before.before.before.before.before.before.loop-test.true).1 _ _ _ _ _ _ (part_is a.frames.now l.i) (c.before.before.before.before.wide.ensures ∙ c.before.before.before.before.before.pages-at.ensures) l.invariant.2 l.invariant.1 c.before.mark.ensures.0 c.before.mark.ensures.2 in
-    (sym (any-yes (twice_in a.parts a.frames.now) a.n l.i c.before.before.before.before.before.before.loop-test.true (sym m.0 ∙ c.if1.true)), λ e. one_way true refl e)
+    (sym (any_yes (twice_in a.parts a.frames.now) a.n l.i c.before.before.before.before.before.before.loop-test.true (sym m.0 ∙ c.if1.true)), λ e. one_way true refl e)
 
 add-tag : tie.Need-overflow-add-tag invariant-loop decreases-loop
 add-tag c = omega arith
@@ -77,7 +77,7 @@ loop-less c = omega arith
 loop-again : tie.Need-loop-preserved invariant-loop decreases-loop
 loop-again c = let a = c.before.before.before.before.before.before.before.before.before.args in let l = c.before.before.before.before.before.before.before.loop in
     let m = mark_part a.parts a.frames.now a.n l.i (c.before.before.before.before.before.before.before.before.before.requires.2 l.i c.before.before.before.before.before.before.loop-test.true).1 _ _ _ _ _ _ (part_is a.frames.now l.i) (c.before.before.before.before.wide.ensures ∙ c.before.before.before.before.before.pages-at.ensures) l.invariant.2 l.invariant.1 c.before.mark.ensures.0 c.before.mark.ensures.2 in
-    (any-more (twice_in a.parts a.frames.now) l.i l.invariant.0 (sym m.0 ∙ c.if1.false), m.1 c.if1.false, omega arith, omega arith)
+    (any_more (twice_in a.parts a.frames.now) l.i l.invariant.0 (sym m.0 ∙ c.if1.false), m.1 c.if1.false, omega arith, omega arith)
 
 returns-2 : tie.Need-returns-2 invariant-loop decreases-loop
 returns-2 c = let l = c.before.loop in

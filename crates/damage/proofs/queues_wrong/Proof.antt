@@ -5,7 +5,7 @@ use mathlib.Core.Path.{◌≡◌, refl, ◌∙◌, sym}
 use Prim.Native.Nat.{◌≤◌, ◌-◌, zero-le}
 use Rattle.dlx.specs.Parts.{inner}
 use Rattle.house.specs.Lists.{any}
-use Rattle.house.proofs.Lists.Bounded.{any-more, any-yes}
+use Rattle.house.proofs.Lists.Bounded.{any_more, any_yes}
 use Rattle.damage.specs.Marks.{queue_at}
 use Rattle.damage.proofs.queues_wrong.Statement.{statement}
 use Rattle.damage.proofs.queues_wrong.Tie as tie
@@ -49,7 +49,7 @@ queue-wrong-requires c κs = omega arith
 
 returns : tie.Need-returns invariant-loop decreases-loop
 unfolding inner
-returns c = let a = c.before.before.before.before.before.before.before.args in let l = c.before.before.before.before.before.loop in sym (any-yes (queue_at a.count a.tickets.now a.waiting.now) 8 l.j c.before.before.before.before.loop-test.true (simp add-sub_cancel_left at (sym c.before.queue-wrong.ensures ∙ c.if1.true)))
+returns c = let a = c.before.before.before.before.before.before.before.args in let l = c.before.before.before.before.before.loop in sym (any_yes (queue_at a.count a.tickets.now a.waiting.now) 8 l.j c.before.before.before.before.loop-test.true (simp add-sub_cancel_left at (sym c.before.queue-wrong.ensures ∙ c.if1.true)))
 
 add-j : tie.Need-overflow-add-j invariant-loop decreases-loop
 add-j c = omega arith
@@ -59,7 +59,7 @@ loop-less c = omega arith
 
 loop-again : tie.Need-loop-preserved invariant-loop decreases-loop
 unfolding inner
-loop-again c = let a = c.before.before.before.before.before.before.before.args in let l = c.before.before.before.before.before.loop in (any-more (queue_at a.count a.tickets.now a.waiting.now) l.j l.invariant.0 (simp add-sub_cancel_left at (sym c.before.queue-wrong.ensures ∙ c.if1.false)), omega arith)
+loop-again c = let a = c.before.before.before.before.before.before.before.args in let l = c.before.before.before.before.before.loop in (any_more (queue_at a.count a.tickets.now a.waiting.now) l.j l.invariant.0 (simp add-sub_cancel_left at (sym c.before.queue-wrong.ensures ∙ c.if1.false)), omega arith)
 
 returns-2 : tie.Need-returns-2 invariant-loop decreases-loop
 returns-2 c = sym (rw (le_antisymm c.loop-test.false c.before.loop.invariant.1) c.before.loop.invariant.0)

@@ -4,7 +4,7 @@ use mathlib.Core.Bool.{false}
 use mathlib.Core.Path.{◌≡◌, refl, ◌∙◌, sym}
 use Prim.Native.Nat.{◌≤◌, ◌-◌, ◌*◌, zero-le}
 use Rattle.house.specs.Lists.{any}
-use Rattle.house.proofs.Lists.Bounded.{any-more, any-yes}
+use Rattle.house.proofs.Lists.Bounded.{any_more, any_yes}
 use Rattle.dlx.proofs.Parts.{part_at}
 use Rattle.damage.specs.Marks.{registers_at}
 use Rattle.damage.proofs.registers_wrong.Statement.{statement}
@@ -39,7 +39,7 @@ processor-wrong-requires : tie.Need-processor-wrong-requires invariant-loop decr
 processor-wrong-requires c κs = omega arith
 
 returns : tie.Need-returns invariant-loop decreases-loop
-returns c = let a = c.before.before.before.before.before.before.before.before.args in let l = c.before.before.before.before.before.before.loop in sym (any-yes (registers_at a.t1 a.regs.now) _ l.i c.before.before.before.before.before.loop-test.true (simp (part_at a.regs.now (l.i * 32) 32 0 (omega arith), add-zero) (sym c.before.processor-wrong.ensures ∙ c.if1.true)))
+returns c = let a = c.before.before.before.before.before.before.before.before.args in let l = c.before.before.before.before.before.before.loop in sym (any_yes (registers_at a.t1 a.regs.now) _ l.i c.before.before.before.before.before.loop-test.true (simp (part_at a.regs.now (l.i * 32) 32 0 (omega arith), add-zero) (sym c.before.processor-wrong.ensures ∙ c.if1.true)))
 
 add-i : tie.Need-overflow-add-i invariant-loop decreases-loop
 add-i c = omega arith
@@ -48,7 +48,7 @@ loop-less : tie.Need-loop-smaller invariant-loop decreases-loop
 loop-less c = omega arith
 
 loop-again : tie.Need-loop-preserved invariant-loop decreases-loop
-loop-again c = let a = c.before.before.before.before.before.before.before.before.args in let l = c.before.before.before.before.before.before.loop in (any-more (registers_at a.t1 a.regs.now) l.i l.invariant.0 (simp (part_at a.regs.now (l.i * 32) 32 0 (omega arith), add-zero) (sym c.before.processor-wrong.ensures ∙ c.if1.false)), omega arith)
+loop-again c = let a = c.before.before.before.before.before.before.before.before.args in let l = c.before.before.before.before.before.before.loop in (any_more (registers_at a.t1 a.regs.now) l.i l.invariant.0 (simp (part_at a.regs.now (l.i * 32) 32 0 (omega arith), add-zero) (sym c.before.processor-wrong.ensures ∙ c.if1.false)), omega arith)
 
 returns-2 : tie.Need-returns-2 invariant-loop decreases-loop
 returns-2 c = sym (rw (le_antisymm c.loop-test.false c.before.loop.invariant.1) c.before.loop.invariant.0)

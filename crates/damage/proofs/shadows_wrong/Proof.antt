@@ -5,7 +5,7 @@ use mathlib.Core.Path.{◌≡◌, refl, ◌∙◌, sym}
 use Prim.Native.Nat.{◌≤◌, ◌-◌, ◌+◌, zero-le}
 use Rattle.dlx.specs.Parts.{inner}
 use Rattle.house.specs.Lists.{any}
-use Rattle.house.proofs.Lists.Bounded.{any-more, any-yes}
+use Rattle.house.proofs.Lists.Bounded.{any_more, any_yes}
 use Rattle.damage.specs.Marks.{shadow_marked}
 use Rattle.damage.proofs.shadows_wrong.Statement.{statement}
 use Rattle.damage.proofs.shadows_wrong.Tie as tie
@@ -43,7 +43,7 @@ shadow-wrong-requires c κs = omega arith
 
 returns : tie.Need-returns invariant-loop decreases-loop
 unfolding inner
-returns c = let a = c.before.before.before.before.before.before.args in let l = c.before.before.before.before.loop in sym (any-yes (shadow_marked a.owners.now a.shadows.now) _ l.i c.before.before.before.loop-test.true (simp (add-sub_cancel_left, l.invariant.1) at (sym c.before.shadow-wrong.ensures ∙ c.if1.true)))
+returns c = let a = c.before.before.before.before.before.before.args in let l = c.before.before.before.before.loop in sym (any_yes (shadow_marked a.owners.now a.shadows.now) _ l.i c.before.before.before.loop-test.true (simp (add-sub_cancel_left, l.invariant.1) at (sym c.before.shadow-wrong.ensures ∙ c.if1.true)))
 
 add-tag : tie.Need-overflow-add-tag invariant-loop decreases-loop
 add-tag c = omega arith
@@ -56,7 +56,7 @@ loop-less c = omega arith
 
 loop-again : tie.Need-loop-preserved invariant-loop decreases-loop
 unfolding inner
-loop-again c = let a = c.before.before.before.before.before.before.args in let l = c.before.before.before.before.loop in (any-more (shadow_marked a.owners.now a.shadows.now) l.i l.invariant.0 (simp (add-sub_cancel_left, l.invariant.1) at (sym c.before.shadow-wrong.ensures ∙ c.if1.false)), omega arith, omega arith)
+loop-again c = let a = c.before.before.before.before.before.before.args in let l = c.before.before.before.before.loop in (any_more (shadow_marked a.owners.now a.shadows.now) l.i l.invariant.0 (simp (add-sub_cancel_left, l.invariant.1) at (sym c.before.shadow-wrong.ensures ∙ c.if1.false)), omega arith, omega arith)
 
 returns-2 : tie.Need-returns-2 invariant-loop decreases-loop
 returns-2 c = sym (rw (le_antisymm c.loop-test.false c.before.loop.invariant.2) c.before.loop.invariant.0)

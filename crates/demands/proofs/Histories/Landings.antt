@@ -23,14 +23,14 @@ landed store a e =
     if refused store (protection e) then fails protected_page else
     word (word_in (number e) a)
 
-hosted-lands : (fr : List ℕ) (n : ℕ) (store : Bool) (a : ℕ) (g : Found) → Within n g → landed store a (hosted fr g) ≡ listed fr store a g
+hosted_lands : (fr : List ℕ) (n : ℕ) (store : Bool) (a : ℕ) (g : Found) → Within n g → landed store a (hosted fr g) ≡ listed fr store a g
 unfolding hosted listed
-hosted-lands fr n store a (fault x) h = rw (fault_invalid x h)
-hosted-lands fr n store a (found k p) h =
+hosted_lands fr n store a (fault x) h = rw (fault_invalid x h)
+hosted_lands fr n store a (found k p) h =
     rw (valid_entry (get_or fr k 0) p h.1, protection_entry (get_or fr k 0) p h.1, number_entry (get_or fr k 0) p h.1)
     (by_test (refused store p) (λ e. rw e) (λ e. rw e))
 
 pub lands : (w : World) → Firm w → (i : ℕ) → i < w.house.count → (store user : Bool) (a : ℕ) → by_shadow w i store user a ≡ by_table w i store user a
 lands w st i l store user a =
     ap (landed store a) (reach (right_of w st i l) user a)
-    ∙ hosted-lands (frames_of w.house i) (pages_of w.house i) store a _ (found_within (pages_of w.house i) (lone_of w i).1 user a)
+    ∙ hosted_lands (frames_of w.house i) (pages_of w.house i) store a _ (found_within (pages_of w.house i) (lone_of w i).1 user a)

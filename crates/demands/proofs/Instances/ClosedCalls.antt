@@ -16,7 +16,7 @@ use Rattle.house.specs.Calls.{run_verdict, run_call, one_verdict, started, stopp
 use Rattle.house.specs.Sound.{Typed}
 use Rattle.demands.specs.Histories.{Call, run, start, stop, empty, after, history, steps_of, StaysRunning}
 use Rattle.house.proofs.Lists.Bounded.{and_right}
-use Rattle.demands.proofs.Histories.Stays.{after-stays}
+use Rattle.demands.proofs.Histories.Stays.{after_stays}
 
 -- ---- words
 
@@ -40,65 +40,65 @@ pub record Fit (n : ℕ) (w : World) : Type 0 where
   pub count : w.house.count ≡ n
 
 module _ {n : ℕ} (w : World) (f : Fit n w) where
-  pub fit-after : (c : Call) {v : World} → after c w ≡ v → Fit n v
-  fit-after c e =
-      let s = after-stays w f.typed f.whole c in
+  pub fit_after : (c : Call) {v : World} → after c w ≡ v → Fit n v
+  fit_after c e =
+      let s = after_stays w f.typed f.whole c in
       subst (Fit n) e (record { typed = s.typed; whole = s.whole; size = s.size ∙ f.size ∙ sym s.layout.words; count = s.layout.count ∙ f.count })
 
-  pub run-verdict : (k : ℕ) → k ≤ 1000000 → (w.house.left ≡ 0 → ⊥) → run_verdict w k ≡ verdict 0 k
+  pub run_verdict_lem : (k : ℕ) → k ≤ 1000000 → (w.house.left ≡ 0 → ⊥) → run_verdict w k ≡ verdict 0 k
   unfolding run_verdict first_of
-  run-verdict k l n = simp (f.whole, eq-eqb (length w.memory) w.house.words f.size, le-ltb 1000000 k l, ne_eqb w.house.left 0 n, and-false)
+  run_verdict_lem k l n = simp (f.whole, eq-eqb (length w.memory) w.house.words f.size, le-ltb 1000000 k l, ne_eqb w.house.left 0 n, and-false)
 
-  pub one-verdict : (i : ℕ) → i < n → one_verdict w.house i ≡ verdict 0 0
+  pub one_verdict_lem : (i : ℕ) → i < n → one_verdict w.house i ≡ verdict 0 0
   unfolding one_verdict first_of
-  one-verdict i l = simp (f.whole, f.count, lt-leb n i l)
+  one_verdict_lem i l = simp (f.whole, f.count, lt-leb n i l)
 
-  pub no-verdict : (i : ℕ) → n ≤ i → one_verdict w.house i ≡ verdict 10 0
+  pub no_verdict : (i : ℕ) → n ≤ i → one_verdict w.house i ≡ verdict 10 0
   unfolding one_verdict first_of
-  no-verdict i l = simp (f.whole, f.count, le-leb n i l)
+  no_verdict i l = simp (f.whole, f.count, le-leb n i l)
 
   pub after_run : (k : ℕ) → k ≤ 1000000 → (w.house.left ≡ 0 → ⊥) → (after (run k) w ≡ host_steps k w) × (steps_of (run k) w ≡ k)
   unfolding after run_call steps_of
-  after_run k l n = let v = run-verdict k l n in (rw v, rw v)
+  after_run k l n = let v = run_verdict_lem k l n in (rw v, rw v)
 
-  pub after-start : (i : ℕ) → i < n → after (start i) w ≡ world (started w.house i) w.memory
+  pub after_start : (i : ℕ) → i < n → after (start i) w ≡ world (started w.house i) w.memory
   unfolding after start_call
-  after-start i l = rw (one-verdict i l)
+  after_start i l = rw (one_verdict_lem i l)
 
   pub after_stop : (i : ℕ) → i < n → after (stop i) w ≡ world (stopped w.house i) w.memory
   unfolding after stop_call
-  after_stop i l = rw (one-verdict i l)
+  after_stop i l = rw (one_verdict_lem i l)
 
-  pub after-empty : (i : ℕ) → i < n → after (empty i) w ≡ world (emptied_house w.house i) w.memory
+  pub after_empty : (i : ℕ) → i < n → after (empty i) w ≡ world (emptied_house w.house i) w.memory
   unfolding after empty_call
-  after-empty i l = rw (one-verdict i l)
+  after_empty i l = rw (one_verdict_lem i l)
 
   pub after_refused : (i : ℕ) → n ≤ i → after (start i) w ≡ w
   unfolding after start_call
-  after_refused i l = rw (no-verdict i l)
+  after_refused i l = rw (no_verdict i l)
 
 -- ---- stays running, call by call
 
-first-of : Call → List Call → Call
-first-of c [] = c
-first-of c (d ∷ ds) = d
+first_of_lem : Call → List Call → Call
+first_of_lem c [] = c
+first_of_lem c (d ∷ ds) = d
 
 rest_of : List Call → List Call
 rest_of [] = []
 rest_of (d ∷ ds) = ds
 
-pub runs-at-end : (w : World) (i : ℕ) → runs w.house i ≡ true → StaysRunning [] w i
+pub runs_at_end : (w : World) (i : ℕ) → runs w.house i ≡ true → StaysRunning [] w i
 unfolding history
-runs-at-end w i r [] rest e = r
-runs-at-end w i r (d ∷ first) rest e = absurd (omega (arith, ap length e))
+runs_at_end w i r [] rest e = r
+runs_at_end w i r (d ∷ first) rest e = absurd (omega (arith, ap length e))
 
-pub runs-before : (c : Call) (cs : List Call) (w : World) (i : ℕ) → runs w.house i ≡ true → StaysRunning cs (after c w) i → StaysRunning (c ∷ cs) w i
-unfolding history first-of rest_of
-runs-before c cs w i r s [] rest e = r
-runs-before c cs w i r s (d ∷ first) rest e =
-    subst (λ (x : Call). runs (history first (after x w)).house i ≡ true) (ap (first-of c) e)
+pub runs_before : (c : Call) (cs : List Call) (w : World) (i : ℕ) → runs w.house i ≡ true → StaysRunning cs (after c w) i → StaysRunning (c ∷ cs) w i
+unfolding history first_of_lem rest_of
+runs_before c cs w i r s [] rest e = r
+runs_before c cs w i r s (d ∷ first) rest e =
+    subst (λ (x : Call). runs (history first (after x w)).house i ≡ true) (ap (first_of_lem c) e)
     (s first rest (ap rest_of e))
 
 -- the same, where the call leads to v
-pub runs-onward : (c : Call) (cs : List Call) (w v : World) (i : ℕ) → runs w.house i ≡ true → after c w ≡ v → StaysRunning cs v i → StaysRunning (c ∷ cs) w i
-runs-onward c cs w v i r e s = runs-before c cs w i r (subst (λ (x : World). StaysRunning cs x i) (sym e) s)
+pub runs_onward : (c : Call) (cs : List Call) (w v : World) (i : ℕ) → runs w.house i ≡ true → after c w ≡ v → StaysRunning cs v i → StaysRunning (c ∷ cs) w i
+runs_onward c cs w v i r e s = runs_before c cs w i r (subst (λ (x : World). StaysRunning cs x i) (sym e) s)

@@ -16,11 +16,11 @@ use Rattle.house.specs.Sound.{Shaped, Sound, Undamaged, LaidOut}
 use Rattle.house.specs.Calls.{run_verdict, run_call}
 use Rattle.demands.specs.Demands.{AgreeOn}
 use Rattle.house.specs.declared.House.{House}
-use Rattle.house.proofs.Turns.Kept.{sound-step}
-use Rattle.house.proofs.Turns.SameLayout.{same_layout, layout-on, step-layout}
-use Rattle.house.proofs.Damage.Undamaged.{undamaged-gives, sound}
+use Rattle.house.proofs.Turns.Kept.{sound_step}
+use Rattle.house.proofs.Turns.SameLayout.{same_layout, layout_on, step_layout}
+use Rattle.house.proofs.Damage.Undamaged.{undamaged_gives, sound}
 use Rattle.house.proofs.Calls.Verdicts.{RunDone, run_done}
-use Rattle.demands.proofs.Isolation.Isolated.{one_house, one-long, one-isolated}
+use Rattle.demands.proofs.Isolation.Isolated.{one_house, one_long, one_isolated}
 
 -- f is no partition's frame
 abbrev pub Nobodys : House → ℕ → Type 0
@@ -40,8 +40,8 @@ module _ (h g : House) (s : LaidOut h g) (i : ℕ) where
   agree_of : (m m' : List ℕ) → AgreeOn g i m m' → AgreeOn h i m m'
   agree_of m m' a = rw (s.frames, s.pages i) at a
 
-  pub agree-in : (m m' : List ℕ) → AgreeOn h i m m' → AgreeOn g i m m'
-  agree-in m m' a = rw (s.frames, s.pages i) a
+  pub agree_in : (m m' : List ℕ) → AgreeOn h i m m' → AgreeOn g i m m'
+  agree_in m m' a = rw (s.frames, s.pages i) a
 
 module _ (h : House) (m : List ℕ) (u : Undamaged h) where
   -- ---- a step
@@ -51,26 +51,26 @@ module _ (h : House) (m : List ℕ) (u : Undamaged h) where
     here = omega (arith, o.here, s.count)
 
     agrees : AgreeOn g g.current ma mb
-    agrees = agree-in h g s g.current ma mb (r.own g.current here)
+    agrees = agree_in h g s g.current ma mb (r.own g.current here)
 
     -- another partition's frames are kept in both
-    others-own : (i : ℕ) → i < h.count → (i ≡ g.current → ⊥) → AgreeOn h i (host_step (world g ma)).memory (host_step (world g mb)).memory
-    others-own i l d k j b c =
+    others_own : (i : ℕ) → i < h.count → (i ≡ g.current → ⊥) → AgreeOn h i (host_step (world g ma)).memory (host_step (world g mb)).memory
+    others_own i l d k j b c =
         let f = get_or (frames_of h i) k 0 in
-        let t = one-isolated g ma mb o long agrees in
+        let t = one_isolated g ma mb o long agrees in
         let n : Own (frames_of g g.current) (pages_of g g.current) f → ⊥ = λ x. d (let y = own_of h g s g.current f x in (u.once i g.current k y.0 l here b y.1 (sym y.2)).0) in
         t.foreign f j n c ∙ r.own i l k j b c ∙ sym (t.foreign' f j n c)
 
-    step-agrees : InStep h m (host_step (world g ma)) (host_step (world g mb))
-    step-agrees =
-        let t = one-isolated g ma mb o long agrees in
+    step_agrees : InStep h m (host_step (world g ma)) (host_step (world g mb))
+    step_agrees =
+        let t = one_isolated g ma mb o long agrees in
         let a = (host_step (world g ma)).memory in
         let b = (host_step (world g mb)).memory in
         record {
           house = one_house g ma mb o long agrees;
           own = λ i l. by_eq i g.current
               (λ q. subst (λ (x : ℕ). AgreeOn h x a b) (sym q) (agree_of h g s g.current a b t.own))
-              (λ d. others-own i l d);
+              (λ d. others_own i l d);
           others = λ f j n l. t.foreign f j (λ x. n g.current here (own_of h g s g.current f x)) l ∙ r.others f j n l;
         }
 
@@ -82,52 +82,52 @@ module _ (h : House) (m : List ℕ) (u : Undamaged h) where
     long : length w.memory ≡ length w'.memory
     alike : InStep h m w w'
 
-  step-ran : (w w' : World) → Ran w w' → Ran (host_step w) (host_step w')
-  step-ran w w' r =
+  step_ran : (w w' : World) → Ran w w' → Ran (host_step w) (host_step w')
+  step_ran w w' r =
       let one : world w.house w'.memory ≡ w' = ap (λ (x : House). world x w'.memory) r.alike.house in
       let now = subst (InStep h m w) (sym one) r.alike in
       let at = w.house in
       record {
-        layout = layout-on h w.house _ r.layout (step-layout w);
-        sound = sound-step w r.sound;
-        long = subst (λ (x : World). length (host_step w).memory ≡ length (host_step x).memory) one (one-long at w.memory w'.memory r.sound r.long (agrees at w.memory w'.memory r.layout r.sound r.long now));
-        alike = subst (λ (x : World). InStep h m (host_step w) (host_step x)) one (step-agrees at w.memory w'.memory r.layout r.sound r.long now);
+        layout = layout_on h w.house _ r.layout (step_layout w);
+        sound = sound_step w r.sound;
+        long = subst (λ (x : World). length (host_step w).memory ≡ length (host_step x).memory) one (one_long at w.memory w'.memory r.sound r.long (agrees at w.memory w'.memory r.layout r.sound r.long now));
+        alike = subst (λ (x : World). InStep h m (host_step w) (host_step x)) one (step_agrees at w.memory w'.memory r.layout r.sound r.long now);
       }
 
-  steps-ran : (k : ℕ) (w w' : World) → Ran w w' → Ran (host_steps k w) (host_steps k w')
+  steps_ran : (k : ℕ) (w w' : World) → Ran w w' → Ran (host_steps k w) (host_steps k w')
   unfolding host_steps
-  steps-ran zero w w' r = r
-  steps-ran (suc k) w w' r = step-ran (host_steps k w) (host_steps k w') (steps-ran k w w' r)
+  steps_ran zero w w' r = r
+  steps_ran (suc k) w w' r = step_ran (host_steps k w) (host_steps k w') (steps_ran k w w' r)
 
 -- ---- a run
 
-pub same-verdict : (h : House) (m m' : List ℕ) → length m ≡ length m' → (k : ℕ) → run_verdict (world h m) k ≡ run_verdict (world h m') k
+pub same_verdict : (h : House) (m m' : List ℕ) → length m ≡ length m' → (k : ℕ) → run_verdict (world h m) k ≡ run_verdict (world h m') k
 unfolding run_verdict
-same-verdict h m m' long k = rw long
+same_verdict h m m' long k = rw long
 
 module _ (h : House) (m m' : List ℕ) (s : Shaped h) (long : length m ≡ length m') (same : (i : ℕ) → i < h.count → AgreeOn h i m m') where
-  given-alike : InStep h m (world h m) (world h m')
-  given-alike = record { house = refl; own = same; others = λ _ _ _ _. refl }
+  given_alike : InStep h m (world h m) (world h m')
+  given_alike = record { house = refl; own = same; others = λ _ _ _ _. refl }
 
-  done-alike : (k : ℕ) → RunDone (world h m) k → InStep h m (host_steps k (world h m)) (host_steps k (world h m'))
+  done_alike : (k : ℕ) → RunDone (world h m) k → InStep h m (host_steps k (world h m)) (host_steps k (world h m'))
   unfolding host_steps
-  done-alike zero d = given-alike
-  done-alike (suc k) d =
-      let u = undamaged-gives h d.whole in
+  done_alike zero d = given_alike
+  done_alike (suc k) d =
+      let u = undamaged_gives h d.whole in
       let r : Ran h m u (world h m) (world h m') = record {
         layout = same_layout h;
         sound = sound h d.whole m s d.size (d.busy (λ z. omega arith));
         long = long;
-        alike = given-alike;
+        alike = given_alike;
       } in
-      (steps-ran h m u (suc k) (world h m) (world h m') r).alike
+      (steps_ran h m u (suc k) (world h m) (world h m') r).alike
 
-  pub answers-alike : (k : ℕ) → InStep h m (run_call (world h m) k).world (run_call (world h m') k).world
+  pub answers_alike : (k : ℕ) → InStep h m (run_call (world h m) k).world (run_call (world h m') k).world
   unfolding run_call
-  answers-alike k =
+  answers_alike k =
       let w = world h m in
       let w' = world h m' in
-      subst (λ (v : Verdict). InStep h m (run_call w k).world (if eqb v.number 0 then host_steps k w' else w')) (same-verdict h m m' long k)
+      subst (λ (v : Verdict). InStep h m (run_call w k).world (if eqb v.number 0 then host_steps k w' else w')) (same_verdict h m m' long k)
       (either_both (InStep h m) (eqb (run_verdict w k).number 0)
-      (λ t. done-alike k (run_done w k (eqb-true (run_verdict w k).number 0 t)))
-      (λ _. given-alike))
+      (λ t. done_alike k (run_done w k (eqb-true (run_verdict w k).number 0 t)))
+      (λ _. given_alike))

@@ -9,56 +9,56 @@ use lib.ListN.{length, get_or, get_or-eq_default}
 use Rattle.dlx.proofs.Tests.{by_eq}
 use Rattle.house.specs.Boot.{sum, offset, laid}
 
-pub offset-more : (ps : List ℕ) (i : ℕ) → offset ps (i + 1) ≡ offset ps i + get_or ps i 0
+pub offset_more : (ps : List ℕ) (i : ℕ) → offset ps (i + 1) ≡ offset ps i + get_or ps i 0
 unfolding offset
-offset-more ps i = rw add-one
+offset_more ps i = rw add-one
 
-offset-cons : (n : ℕ) (ns : List ℕ) (i : ℕ) → offset (n ∷ ns) (suc i) ≡ n + offset ns i
+offset_cons : (n : ℕ) (ns : List ℕ) (i : ℕ) → offset (n ∷ ns) (suc i) ≡ n + offset ns i
 unfolding offset
-offset-cons n ns zero = omega arith
-offset-cons n ns (suc i) = omega (arith, offset-cons n ns i)
+offset_cons n ns zero = omega arith
+offset_cons n ns (suc i) = omega (arith, offset_cons n ns i)
 
-pub offset-sum : (ps : List ℕ) → offset ps (length ps) ≡ sum ps
+pub offset_sum : (ps : List ℕ) → offset ps (length ps) ≡ sum ps
 unfolding offset sum
-offset-sum [] = refl
-offset-sum (n ∷ ns) = offset-cons n ns (length ns) ∙ ap (λ (x : ℕ). n + x) (offset-sum ns)
+offset_sum [] = refl
+offset_sum (n ∷ ns) = offset_cons n ns (length ns) ∙ ap (λ (x : ℕ). n + x) (offset_sum ns)
 
-offset-most : (ps : List ℕ) (i : ℕ) → offset ps i ≤ sum ps
+offset_most : (ps : List ℕ) (i : ℕ) → offset ps i ≤ sum ps
 unfolding offset sum
-offset-most ps zero = omega arith
-offset-most [] (suc i) = omega (arith, offset-most [] i)
-offset-most (n ∷ ns) (suc i) = omega (arith, offset-cons n ns i, offset-most ns i)
+offset_most ps zero = omega arith
+offset_most [] (suc i) = omega (arith, offset_most [] i)
+offset_most (n ∷ ns) (suc i) = omega (arith, offset_cons n ns i, offset_most ns i)
 
 -- partition i's frames stand in the list
-pub offset-in : (ps : List ℕ) (i : ℕ) → offset ps i + get_or ps i 0 ≤ sum ps
-offset-in ps i = omega (arith, offset-more ps i, offset-most ps (i + 1))
+pub offset_in : (ps : List ℕ) (i : ℕ) → offset ps i + get_or ps i 0 ≤ sum ps
+offset_in ps i = omega (arith, offset_more ps i, offset_most ps (i + 1))
 
 -- and end where the next one's begin, at the latest
-pub offset-below : (ps : List ℕ) (i j : ℕ) → i < j → offset ps i + get_or ps i 0 ≤ offset ps j
+pub offset_below : (ps : List ℕ) (i j : ℕ) → i < j → offset ps i + get_or ps i 0 ≤ offset ps j
 unfolding offset
-offset-below ps i zero l = absurd (omega arith)
-offset-below ps i (suc j) l =
+offset_below ps i zero l = absurd (omega arith)
+offset_below ps i (suc j) l =
     by_eq i j
     (λ e. rw e (omega arith))
-    (λ d. omega (arith, offset-below ps i j (omega arith)))
+    (λ d. omega (arith, offset_below ps i j (omega arith)))
 
 -- ---- what stands at each place
 
 module _ (ps fr : List ℕ) where
-  pub laid-page : (i k : ℕ) → k < get_or ps i 0 → get_or ps i 0 ≤ 256 → laid ps fr (i * 256 + k) ≡ get_or fr (offset ps i + k) 0
+  pub laid_page : (i k : ℕ) → k < get_or ps i 0 → get_or ps i 0 ≤ 256 → laid ps fr (i * 256 + k) ≡ get_or fr (offset ps i + k) 0
   unfolding laid
-  laid-page i k l b =
+  laid_page i k l b =
       let a : (i * 256 + k) / 256 ≡ i = omega arith in
       let m : (i * 256 + k) % 256 ≡ k = omega arith in
       rw (a, m, lt-ltb k (get_or ps i 0) l)
 
-  pub laid-behind : (i j : ℕ) → i * 256 + get_or ps i 0 ≤ j → j < (i + 1) * 256 → laid ps fr j ≡ 0
+  pub laid_behind : (i j : ℕ) → i * 256 + get_or ps i 0 ≤ j → j < (i + 1) * 256 → laid ps fr j ≡ 0
   unfolding laid
-  laid-behind i j l b =
+  laid_behind i j l b =
       let a : j / 256 ≡ i = omega arith in
       rw (a, le-ltb (j % 256) (get_or ps i 0) (omega arith))
 
-  pub laid-after : (j : ℕ) → length ps * 256 ≤ j → laid ps fr j ≡ 0
+  pub laid_after : (j : ℕ) → length ps * 256 ≤ j → laid ps fr j ≡ 0
   unfolding laid
-  laid-after j l =
+  laid_after j l =
       rw (get_or-eq_default ps 0 {n = j / 256} (omega arith), le-ltb (j % 256) 0 (omega arith))

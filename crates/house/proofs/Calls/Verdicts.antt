@@ -36,8 +36,8 @@ pub record BootDone (ps : List ℕ) (q : ℕ) (fr : List ℕ) (words : ℕ) : Ty
   pub kept : (k : ℕ) → k < length fr → get_or fr k 0 ≡ 0 → ⊥
   pub once : (j k : ℕ) → j < length fr → k < length fr → get_or fr j 0 ≡ get_or fr k 0 → j ≡ k
 
-never-earlier : (fr : List ℕ) → any (stood_earlier fr) (length fr) ≡ false → (j k : ℕ) → j < k → k < length fr → get_or fr j 0 ≡ get_or fr k 0 → ⊥
-never-earlier fr e j k l m =
+never_earlier : (fr : List ℕ) → any (stood_earlier fr) (length fr) ≡ false → (j k : ℕ) → j < k → k < length fr → get_or fr j 0 ≡ get_or fr k 0 → ⊥
+never_earlier fr e j k l m =
     eqb-false (get_or fr j 0) (get_or fr k 0) (any_none (λ j. eqb (get_or fr j 0) (get_or fr k 0)) k (any_none (stood_earlier fr) (length fr) e k m) j l)
 
 pub boot_done : (ps : List ℕ) (q : ℕ) (fr : List ℕ) (words : ℕ) → (boot_verdict ps q fr words).number ≡ 0 → BootDone ps q fr words
@@ -61,7 +61,7 @@ boot_done ps q fr words e =
       long = eqb-true (length fr) (sum ps) (not-false _ f.0);
       inside = λ k l. leb-false (words / 1024) (get_or fr k 0) (any_none (frame_outside fr words) (length fr) g.0 k l);
       kept = λ k l. eqb-false (get_or fr k 0) 0 (any_none (frame_kept fr) (length fr) z.0 k l);
-      once = λ j k l m r. by_order j k (λ t. absurd (never-earlier fr i.0 j k t m r)) (λ z. z) (λ t. absurd (never-earlier fr i.0 k j t l (sym r)));
+      once = λ j k l m r. by_order j k (λ t. absurd (never_earlier fr i.0 j k t m r)) (λ z. z) (λ t. absurd (never_earlier fr i.0 k j t l (sym r)));
     }
 
 -- a run that is done
@@ -71,8 +71,8 @@ pub record RunDone (w : World) (k : ℕ) : Type 0 where
   pub most : k ≤ 1000000
   pub busy : (k ≡ 0 → ⊥) → w.house.left ≡ 0 → ⊥
 
-some-busy : (k l : ℕ) → (not (eqb k 0) && eqb l 0) ≡ false → (k ≡ 0 → ⊥) → l ≡ 0 → ⊥
-some-busy k l e n z = eqb-false l 0 (simp (ne_eqb k 0 n) at e) z
+some_busy : (k l : ℕ) → (not (eqb k 0) && eqb l 0) ≡ false → (k ≡ 0 → ⊥) → l ≡ 0 → ⊥
+some_busy k l e n z = eqb-false l 0 (simp (ne_eqb k 0 n) at e) z
 
 pub run_done : (w : World) (k : ℕ) → (run_verdict w k).number ≡ 0 → RunDone w k
 unfolding run_verdict
@@ -85,7 +85,7 @@ run_done w k e =
       whole = a.0;
       size = eqb-true (length w.memory) w.house.words (not-false _ b.0);
       most = ltb-false 1000000 k c.0;
-      busy = some-busy k w.house.left d.0;
+      busy = some_busy k w.house.left d.0;
     }
 
 -- a start, stop or empty that is done
@@ -93,9 +93,9 @@ pub record OneDone (h : House) (i : ℕ) : Type 0 where
   pub whole : damaged h ≡ false
   pub there : i < h.count
 
-pub one-done : (h : House) (i : ℕ) → (one_verdict h i).number ≡ 0 → OneDone h i
+pub one_done : (h : House) (i : ℕ) → (one_verdict h i).number ≡ 0 → OneDone h i
 unfolding one_verdict
-one-done h i e =
+one_done h i e =
     let a = passed _ 8 _ _ _ (omega arith) e in
     let b = passed _ 10 _ _ _ (omega arith) a.1 in
     record { whole = a.0; there = leb-false h.count i b.0 }

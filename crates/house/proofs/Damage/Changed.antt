@@ -13,9 +13,9 @@ use Rattle.house.specs.Turns.{world}
 use Rattle.house.specs.Sound.{Proper, Undamaged, Typed, Stays}
 use Rattle.house.specs.declared.House.{House}
 use Rattle.house.specs.declared.Turn.{Turn}
-use Rattle.house.proofs.Damage.Updates.{guests-shaped, turn_typed, guests-typed}
-use Rattle.house.proofs.Turns.SameLayout.{changed, changed-layout}
-use Rattle.house.proofs.Damage.Denied.{undamaged-from}
+use Rattle.house.proofs.Damage.Updates.{guests_shaped, turn_typed, guests_typed}
+use Rattle.house.proofs.Turns.SameLayout.{changed, changed_layout}
+use Rattle.house.proofs.Damage.Denied.{undamaged_from}
 
 pub record FlagsRight (h : House) (running : List Bool) : Type 0 where
   pub long : length running ≡ 8
@@ -38,12 +38,12 @@ module _ (h : House) (m : List ℕ) (u : Undamaged h) (y : Typed (world h m)) wh
   pub same_flags : FlagsRight h h.running
   same_flags = record { long = y.shaped.running; still = λ i l b. (u.unused i l b).still }
 
-  pub same-shadows : ShadowsRight h h.shadows
-  same-shadows = record { long = y.shaped.shadows; proper = u.proper; none = λ i k l b. (u.unused i l b).shadows k; words = y.shadows }
+  pub same_shadows : ShadowsRight h h.shadows
+  same_shadows = record { long = y.shaped.shadows; proper = u.proper; none = λ i k l b. (u.unused i l b).shadows k; words = y.shadows }
 
   module _ (running : List Bool) (t : Turn) (shadows : List ℕ) (f : FlagsRight h running) (x : TurnRight h running t) (s : ShadowsRight h shadows) where
-    changed-undamaged : Undamaged (changed h running t shadows)
-    changed-undamaged = record {
+    changed_undamaged : Undamaged (changed h running t shadows)
+    changed_undamaged = record {
       some = u.some;
       few = u.few;
       pages = u.pages;
@@ -67,18 +67,18 @@ module _ (h : House) (m : List ℕ) (u : Undamaged h) (y : Typed (world h m)) wh
       queued = u.queued;
     }
 
-    turn-word : (t.current < 2 ^ 32) × (t.left < 2 ^ 32)
-    turn-word =
+    turn_word : (t.current < 2 ^ 32) × (t.left < 2 ^ 32)
+    turn_word =
         by_eq t.left 0
         (λ z. (omega (arith, (x.idle z).0), omega arith))
         (λ n. (omega (arith, (x.busy n).0, y.count), omega (arith, (x.busy n).2, y.q)))
 
-    pub changed-stays : Stays (world h m) (world (changed h running t shadows) m)
-    changed-stays = record {
+    pub changed_stays : Stays (world h m) (world (changed h running t shadows) m)
+    changed_stays = record {
       typed =
-          let x = turn_typed h m y running t f.long turn-word.0 turn-word.1 in
-          guests-typed _ m x _ (guests-shaped _ x.shaped _ y.shaped.parts y.shaped.regs s.long) y.parts y.regs s.words;
-      whole = undamaged-from _ changed-undamaged;
-      layout = changed-layout h running t shadows;
+          let x = turn_typed h m y running t f.long turn_word.0 turn_word.1 in
+          guests_typed _ m x _ (guests_shaped _ x.shaped _ y.shaped.parts y.shaped.regs s.long) y.parts y.regs s.words;
+      whole = undamaged_from _ changed_undamaged;
+      layout = changed_layout h running t shadows;
       size = refl;
     }

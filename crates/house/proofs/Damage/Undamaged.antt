@@ -21,105 +21,105 @@ use Rattle.tickets.specs.Queues.{places_of, waiting_of}
 use Rattle.house.specs.declared.House.{House}
 use Rattle.house.proofs.Lists.Bounded.{or_left, or_right, and_right, by_order, any_none}
 use Rattle.dlx.proofs.Parts.{inner_length}
-use Rattle.house.proofs.Damage.Conditions.{within, stands-none, is_zero, zeros, entry-proper, partition-unused, badPages, badFrames, frameStands, badCore, badEntry, badBehind, badUnused, badPlace}
+use Rattle.house.proofs.Damage.Conditions.{within, stands_none, is_zero, zeros, entry_proper, partition_unused, bad_pages, bad_frames, frame_stands, bad_core, bad_entry, bad_behind, bad_unused, bad_place}
 
 module _ (h : House) where
-  abbrev countOut : Bool
-  countOut = not (between 1 h.count 8)
+  abbrev count_out : Bool
+  count_out = not (between 1 h.count 8)
 
-  abbrev pagesOut : Bool
-  pagesOut = any (badPages h) h.count
+  abbrev pages_out : Bool
+  pages_out = any (bad_pages h) h.count
 
-  abbrev turnsOut : Bool
-  turnsOut = not (between 1 h.q 10000)
+  abbrev turns_out : Bool
+  turns_out = not (between 1 h.q 10000)
 
-  abbrev wordsOut : Bool
-  wordsOut = not (whole_frames h.words)
+  abbrev words_out : Bool
+  words_out = not (whole_frames h.words)
 
-  abbrev framesOut : Bool
-  framesOut = any (badFrames h) h.count
+  abbrev frames_out : Bool
+  frames_out = any (bad_frames h) h.count
 
   -- ---- each condition by itself
 
   module _ (e : outside_limits h ≡ false) where
-    four-limits : (countOut || pagesOut || turnsOut || wordsOut) ≡ false
+    four_limits : (count_out || pages_out || turns_out || words_out) ≡ false
     unfolding outside_limits
-    four-limits = or_left (countOut || pagesOut || turnsOut || wordsOut) framesOut e
+    four_limits = or_left (count_out || pages_out || turns_out || words_out) frames_out e
 
-    three-limits : (countOut || pagesOut || turnsOut) ≡ false
-    three-limits = or_left (countOut || pagesOut || turnsOut) wordsOut four-limits
+    three_limits : (count_out || pages_out || turns_out) ≡ false
+    three_limits = or_left (count_out || pages_out || turns_out) words_out four_limits
 
-    two-limits : (countOut || pagesOut) ≡ false
-    two-limits = or_left (countOut || pagesOut) turnsOut three-limits
+    two_limits : (count_out || pages_out) ≡ false
+    two_limits = or_left (count_out || pages_out) turns_out three_limits
 
-    limit-count : (1 ≤ h.count) × (h.count ≤ 8)
-    limit-count = within 1 h.count 8 (or_left countOut pagesOut two-limits)
+    limit_count : (1 ≤ h.count) × (h.count ≤ 8)
+    limit_count = within 1 h.count 8 (or_left count_out pages_out two_limits)
 
-    limit-pages : (i : ℕ) → i < h.count → (1 ≤ pages_of h i) × (pages_of h i ≤ 256)
-    limit-pages i l = within 1 (pages_of h i) 256 (any_none (badPages h) h.count (or_right countOut pagesOut two-limits) i l)
+    limit_pages : (i : ℕ) → i < h.count → (1 ≤ pages_of h i) × (pages_of h i ≤ 256)
+    limit_pages i l = within 1 (pages_of h i) 256 (any_none (bad_pages h) h.count (or_right count_out pages_out two_limits) i l)
 
-    limit-turns : (1 ≤ h.q) × (h.q ≤ 10000)
-    limit-turns = within 1 h.q 10000 (or_right (countOut || pagesOut) turnsOut three-limits)
+    limit_turns : (1 ≤ h.q) × (h.q ≤ 10000)
+    limit_turns = within 1 h.q 10000 (or_right (count_out || pages_out) turns_out three_limits)
 
-    whole-frames : whole_frames h.words ≡ true
-    whole-frames = not-false (whole_frames h.words) (or_right (countOut || pagesOut || turnsOut) wordsOut four-limits)
+    whole_frames_lem : whole_frames h.words ≡ true
+    whole_frames_lem = not-false (whole_frames h.words) (or_right (count_out || pages_out || turns_out) words_out four_limits)
 
-    limit-whole : h.words % 1024 ≡ 0
-    limit-whole = eqb-true (h.words % 1024) 0 (and_left (eqb (h.words % 1024) 0) (between 1 (h.words / 1024) 1024) whole-frames)
+    limit_whole : h.words % 1024 ≡ 0
+    limit_whole = eqb-true (h.words % 1024) 0 (and_left (eqb (h.words % 1024) 0) (between 1 (h.words / 1024) 1024) whole_frames_lem)
 
-    limit-size : (1 ≤ h.words / 1024) × (h.words / 1024 ≤ 1024)
-    limit-size = within 1 (h.words / 1024) 1024 (ap not (and_right (eqb (h.words % 1024) 0) (between 1 (h.words / 1024) 1024) whole-frames))
+    limit_size : (1 ≤ h.words / 1024) × (h.words / 1024 ≤ 1024)
+    limit_size = within 1 (h.words / 1024) 1024 (ap not (and_right (eqb (h.words % 1024) 0) (between 1 (h.words / 1024) 1024) whole_frames_lem))
 
-    not-barred : (i k : ℕ) → i < h.count → k < pages_of h i → frame_barred (h.words / 1024) (get_or (frames_of h i) k 0) ≡ false
+    not_barred : (i k : ℕ) → i < h.count → k < pages_of h i → frame_barred (h.words / 1024) (get_or (frames_of h i) k 0) ≡ false
     unfolding outside_limits
-    not-barred i k l m =
+    not_barred i k l m =
         any_none (λ k. frame_barred (h.words / 1024) (get_or (frames_of h i) k 0)) (pages_of h i)
-        (any_none (badFrames h) h.count (or_right (countOut || pagesOut || turnsOut || wordsOut) framesOut e) i l) k m
+        (any_none (bad_frames h) h.count (or_right (count_out || pages_out || turns_out || words_out) frames_out e) i l) k m
 
-    limit-frames : (i k : ℕ) → i < h.count → k < pages_of h i → get_or (frames_of h i) k 0 < h.words / 1024
-    limit-frames i k l m = leb-false (h.words / 1024) (get_or (frames_of h i) k 0) (or_left _ (eqb (get_or (frames_of h i) k 0) 0) (not-barred i k l m))
+    limit_frames : (i k : ℕ) → i < h.count → k < pages_of h i → get_or (frames_of h i) k 0 < h.words / 1024
+    limit_frames i k l m = leb-false (h.words / 1024) (get_or (frames_of h i) k 0) (or_left _ (eqb (get_or (frames_of h i) k 0) 0) (not_barred i k l m))
 
-    frames-kept : (i k : ℕ) → i < h.count → k < pages_of h i → get_or (frames_of h i) k 0 ≡ 0 → ⊥
-    frames-kept i k l m = eqb-false (get_or (frames_of h i) k 0) 0 (or_right (leb (h.words / 1024) (get_or (frames_of h i) k 0)) _ (not-barred i k l m))
+    frames_kept : (i k : ℕ) → i < h.count → k < pages_of h i → get_or (frames_of h i) k 0 ≡ 0 → ⊥
+    frames_kept i k l m = eqb-false (get_or (frames_of h i) k 0) 0 (or_right (leb (h.words / 1024) (get_or (frames_of h i) k 0)) _ (not_barred i k l m))
 
   module _ (e : frame_twice h ≡ false) where
-    stands-not : (i k : ℕ) → i < h.count → k < pages_of h i → frameStands h i k ≡ false
+    stands_not : (i k : ℕ) → i < h.count → k < pages_of h i → frame_stands h i k ≡ false
     unfolding frame_twice
-    stands-not i k l m = any_none (frameStands h i) (pages_of h i) (any_none (λ i. any (frameStands h i) (pages_of h i)) h.count e i l) k m
+    stands_not i k l m = any_none (frame_stands h i) (pages_of h i) (any_none (λ i. any (frame_stands h i) (pages_of h i)) h.count e i l) k m
 
     -- not earlier in its list, nor in an earlier partition's
     not_earlier : (i j k : ℕ) → i < h.count → k < pages_of h i → j < k → get_or (frames_of h i) j 0 ≡ get_or (frames_of h i) k 0 → ⊥
     not_earlier i j k l m n =
-        stands-none (frames_of h i) k (get_or (frames_of h i) k 0)
-        (or_left _ (any (λ j. stands (frames_of h j) (pages_of h j) (get_or (frames_of h i) k 0)) i) (stands-not i k l m)) j n
+        stands_none (frames_of h i) k (get_or (frames_of h i) k 0)
+        (or_left _ (any (λ j. stands (frames_of h j) (pages_of h j) (get_or (frames_of h i) k 0)) i) (stands_not i k l m)) j n
 
-    not-before : (i j k x : ℕ) → i < h.count → k < pages_of h i → j < i → x < pages_of h j → get_or (frames_of h j) x 0 ≡ get_or (frames_of h i) k 0 → ⊥
-    not-before i j k x l m n o =
-        stands-none (frames_of h j) (pages_of h j) (get_or (frames_of h i) k 0)
+    not_before : (i j k x : ℕ) → i < h.count → k < pages_of h i → j < i → x < pages_of h j → get_or (frames_of h j) x 0 ≡ get_or (frames_of h i) k 0 → ⊥
+    not_before i j k x l m n o =
+        stands_none (frames_of h j) (pages_of h j) (get_or (frames_of h i) k 0)
         (any_none (λ j. stands (frames_of h j) (pages_of h j) (get_or (frames_of h i) k 0)) i
-        (or_right (stands (frames_of h i) k (get_or (frames_of h i) k 0)) _ (stands-not i k l m)) j n) x o
+        (or_right (stands (frames_of h i) k (get_or (frames_of h i) k 0)) _ (stands_not i k l m)) j n) x o
 
-    same-list : (i k l : ℕ) → i < h.count → k < pages_of h i → l < pages_of h i → get_or (frames_of h i) k 0 ≡ get_or (frames_of h i) l 0 → k ≡ l
-    same-list i k l b m n q =
+    same_list : (i k l : ℕ) → i < h.count → k < pages_of h i → l < pages_of h i → get_or (frames_of h i) k 0 ≡ get_or (frames_of h i) l 0 → k ≡ l
+    same_list i k l b m n q =
         by_order k l (λ t. absurd (not_earlier i k l b n t q)) (λ e. e) (λ t. absurd (not_earlier i l k b m t (sym q)))
 
-    frames-once : (i j k l : ℕ) → i < h.count → j < h.count → k < pages_of h i → l < pages_of h j → get_or (frames_of h i) k 0 ≡ get_or (frames_of h j) l 0 → (i ≡ j) × (k ≡ l)
-    frames-once i j k l a b m n q =
+    frames_once : (i j k l : ℕ) → i < h.count → j < h.count → k < pages_of h i → l < pages_of h j → get_or (frames_of h i) k 0 ≡ get_or (frames_of h j) l 0 → (i ≡ j) × (k ≡ l)
+    frames_once i j k l a b m n q =
         by_order i j
-        (λ t. absurd (not-before j i l k b n t m q))
-        (λ z. (z, same-list i k l a m (subst (λ (v : ℕ). l < pages_of h v) (sym z) n) (q ∙ ap (λ (v : ℕ). get_or (frames_of h v) l 0) (sym z))))
-        (λ t. absurd (not-before i j k l a m t n (sym q)))
+        (λ t. absurd (not_before j i l k b n t m q))
+        (λ z. (z, same_list i k l a m (subst (λ (v : ℕ). l < pages_of h v) (sym z) n) (q ∙ ap (λ (v : ℕ). get_or (frames_of h v) l 0) (sym z))))
+        (λ t. absurd (not_before i j k l a m t n (sym q)))
 
   module _ (e : turn_wrong h ≡ false) where
-    turn-idle : h.left ≡ 0 → (h.current ≡ 0) × ((i : ℕ) → i < 8 → runs h i ≡ false)
+    turn_idle : h.left ≡ 0 → (h.current ≡ 0) × ((i : ℕ) → i < 8 → runs h i ≡ false)
     unfolding turn_wrong
-    turn-idle z =
+    turn_idle z =
         let t : (not (eqb h.current 0) || any (runs h) 8) ≡ false = simp (eq-eqb h.left 0 z) at e in
         (is_zero h.current (or_left _ (any (runs h) 8) t), any_none (runs h) 8 (or_right (not (eqb h.current 0)) _ t))
 
-    turn-busy : (h.left ≡ 0 → ⊥) → (h.current < h.count) × (runs h h.current ≡ true) × (h.left ≤ h.q)
+    turn_busy : (h.left ≡ 0 → ⊥) → (h.current < h.count) × (runs h h.current ≡ true) × (h.left ≤ h.q)
     unfolding turn_wrong
-    turn-busy n =
+    turn_busy n =
         let t : (leb h.count h.current || not (runs h h.current) || ltb h.q h.left) ≡ false = simp (ne_eqb h.left 0 n) at e in
         let s = or_left (leb h.count h.current || not (runs h h.current)) (ltb h.q h.left) t in (
           leb-false h.count h.current (or_left (leb h.count h.current) (not (runs h h.current)) s),
@@ -128,60 +128,60 @@ module _ (h : House) where
         )
 
   module _ (e : registers_wrong h ≡ false) (i : ℕ) (l : i < h.count) where
-    core-right : badCore h i ≡ false
+    core_right : bad_core h i ≡ false
     unfolding registers_wrong
-    core-right = any_none (badCore h) h.count e i l
+    core_right = any_none (bad_core h) h.count e i l
 
     abbrev first_wrong : Bool
     first_wrong = not (eqb (get_or (registers_of h i) 0 0) 0)
 
-    abbrev mode-wrong : Bool
-    mode-wrong = ltb 1 (partition h i).processor.mode
+    abbrev mode_wrong : Bool
+    mode_wrong = ltb 1 (partition h i).processor.mode
 
-    abbrev emode-wrong : Bool
-    emode-wrong = ltb 1 (partition h i).processor.emode
+    abbrev emode_wrong : Bool
+    emode_wrong = ltb 1 (partition h i).processor.emode
 
-    three-right : (first_wrong || mode-wrong || emode-wrong) ≡ false
-    three-right = or_left (first_wrong || mode-wrong || emode-wrong) (ltb 7 (partition h i).fault) core-right
+    three_right : (first_wrong || mode_wrong || emode_wrong) ≡ false
+    three_right = or_left (first_wrong || mode_wrong || emode_wrong) (ltb 7 (partition h i).fault) core_right
 
-    core-first : get_or (registers_of h i) 0 0 ≡ 0
-    core-first = is_zero _ (or_left first_wrong mode-wrong (or_left (first_wrong || mode-wrong) emode-wrong three-right))
+    core_first : get_or (registers_of h i) 0 0 ≡ 0
+    core_first = is_zero _ (or_left first_wrong mode_wrong (or_left (first_wrong || mode_wrong) emode_wrong three_right))
 
-    core-mode : (partition h i).processor.mode ≤ 1
-    core-mode = ltb-false 1 _ (or_right first_wrong mode-wrong (or_left (first_wrong || mode-wrong) emode-wrong three-right))
+    core_mode : (partition h i).processor.mode ≤ 1
+    core_mode = ltb-false 1 _ (or_right first_wrong mode_wrong (or_left (first_wrong || mode_wrong) emode_wrong three_right))
 
-    core-emode : (partition h i).processor.emode ≤ 1
-    core-emode = ltb-false 1 _ (or_right (first_wrong || mode-wrong) emode-wrong three-right)
+    core_emode : (partition h i).processor.emode ≤ 1
+    core_emode = ltb-false 1 _ (or_right (first_wrong || mode_wrong) emode_wrong three_right)
 
-    core-fault : (partition h i).fault ≤ 7
-    core-fault = ltb-false 7 _ (or_right (first_wrong || mode-wrong || emode-wrong) (ltb 7 (partition h i).fault) core-right)
+    core_fault : (partition h i).fault ≤ 7
+    core_fault = ltb-false 7 _ (or_right (first_wrong || mode_wrong || emode_wrong) (ltb 7 (partition h i).fault) core_right)
 
-  entries-proper : shadow_wrong h ≡ false → (i px : ℕ) → i < h.count → px < entries → Proper (frames_of h i) (pages_of h i) (get_or (shadow_of h i) px 0)
+  entries_proper : shadow_wrong h ≡ false → (i px : ℕ) → i < h.count → px < entries → Proper (frames_of h i) (pages_of h i) (get_or (shadow_of h i) px 0)
   unfolding shadow_wrong
-  entries-proper e i px l m =
-      entry-proper (frames_of h i) (pages_of h i) (get_or (shadow_of h i) px 0)
-      (any_none (badEntry h i) entries (any_none (λ i. any (badEntry h i) entries) h.count e i l) px m)
+  entries_proper e i px l m =
+      entry_proper (frames_of h i) (pages_of h i) (get_or (shadow_of h i) px 0)
+      (any_none (bad_entry h i) entries (any_none (λ i. any (bad_entry h i) entries) h.count e i l) px m)
 
   module _ (e : unused_wrong h ≡ false) (i : ℕ) where
-    place-right : i < 8 → badPlace h i ≡ false
+    place_right : i < 8 → bad_place h i ≡ false
     unfolding unused_wrong
-    place-right l = any_none (badPlace h) 8 e i l
+    place_right l = any_none (bad_place h) 8 e i l
 
-    place-behind : (k : ℕ) → i < h.count → i < 8 → pages_of h i ≤ k → k < 256 → get_or (frames_of h i) k 0 ≡ 0
-    place-behind k l m n o =
-        let a : any (badBehind h i) 256 ≡ false = simp (lt-ltb i h.count l) at (place-right m) in
-        let b = any_none (badBehind h i) 256 a k o in
+    place_behind : (k : ℕ) → i < h.count → i < 8 → pages_of h i ≤ k → k < 256 → get_or (frames_of h i) k 0 ≡ 0
+    place_behind k l m n o =
+        let a : any (bad_behind h i) 256 ≡ false = simp (lt-ltb i h.count l) at (place_right m) in
+        let b = any_none (bad_behind h i) 256 a k o in
         is_zero _ (simp (le-leb (pages_of h i) k n) at b)
 
-    place-unused : h.count ≤ i → i < 8 → Unused h i
-    place-unused l m =
-        let a : badUnused h i ≡ false = simp (le-ltb i h.count l) at (place-right m) in
+    place_unused : h.count ≤ i → i < 8 → Unused h i
+    place_unused l m =
+        let a : bad_unused h i ≡ false = simp (le-ltb i h.count l) at (place_right m) in
         let b = or_left (runs h i || partition_used (partition h i) || not_zero h.regs (i * 32) 32 || not_zero h.frames (i * 256) 256) (not_zero h.shadows (i * entries) entries) a in
         let c = or_left (runs h i || partition_used (partition h i) || not_zero h.regs (i * 32) 32) (not_zero h.frames (i * 256) 256) b in
         let d = or_left (runs h i || partition_used (partition h i)) (not_zero h.regs (i * 32) 32) c in
         record {
           still = or_left (runs h i) (partition_used (partition h i)) d;
-          none = partition-unused (partition h i) (or_right (runs h i) (partition_used (partition h i)) d);
+          none = partition_unused (partition h i) (or_right (runs h i) (partition_used (partition h i)) d);
           regs = zeros h.regs (i * 32) 32 (or_right (runs h i || partition_used (partition h i)) (not_zero h.regs (i * 32) 32) c);
           frames = zeros h.frames (i * 256) 256 (or_right (runs h i || partition_used (partition h i) || not_zero h.regs (i * 32) 32) (not_zero h.frames (i * 256) 256) b);
           shadows = zeros h.shadows (i * entries) entries (or_right (runs h i || partition_used (partition h i) || not_zero h.regs (i * 32) 32 || not_zero h.frames (i * 256) 256) (not_zero h.shadows (i * entries) entries) a);
@@ -197,26 +197,26 @@ module _ (h : House) where
     abbrev left_behind : ℕ → Bool
     left_behind k = leb (waiting_of (queues_of h) j) k && not (eqb (get_or (places_of (queues_of h) j) k 0) 0)
 
-    queue-not : queue_wrong h j ≡ false
+    queue_not : queue_wrong h j ≡ false
     unfolding queues_wrong
-    queue-not = any_none (queue_wrong h) 8 e j l
+    queue_not = any_none (queue_wrong h) 8 e j l
 
-    queue-proper : ProperQueue h.count (queues_of h) j
-    queue-proper =
-        let a = or_left (above || absent) (any left_behind 32) queue-not in
+    queue_proper : ProperQueue h.count (queues_of h) j
+    queue_proper =
+        let a = or_left (above || absent) (any left_behind 32) queue_not in
         record {
           most = ltb-false 32 _ (or_left above absent a);
           none = λ m. let z : absent ≡ false = or_right above absent a in is_zero _ (simp (le-leb h.count j m) at z);
           spare = λ k m n.
-              let z : left_behind k ≡ false = any_none left_behind 32 (or_right (above || absent) (any left_behind 32) queue-not) k n in
+              let z : left_behind k ≡ false = any_none left_behind 32 (or_right (above || absent) (any left_behind 32) queue_not) k n in
               is_zero _ (simp (le-leb (waiting_of (queues_of h) j) k m) at z);
         }
 
   -- ---- all together
 
-  pub undamaged-gives : damaged h ≡ false → Undamaged h
+  pub undamaged_gives : damaged h ≡ false → Undamaged h
   unfolding damaged
-  undamaged-gives e =
+  undamaged_gives e =
       let A = outside_limits h in
       let B = frame_twice h in
       let C = turn_wrong h in
@@ -234,47 +234,47 @@ module _ (h : House) where
       let cores = or_right (A || B || C) D e₂ in
       let places = or_right (A || B || C || D || E) F e₀ in
       record {
-        some = (limit-count limits).0;
-        few = (limit-count limits).1;
-        pages = limit-pages limits;
-        turns = limit-turns limits;
-        whole = limit-whole limits;
-        size = limit-size limits;
-        inside = limit-frames limits;
-        kept = frames-kept limits;
-        once = frames-once (or_right A B e₄);
-        idle = turn-idle turns;
-        busy = turn-busy turns;
-        first = core-first cores;
-        mode = core-mode cores;
-        emode = core-emode cores;
-        fault = core-fault cores;
-        proper = entries-proper (or_right (A || B || C || D) E e₁);
-        behind = λ i k l m n. place-behind places i k l (omega (arith, (limit-count limits).1)) m n;
-        unused = place-unused places;
-        queued = queue-proper (or_right (A || B || C || D || E || F) G e);
+        some = (limit_count limits).0;
+        few = (limit_count limits).1;
+        pages = limit_pages limits;
+        turns = limit_turns limits;
+        whole = limit_whole limits;
+        size = limit_size limits;
+        inside = limit_frames limits;
+        kept = frames_kept limits;
+        once = frames_once (or_right A B e₄);
+        idle = turn_idle turns;
+        busy = turn_busy turns;
+        first = core_first cores;
+        mode = core_mode cores;
+        emode = core_emode cores;
+        fault = core_fault cores;
+        proper = entries_proper (or_right (A || B || C || D) E e₁);
+        behind = λ i k l m n. place_behind places i k l (omega (arith, (limit_count limits).1)) m n;
+        unused = place_unused places;
+        queued = queue_proper (or_right (A || B || C || D || E || F) G e);
       }
 
 -- ---- what other proofs cite
 
 module _ (h : House) (e : damaged h ≡ false) where
   abbrev u : Undamaged h
-  u = undamaged-gives h e
+  u = undamaged_gives h e
 
-  pub count-within : (1 ≤ h.count) × (h.count ≤ 8)
-  count-within = (u.some, u.few)
+  pub count_within : (1 ≤ h.count) × (h.count ≤ 8)
+  count_within = (u.some, u.few)
 
   pub words_whole : (h.words % 1024 ≡ 0) × (h.words ≤ 2 ^ 20)
   words_whole = (u.whole, omega (arith, u.whole, u.size.1))
 
   -- one is current, or 0 is named
-  pub current-below : h.current < h.count
-  current-below = by_eq h.left 0 (λ z. omega (arith, (u.idle z).0, u.some)) (λ n. (u.busy n).0)
+  pub current_below : h.current < h.count
+  current_below = by_eq h.left 0 (λ z. omega (arith, (u.idle z).0, u.some)) (λ n. (u.busy n).0)
 
   module _ (m : List ℕ) (s : Shaped h) (size : length m ≡ h.words) where
-    pub sound-partition : (i : ℕ) → i < h.count → SoundPartition (world h m) i
-    sound-partition i l =
-        let c = count-within in
+    pub sound_partition : (i : ℕ) → i < h.count → SoundPartition (world h m) i
+    sound_partition i l =
+        let c = count_within in
         let len = inner_length h.shadows (i * entries) entries (omega (arith, s.shadows)) in
         record {
           placed = record {
@@ -293,8 +293,8 @@ module _ (h : House) (e : damaged h ≡ false) where
           };
         }
 
-    pub queues-most : (j : ℕ) → waiting_of (queues_of h) j ≤ 32
-    queues-most j =
+    pub queues_most : (j : ℕ) → waiting_of (queues_of h) j ≤ 32
+    queues_most j =
         by_test (ltb j 8)
         (λ t. (u.queued j (ltb-true j 8 t)).most)
         (λ t. omega (arith, get_or-eq_default h.waiting 0 {n = j} (let k = ltb-false j 8 t in omega (arith, s.waiting))))
@@ -303,9 +303,9 @@ module _ (h : House) (e : damaged h ≡ false) where
     sound n = record {
       shaped = s;
       few = u.few;
-      each = sound-partition;
+      each = sound_partition;
       here = (u.busy n).0;
       left = omega (arith, n);
       turns = u.turns.0;
-      most = queues-most;
+      most = queues_most;
     }

@@ -18,9 +18,9 @@ use Rattle.house.specs.declared.Turn.{Turn}
 
 -- ---- every shadow empty
 
-pub fresh-long : length fresh_shadows ≡ all_entries
+pub fresh_long : length fresh_shadows ≡ all_entries
 unfolding fresh_shadows
-fresh-long = length-replicate {A = ℕ} all_entries 0
+fresh_long = length-replicate {A = ℕ} all_entries 0
 
 pub fresh_at : (k : ℕ) → get_or fresh_shadows k 0 ≡ 0
 unfolding fresh_shadows
@@ -28,20 +28,20 @@ fresh_at k = get_or_replicate_same all_entries 0 k
 
 -- ---- the arrays' lengths
 
-pub none-shaped : Shaped no_house
-none-shaped = record {
+pub none_shaped : Shaped no_house
+none_shaped = record {
   running = length-replicate {A = Bool} 8 false;
   parts = length-replicate {A = Partition} 8 no_partition;
   regs = length-replicate {A = ℕ} 256 0;
   frames = length-replicate {A = ℕ} 2048 0;
-  shadows = fresh-long;
+  shadows = fresh_long;
   tickets = length-replicate {A = ℕ} 256 0;
   waiting = length-replicate {A = ℕ} 8 0;
 }
 
 module _ (h : House) (s : Shaped h) where
-  pub layout-shaped : (l : Layout) → length l.frames ≡ 2048 → Shaped (with_layout h l)
-  layout-shaped l f = record {
+  pub layout_shaped : (l : Layout) → length l.frames ≡ 2048 → Shaped (with_layout h l)
+  layout_shaped l f = record {
     running = s.running;
     parts = s.parts;
     regs = s.regs;
@@ -51,8 +51,8 @@ module _ (h : House) (s : Shaped h) where
     waiting = s.waiting;
   }
 
-  pub turn-shaped : (running : List Bool) (t : Turn) → length running ≡ 8 → Shaped (with_turn h running t)
-  turn-shaped running t r = record {
+  pub turn_shaped : (running : List Bool) (t : Turn) → length running ≡ 8 → Shaped (with_turn h running t)
+  turn_shaped running t r = record {
     running = r;
     parts = s.parts;
     regs = s.regs;
@@ -62,8 +62,8 @@ module _ (h : House) (s : Shaped h) where
     waiting = s.waiting;
   }
 
-  pub guests-shaped : (g : Guests) → length g.parts ≡ 8 → length g.regs ≡ 256 → length g.shadows ≡ all_entries → Shaped (with_guests h g)
-  guests-shaped g p r z = record {
+  pub guests_shaped : (g : Guests) → length g.parts ≡ 8 → length g.regs ≡ 256 → length g.shadows ≡ all_entries → Shaped (with_guests h g)
+  guests_shaped g p r z = record {
     running = s.running;
     parts = p;
     regs = r;
@@ -73,8 +73,8 @@ module _ (h : House) (s : Shaped h) where
     waiting = s.waiting;
   }
 
-  pub queues-shaped : (k : Queues) → length k.tickets ≡ 256 → length k.waiting ≡ 8 → Shaped (with_queues h k)
-  queues-shaped k t w = record {
+  pub queues_shaped : (k : Queues) → length k.tickets ≡ 256 → length k.waiting ≡ 8 → Shaped (with_queues h k)
+  queues_shaped k t w = record {
     running = s.running;
     parts = s.parts;
     regs = s.regs;
@@ -87,9 +87,9 @@ module _ (h : House) (s : Shaped h) where
 -- ---- the numbers' sizes
 
 -- a partition of zeros but its PC and its pages
-zeros-typed : (pc n : ℕ) → pc < 2 ^ 32 → n < 2 ^ 32
+zeros_typed : (pc n : ℕ) → pc < 2 ^ 32 → n < 2 ^ 32
     → TypedPartition (with_processor (fresh_of n) (record { dpc = 0; pc = pc; sr = 0; esr = 0; eca = 0; epc = 0; edpc = 0; edata = 0; mode = 0; emode = 0 }))
-zeros-typed pc n l m = record {
+zeros_typed pc n l m = record {
   pages = m;
   dpc = omega arith;
   pc = l;
@@ -109,20 +109,20 @@ zeros-typed pc n l m = record {
   fault = omega arith;
 }
 
-pub fresh-typed : (n : ℕ) → n < 2 ^ 32 → TypedPartition (fresh_of n)
-fresh-typed n l = zeros-typed 4 n (omega arith) l
+pub fresh_typed : (n : ℕ) → n < 2 ^ 32 → TypedPartition (fresh_of n)
+fresh_typed n l = zeros_typed 4 n (omega arith) l
 
-pub unused-typed : TypedPartition no_partition
-unused-typed = zeros-typed 0 0 (omega arith) (omega arith)
+pub unused_typed : TypedPartition no_partition
+unused_typed = zeros_typed 0 0 (omega arith) (omega arith)
 
 unused_each : (n i : ℕ) → TypedPartition (get_or (replicate n no_partition) i no_partition)
-unused_each zero i = unused-typed
-unused_each (suc n) zero = unused-typed
+unused_each zero i = unused_typed
+unused_each (suc n) zero = unused_typed
 unused_each (suc n) (suc i) = unused_each n i
 
-pub none-typed : (m : List ℕ) → ((k : ℕ) → get_or m k 0 < 2 ^ 32) → Typed (world no_house m)
-none-typed m t = record {
-  shaped = none-shaped;
+pub none_typed : (m : List ℕ) → ((k : ℕ) → get_or m k 0 < 2 ^ 32) → Typed (world no_house m)
+none_typed m t = record {
+  shaped = none_shaped;
   count = omega arith;
   q = omega arith;
   words = omega arith;
@@ -138,10 +138,10 @@ none-typed m t = record {
 }
 
 module _ (h : House) (m : List ℕ) (y : Typed (world h m)) where
-  pub layout-typed : (l : Layout) → l.count < 2 ^ 32 → l.q < 2 ^ 32 → l.words < 2 ^ 32 → length l.frames ≡ 2048
+  pub layout_typed : (l : Layout) → l.count < 2 ^ 32 → l.q < 2 ^ 32 → l.words < 2 ^ 32 → length l.frames ≡ 2048
       → ((k : ℕ) → get_or l.frames k 0 < 2 ^ 32) → Typed (world (with_layout h l) m)
-  layout-typed l c q w s f = record {
-    shaped = layout-shaped h y.shaped l s;
+  layout_typed l c q w s f = record {
+    shaped = layout_shaped h y.shaped l s;
     count = c;
     q = q;
     words = w;
@@ -159,7 +159,7 @@ module _ (h : House) (m : List ℕ) (y : Typed (world h m)) where
   pub turn_typed : (running : List Bool) (t : Turn) → length running ≡ 8 → t.current < 2 ^ 32 → t.left < 2 ^ 32
       → Typed (world (with_turn h running t) m)
   turn_typed running t s c l = record {
-    shaped = turn-shaped h y.shaped running t s;
+    shaped = turn_shaped h y.shaped running t s;
     count = y.count;
     q = y.q;
     words = y.words;
@@ -174,9 +174,9 @@ module _ (h : House) (m : List ℕ) (y : Typed (world h m)) where
     memory = y.memory;
   }
 
-  pub guests-typed : (g : Guests) → Shaped (with_guests h g) → ((i : ℕ) → TypedPartition (get_or g.parts i no_partition))
+  pub guests_typed : (g : Guests) → Shaped (with_guests h g) → ((i : ℕ) → TypedPartition (get_or g.parts i no_partition))
       → ((k : ℕ) → get_or g.regs k 0 < 2 ^ 32) → ((k : ℕ) → get_or g.shadows k 0 < 2 ^ 32) → Typed (world (with_guests h g) m)
-  guests-typed g s p r z = record {
+  guests_typed g s p r z = record {
     shaped = s;
     count = y.count;
     q = y.q;
@@ -192,9 +192,9 @@ module _ (h : House) (m : List ℕ) (y : Typed (world h m)) where
     memory = y.memory;
   }
 
-  pub queues-typed : (k : Queues) → Shaped (with_queues h k) → ((j : ℕ) → get_or k.tickets j 0 < 2 ^ 32)
+  pub queues_typed : (k : Queues) → Shaped (with_queues h k) → ((j : ℕ) → get_or k.tickets j 0 < 2 ^ 32)
       → ((j : ℕ) → get_or k.waiting j 0 < 2 ^ 32) → Typed (world (with_queues h k) m)
-  queues-typed k s t w = record {
+  queues_typed k s t w = record {
     shaped = s;
     count = y.count;
     q = y.q;
@@ -211,8 +211,8 @@ module _ (h : House) (m : List ℕ) (y : Typed (world h m)) where
   }
 
   -- the same house in another memory
-  pub memory-typed : (m' : List ℕ) → ((k : ℕ) → get_or m' k 0 < 2 ^ 32) → Typed (world h m')
-  memory-typed m' t = record {
+  pub memory_typed : (m' : List ℕ) → ((k : ℕ) → get_or m' k 0 < 2 ^ 32) → Typed (world h m')
+  memory_typed m' t = record {
     shaped = y.shaped;
     count = y.count;
     q = y.q;

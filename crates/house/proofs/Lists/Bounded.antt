@@ -19,8 +19,8 @@ pub or_right : (a b : Bool) → (a || b) ≡ false → b ≡ false
 or_right true b e = cc
 or_right false b e = e
 
-pub or-none : {a b : Bool} → a ≡ false → b ≡ false → (a || b) ≡ false
-or-none e f = rw (e, f)
+pub or_none : {a b : Bool} → a ≡ false → b ≡ false → (a || b) ≡ false
+or_none e f = rw (e, f)
 
 pub and_right : (a b : Bool) → (a && b) ≡ true → b ≡ true
 and_right true b e = e
@@ -53,34 +53,34 @@ module _ (p : ℕ → Bool) where
   unfolding all
   all_more n e f = rw (add-one, f) e
 
-  pub all-no : (n i : ℕ) → i < n → p i ≡ false → all p n ≡ false
+  pub all_no : (n i : ℕ) → i < n → p i ≡ false → all p n ≡ false
   unfolding all
-  all-no zero i l f = absurd (omega arith)
-  all-no (suc n) i l f =
+  all_no zero i l f = absurd (omega arith)
+  all_no (suc n) i l f =
       by_test (eqb i n)
       (λ e. rw (subst (λ (x : ℕ). p x ≡ false) (eqb-true i n e) f))
-      (λ e. rw (all-no n i (omega (arith, eqb-false i n e)) f) (and-false (p n)))
+      (λ e. rw (all_no n i (omega (arith, eqb-false i n e)) f) (and-false (p n)))
 
   -- what it says of each
   pub all_at : (n : ℕ) → all p n ≡ true → (k : ℕ) → k < n → p k ≡ true
-  all_at n e k l = by_test (p k) (λ q. q) (λ q. one_way (all p n) e (all-no n k l q))
+  all_at n e k l = by_test (p k) (λ q. q) (λ q. one_way (all p n) e (all_no n k l q))
 
   pub all_from : (n : ℕ) → ((k : ℕ) → k < n → p k ≡ true) → all p n ≡ true
   unfolding all
   all_from zero h = refl
   all_from (suc n) h = rw (h n (omega arith)) (all_from n (λ k l. h k (omega arith)))
 
-  pub any-more : (n : ℕ) → any p n ≡ false → p n ≡ false → any p (n + 1) ≡ false
+  pub any_more : (n : ℕ) → any p n ≡ false → p n ≡ false → any p (n + 1) ≡ false
   unfolding any
-  any-more n e f = rw (add-one, f) e
+  any_more n e f = rw (add-one, f) e
 
-  pub any-yes : (n i : ℕ) → i < n → p i ≡ true → any p n ≡ true
+  pub any_yes : (n i : ℕ) → i < n → p i ≡ true → any p n ≡ true
   unfolding any
-  any-yes zero i l f = absurd (omega arith)
-  any-yes (suc n) i l f =
+  any_yes zero i l f = absurd (omega arith)
+  any_yes (suc n) i l f =
       by_test (eqb i n)
       (λ e. rw (subst (λ (x : ℕ). p x ≡ true) (eqb-true i n e) f))
-      (λ e. rw (any-yes n i (omega (arith, eqb-false i n e)) f) (or-true (p n)))
+      (λ e. rw (any_yes n i (omega (arith, eqb-false i n e)) f) (or-true (p n)))
 
   -- where one is found, and that none is
   pub any_at : (n : ℕ) → any p n ≡ true → (k : ℕ) × (k < n) × (p k ≡ true)
@@ -92,12 +92,12 @@ module _ (p : ℕ → Bool) where
       (λ q. let r = any_at n (rw q at e) in (r.0, omega (arith, r.1), r.2))
 
   pub any_none : (n : ℕ) → any p n ≡ false → (k : ℕ) → k < n → p k ≡ false
-  any_none n e k l = by_test (p k) (λ q. one_way (any p n) (any-yes n k l q) e) (λ q. q)
+  any_none n e k l = by_test (p k) (λ q. one_way (any p n) (any_yes n k l q) e) (λ q. q)
 
-  pub any-from : (n : ℕ) → ((k : ℕ) → k < n → p k ≡ false) → any p n ≡ false
+  pub any_from : (n : ℕ) → ((k : ℕ) → k < n → p k ≡ false) → any p n ≡ false
   unfolding any
-  any-from zero h = refl
-  any-from (suc n) h = rw (h n (omega arith)) (any-from n (λ k l. h k (omega arith)))
+  any_from zero h = refl
+  any_from (suc n) h = rw (h n (omega arith)) (any_from n (λ k l. h k (omega arith)))
 
 -- two tests that agree below n
 pub any_same : (p q : ℕ → Bool) (n : ℕ) → ((k : ℕ) → k < n → p k ≡ q k) → any p n ≡ any q n

@@ -16,24 +16,24 @@ use Rattle.house.specs.Turns.{World, guest, guest_memory, request_now, reply_now
 use Rattle.house.specs.Sound.{Sound, Proper, Ready}
 use Rattle.tickets.specs.Queues.{ProperQueue}
 use Rattle.dlx.proofs.Parts.{part_each, inner_length}
-use Rattle.house.proofs.Damage.Conditions.{empty-proper, own-proper}
-use Rattle.house.proofs.Damage.Denied.{undamaged-from}
+use Rattle.house.proofs.Damage.Conditions.{empty_proper, own_proper}
+use Rattle.house.proofs.Damage.Denied.{undamaged_from}
 use Rattle.tickets.proofs.Queues.{desk_reply, desk_words, desk_proper}
-use Rattle.house.proofs.Turns.Kept.{queued-of}
+use Rattle.house.proofs.Turns.Kept.{queued_of}
 use Rattle.house.proofs.Damage.Undamaged.{sound}
 
 module _ (w : World) (r : Ready w) where
   abbrev i : ℕ
   i = w.house.current
 
-  pub ready-sound : Sound w
-  ready-sound = sound w.house (undamaged-from w.house r.whole) w.memory r.typed.shaped r.size r.busy
+  pub ready_sound : Sound w
+  ready_sound = sound w.house (undamaged_from w.house r.whole) w.memory r.typed.shaped r.size r.busy
 
   pub here : i < w.house.count
   here = (r.whole.busy r.busy).0
 
-  core-kept : Kept (guest w i).0
-  core-kept =
+  core_kept : Kept (guest w i).0
+  core_kept =
       let p = r.typed.parts i in
       record {
         processor = record {
@@ -62,40 +62,40 @@ module _ (w : World) (r : Ready w) where
     table = record { pto = (r.typed.parts i).pto; ptl = (r.typed.parts i).ptl };
     long = refl;
     words = r.typed.memory;
-    shadowed = (ready-sound.each i here).shadowed;
+    shadowed = (ready_sound.each i here).shadowed;
     shadow = part_each (λ x. x < 2 ^ 32) w.house.shadows (i * entries) entries (omega arith) r.typed.shadows;
   }
 
-  shadow-proper : Each (Proper (frames_of w.house i) (pages_of w.house i)) (guest w i).1
-  shadow-proper px =
+  shadow_proper : Each (Proper (frames_of w.house i) (pages_of w.house i)) (guest w i).1
+  shadow_proper px =
       by_test (ltb px entries)
       (λ t. r.whole.proper i px here (ltb-true px entries t))
-      (λ t. rw (get_or-eq_default (shadow_of w.house i) 0 {n = px} (omega (arith, ltb-false px entries t, memory_kept.shadowed.count))) (empty-proper (frames_of w.house i) (pages_of w.house i)))
+      (λ t. rw (get_or-eq_default (shadow_of w.house i) 0 {n = px} (omega (arith, ltb-false px entries t, memory_kept.shadowed.count))) (empty_proper (frames_of w.house i) (pages_of w.house i)))
 
-  reply-kept : KeptReply (reply_now w i)
+  reply_kept : KeptReply (reply_now w i)
   unfolding reply_now
-  reply-kept = desk_reply w.house.count i (queues_of w.house) r.typed.tickets (request_now w i)
+  reply_kept = desk_reply w.house.count i (queues_of w.house) r.typed.tickets (request_now w i)
 
-  pub step-all : Kept (guest_step w i).0.core × (KeptHost (frames_of w.house i) (pages_of w.house i) (length w.memory) (guest_step w i).1 × Each (Proper (frames_of w.house i) (pages_of w.house i)) (guest_step w i).1)
+  pub step_all : Kept (guest_step w i).0.core × (KeptHost (frames_of w.house i) (pages_of w.house i) (length w.memory) (guest_step w i).1 × Each (Proper (frames_of w.house i) (pages_of w.house i)) (guest_step w i).1)
   unfolding guest_step
-  step-all =
+  step_all =
       let fr = frames_of w.house i in
       let n = pages_of w.house i in
       step_kept _ (guest_memory w.house i)
-      (each_keeps fr n (Proper fr n) (empty-proper fr n) (own-proper fr n) (length w.memory) (placed_listed (ready-sound.each i here).placed))
-      (reply_now w i) reply-kept (guest w i).0 (guest w i).1 core-kept (memory_kept, shadow-proper)
+      (each_keeps fr n (Proper fr n) (empty_proper fr n) (own_proper fr n) (length w.memory) (placed_listed (ready_sound.each i here).placed))
+      (reply_now w i) reply_kept (guest w i).0 (guest w i).1 core_kept (memory_kept, shadow_proper)
 
   -- the queues after it
-  pub next-words : (k : ℕ) → get_or (queues_next w i).tickets k 0 < 2 ^ 32
+  pub next_words : (k : ℕ) → get_or (queues_next w i).tickets k 0 < 2 ^ 32
   unfolding queues_next request_now
-  next-words =
+  next_words =
       let fr = frames_of w.house i in
       let n = pages_of w.house i in
       let g = asked_kept _ (guest_memory w.house i)
-      (each_keeps fr n (Proper fr n) (empty-proper fr n) (own-proper fr n) (length w.memory) (placed_listed (ready-sound.each i here).placed))
-      (guest w i).0 (guest w i).1 core-kept (memory_kept, shadow-proper) in
-      desk_words w.house.count i (queues_of w.house) r.typed.tickets (queued-of w.house r.typed.shaped ready-sound.most) (omega (arith, here, r.whole.few)) _ g
+      (each_keeps fr n (Proper fr n) (empty_proper fr n) (own_proper fr n) (length w.memory) (placed_listed (ready_sound.each i here).placed))
+      (guest w i).0 (guest w i).1 core_kept (memory_kept, shadow_proper) in
+      desk_words w.house.count i (queues_of w.house) r.typed.tickets (queued_of w.house r.typed.shaped ready_sound.most) (omega (arith, here, r.whole.few)) _ g
 
-  pub next-proper : (j : ℕ) → j < 8 → ProperQueue w.house.count (queues_next w i) j
+  pub next_proper : (j : ℕ) → j < 8 → ProperQueue w.house.count (queues_next w i) j
   unfolding queues_next
-  next-proper = desk_proper w.house.count i (queues_of w.house) (queued-of w.house r.typed.shaped ready-sound.most) r.whole.few (omega (arith, here, r.whole.few)) here r.whole.queued (request_now w i)
+  next_proper = desk_proper w.house.count i (queues_of w.house) (queued_of w.house r.typed.shaped ready_sound.most) r.whole.few (omega (arith, here, r.whole.few)) here r.whole.queued (request_now w i)

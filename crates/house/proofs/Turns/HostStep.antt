@@ -17,11 +17,11 @@ use Rattle.house.specs.Turns.{World, world, turn_after, guest_step, queued_on, c
 use Rattle.house.specs.Sound.{Proper, Undamaged, TypedPartition, Typed, Ready, Stays}
 use Rattle.house.specs.declared.Turn.{Turn}
 use Rattle.dlx.proofs.Parts.{outer_each}
-use Rattle.house.proofs.Damage.Updates.{turn_typed, guests-typed, queues-typed, memory-typed}
-use Rattle.house.proofs.Turns.Kept.{queued-of, queued-next, queued-shaped, steps-keep, in-turn, in-turn-on, InTurn, settled-pages, settled-shaped, settled-partition, settled-registers, settled-shadow, other-partition, other-registers, other-shadow}
-use Rattle.house.proofs.Damage.Denied.{undamaged-from}
-use Rattle.house.proofs.Turns.Guests.{ready-sound, here, step-all, next-words, next-proper}
-use Rattle.house.proofs.Turns.SameLayout.{steps-layout}
+use Rattle.house.proofs.Damage.Updates.{turn_typed, guests_typed, queues_typed, memory_typed}
+use Rattle.house.proofs.Turns.Kept.{queued_of, queued_next, queued_shaped, steps_keep, in_turn, in_turn_on, InTurn, settled_pages, settled_shaped, settled_partition, settled_registers, settled_shadow, other_partition, other_registers, other_shadow}
+use Rattle.house.proofs.Damage.Denied.{undamaged_from}
+use Rattle.house.proofs.Turns.Guests.{ready_sound, here, step_all, next_words, next_proper}
+use Rattle.house.proofs.Turns.SameLayout.{steps_layout}
 
 -- ---- the house in which the current partition's step came to o, and the turn to t
 
@@ -40,23 +40,23 @@ module _ (w : World) (r : Ready w) (o : Outcome × Host) (t : Turn) where
     small = omega (arith, here w r, r.whole.few)
 
     -- of the partition that made the step, and of another
-    own-or-other : (P : Partition → List ℕ → List ℕ → Type 0) (j : ℕ) → j < 8
+    own_or_other : (P : Partition → List ℕ → List ℕ → Type 0) (j : ℕ) → j < 8
         → (j ≡ i → P (counted (partition w.house i) o) o.0.core.registers o.1.shadow)
         → ((j ≡ i → ⊥) → P (partition w.house j) (registers_of w.house j) (shadow_of w.house j))
         → P (partition (settled_house w.house i o t) j) (registers_of (settled_house w.house i o t) j) (shadow_of (settled_house w.house i o t) j)
-    own-or-other P j l f g =
+    own_or_other P j l f g =
         let s = r.typed.shaped in
         let a = core.registers.count in
         let b = memory.shadowed.count in
         by_eq j i
-        (λ q. rw (q, settled-partition w i s small o a b t, settled-registers w i s small o a b t, settled-shadow w i s small o a b t) (f q))
-        (λ q. rw (other-partition w i s small o a b t j l q, other-registers w i s small o a b t j l q, other-shadow w i s small o a b t j l q) (g q))
+        (λ q. rw (q, settled_partition w i s small o a b t, settled_registers w i s small o a b t, settled_shadow w i s small o a b t) (f q))
+        (λ q. rw (other_partition w i s small o a b t j l q, other_registers w i s small o a b t j l q, other_shadow w i s small o a b t j l q) (g q))
 
-    settled-undamaged : Undamaged (settled_house w.house i o t)
+    settled_undamaged : Undamaged (settled_house w.house i o t)
     unfolding settled_house
-    settled-undamaged =
+    settled_undamaged =
         let u = r.whole in
-        let p = settled-pages w.house i o t in
+        let p = settled_pages w.house i o t in
         record {
           some = u.some;
           few = u.few;
@@ -69,28 +69,28 @@ module _ (w : World) (r : Ready w) (o : Outcome × Host) (t : Turn) where
           once = λ j j' k k' l l' m m'. u.once j j' k k' l l' (rw (p j) at m) (rw (p j') at m');
           idle = λ z. absurd (omega (arith, x.some));
           busy = λ _. (x.here, x.runs, x.most);
-          first = λ j l. own-or-other (λ _ g _. get_or g 0 0 ≡ 0) j (omega (arith, u.few)) (λ _. core.registers.first) (λ _. u.first j l);
-          mode = λ j l. own-or-other (λ p _ _. p.processor.mode ≤ 1) j (omega (arith, u.few)) (λ _. omega (arith, core.processor.mode)) (λ _. u.mode j l);
-          emode = λ j l. own-or-other (λ p _ _. p.processor.emode ≤ 1) j (omega (arith, u.few)) (λ _. omega (arith, core.processor.emode)) (λ _. u.emode j l);
-          fault = λ j l. own-or-other (λ p _ _. p.fault ≤ 7) j (omega (arith, u.few)) (λ _. omega (arith, core.fault)) (λ _. u.fault j l);
+          first = λ j l. own_or_other (λ _ g _. get_or g 0 0 ≡ 0) j (omega (arith, u.few)) (λ _. core.registers.first) (λ _. u.first j l);
+          mode = λ j l. own_or_other (λ p _ _. p.processor.mode ≤ 1) j (omega (arith, u.few)) (λ _. omega (arith, core.processor.mode)) (λ _. u.mode j l);
+          emode = λ j l. own_or_other (λ p _ _. p.processor.emode ≤ 1) j (omega (arith, u.few)) (λ _. omega (arith, core.processor.emode)) (λ _. u.emode j l);
+          fault = λ j l. own_or_other (λ p _ _. p.fault ≤ 7) j (omega (arith, u.few)) (λ _. omega (arith, core.fault)) (λ _. u.fault j l);
           proper = λ j px l m.
-              rw (p j) (own-or-other (λ _ _ s. Proper (frames_of w.house j) (pages_of w.house j) (get_or s px 0)) j (omega (arith, u.few)) (λ q. rw q (each px)) (λ _. u.proper j px l m));
+              rw (p j) (own_or_other (λ _ _ s. Proper (frames_of w.house j) (pages_of w.house j) (get_or s px 0)) j (omega (arith, u.few)) (λ q. rw q (each px)) (λ _. u.proper j px l m));
           behind = λ j k l m. u.behind j k l (rw (p j) at m);
           unused = λ j l m.
               let z = u.unused j l m in
               let d : j ≡ i → ⊥ = λ q. absurd (omega (arith, here w r)) in
               record {
                 still = z.still;
-                none = own-or-other (λ p _ _. p ≡ no_partition) j m (λ q. absurd (d q)) (λ _. z.none);
-                regs = own-or-other (λ _ g _. (k : ℕ) → k < 32 → get_or g k 0 ≡ 0) j m (λ q. absurd (d q)) (λ _. z.regs);
+                none = own_or_other (λ p _ _. p ≡ no_partition) j m (λ q. absurd (d q)) (λ _. z.none);
+                regs = own_or_other (λ _ g _. (k : ℕ) → k < 32 → get_or g k 0 ≡ 0) j m (λ q. absurd (d q)) (λ _. z.regs);
                 frames = z.frames;
-                shadows = own-or-other (λ _ _ s. (k : ℕ) → k < entries → get_or s k 0 ≡ 0) j m (λ q. absurd (d q)) (λ _. z.shadows);
+                shadows = own_or_other (λ _ _ s. (k : ℕ) → k < entries → get_or s k 0 ≡ 0) j m (λ q. absurd (d q)) (λ _. z.shadows);
               };
           queued = u.queued;
         }
 
-    counted-typed : TypedPartition (counted (partition w.house i) o)
-    counted-typed =
+    counted_typed : TypedPartition (counted (partition w.house i) o)
+    counted_typed =
         let p = core.processor in
         record {
           pages = (r.typed.parts i).pages;
@@ -112,38 +112,38 @@ module _ (w : World) (r : Ready w) (o : Outcome × Host) (t : Turn) where
           fault = omega (arith, core.fault);
         }
 
-    settled-typed : Typed (world (settled_house w.house i o t) o.1.words)
+    settled_typed : Typed (world (settled_house w.house i o t) o.1.words)
     unfolding settled_house
-    settled-typed =
+    settled_typed =
         let s = r.typed.shaped in
         let a = core.registers.count in
         let b = memory.shadowed.count in
         let y = turn_typed w.house w.memory r.typed w.house.running t s.running (omega (arith, x.here, r.typed.count)) (omega (arith, x.most, r.typed.q)) in
-        memory-typed _ w.memory
-        (guests-typed _ w.memory y _ (settled-shaped w i s small o a b t)
-        (λ j. get_or_set_elim TypedPartition w.house.parts i j _ no_partition (λ _. counted-typed) (r.typed.parts j))
+        memory_typed _ w.memory
+        (guests_typed _ w.memory y _ (settled_shaped w i s small o a b t)
+        (λ j. get_or_set_elim TypedPartition w.house.parts i j _ no_partition (λ _. counted_typed) (r.typed.parts j))
         (outer_each w.house.regs (i * 32) 32 (omega (arith, s.regs, small)) o.0.core.registers a (λ v. v < 2 ^ 32) r.typed.regs core.registers.words)
         (outer_each w.house.shadows (i * entries) entries (omega (arith, s.shadows, small)) o.1.shadow b (λ v. v < 2 ^ 32) r.typed.shadows memory.shadow))
         o.1.words memory.words
 
-    settled-ready : Ready (world (settled_house w.house i o t) o.1.words)
+    settled_ready : Ready (world (settled_house w.house i o t) o.1.words)
     unfolding settled_house
-    settled-ready = record {
-      typed = settled-typed;
-      whole = settled-undamaged;
+    settled_ready = record {
+      typed = settled_typed;
+      whole = settled_undamaged;
       size = memory.long ∙ r.size;
       busy = λ z. omega (arith, x.some);
     }
 
 -- ---- the house with the queues after the step
 
-queued-ready : (w : World) → Ready w → Ready (queued_on w)
-queued-ready w r =
+queued_ready : (w : World) → Ready w → Ready (queued_on w)
+queued_ready w r =
     let y = r.typed in
     let u = r.whole in
-    let q = queued-next w (queued-of w.house y.shaped (ready-sound w r).most) u.few (omega (arith, here w r, u.few)) in
+    let q = queued_next w (queued_of w.house y.shaped (ready_sound w r).most) u.few (omega (arith, here w r, u.few)) in
     record {
-      typed = queues-typed w.house w.memory y _ (queued-shaped w.house y.shaped _ q) (next-words w r) (λ k. omega (arith, q.most k));
+      typed = queues_typed w.house w.memory y _ (queued_shaped w.house y.shaped _ q) (next_words w r) (λ k. omega (arith, q.most k));
       whole = record {
         some = u.some;
         few = u.few;
@@ -163,7 +163,7 @@ queued-ready w r =
         proper = u.proper;
         behind = u.behind;
         unused = λ i l m. let z = u.unused i l m in record { still = z.still; none = z.none; regs = z.regs; frames = z.frames; shadows = z.shadows };
-        queued = next-proper w r;
+        queued = next_proper w r;
       };
       size = r.size;
       busy = r.busy;
@@ -171,20 +171,20 @@ queued-ready w r =
 
 -- ---- the host step
 
-pub step-ready : (w : World) → Ready w → Ready (host_step w)
+pub step_ready : (w : World) → Ready w → Ready (host_step w)
 unfolding host_step step_with
-step-ready w r =
+step_ready w r =
     let h = w.house in
     let o = guest_step w h.current in
-    let a = step-all w r in
-    settled-ready (queued_on w) (queued-ready w r) o (turn_after h 1 o.0.calls) a.0 a.1.0 a.1.1
-    (in-turn-on h.running h.count h.q h.current h.left o.0.calls (in-turn h r.whole r.busy))
+    let a = step_all w r in
+    settled_ready (queued_on w) (queued_ready w r) o (turn_after h 1 o.0.calls) a.0 a.1.0 a.1.1
+    (in_turn_on h.running h.count h.q h.current h.left o.0.calls (in_turn h r.whole r.busy))
 
-pub steps-ready : (n : ℕ) (w : World) → Ready w → Ready (host_steps n w)
-steps-ready = steps-keep Ready step-ready
+pub steps_ready : (n : ℕ) (w : World) → Ready w → Ready (host_steps n w)
+steps_ready = steps_keep Ready step_ready
 
-pub steps-stay : (n : ℕ) (w : World) → Ready w → Stays w (host_steps n w)
-steps-stay n w r =
-    let r' = steps-ready n w r in
-    let l = steps-layout n w in
-    record { typed = r'.typed; whole = undamaged-from _ r'.whole; layout = l; size = r'.size ∙ l.words ∙ sym r.size }
+pub steps_stay : (n : ℕ) (w : World) → Ready w → Stays w (host_steps n w)
+steps_stay n w r =
+    let r' = steps_ready n w r in
+    let l = steps_layout n w in
+    record { typed = r'.typed; whole = undamaged_from _ r'.whole; layout = l; size = r'.size ∙ l.words ∙ sym r.size }

@@ -1,5 +1,5 @@
 use Rattle.std.proofs.Common.{◌≡◌, ◌+◌, ◌≤◌, length, sym, ap, ◌∙◌, arith, rules}
-use Rattle.house.proofs.Boot.Offsets.{offset-in}
+use Rattle.house.proofs.Boot.Offsets.{offset_in}
 use Rattle.laying.proofs.Words.{image_laid}
 use Rattle.laying.proofs.lay_image.Statement.{statement}
 use Rattle.laying.proofs.lay_image.Tie as tie
@@ -24,7 +24,7 @@ wide-requires c κs = search rules
 
 -- src/lib.rt:126:14
 add-to : tie.Need-overflow-add-to
-add-to c = omega (arith, c.wide.ensures, c.before.pages-of.ensures, c.before.before.offset-of.ensures, c.before.before.before.before.before.before.before.requires.lists, offset-in c.before.before.before.before.before.before.before.args.pages.now c.before.before.before.before.before.before.before.args.owner)
+add-to c = omega (arith, c.wide.ensures, c.before.pages-of.ensures, c.before.before.offset-of.ensures, c.before.before.before.before.before.before.before.requires.lists, offset_in c.before.before.before.before.before.before.before.args.pages.now c.before.before.before.before.before.before.before.args.owner)
 
 -- src/lib.rt:127:17
 wide-requires-2 : tie.Need-wide-requires-2
@@ -32,7 +32,7 @@ wide-requires-2 c κs = search rules
 
 -- src/lib.rt:128:9
 mul-lay : tie.Need-overflow-mul-lay
-mul-lay c = let l : c.before.before.before.offset-of.result ≤ length c.before.before.before.before.before.before.before.before.args.frames.now = omega (arith, c.before.before.before.offset-of.ensures, c.before.before.before.before.before.before.before.before.requires.lists, offset-in c.before.before.before.before.before.before.before.before.args.pages.now c.before.before.before.before.before.before.before.before.args.owner) in search (rules, l)
+mul-lay c = let l : c.before.before.before.offset-of.result ≤ length c.before.before.before.before.before.before.before.before.args.frames.now = omega (arith, c.before.before.before.offset-of.ensures, c.before.before.before.before.before.before.before.before.requires.lists, offset_in c.before.before.before.before.before.before.before.before.args.pages.now c.before.before.before.before.before.before.before.before.args.owner) in search (rules, l)
 
 -- src/lib.rt:128:9
 sub-lay : tie.Need-overflow-sub-lay
@@ -44,7 +44,7 @@ part-lay-start c = search rules
 
 -- src/lib.rt:128:9
 part-lay-end : tie.Need-slice-bounds-lay-end
-part-lay-end c = omega (arith, c.before.wide.ensures, c.before.before.pages-of.ensures, c.before.before.before.offset-of.ensures, c.before.before.before.before.before.before.before.before.requires.lists, offset-in c.before.before.before.before.before.before.before.before.args.pages.now c.before.before.before.before.before.before.before.before.args.owner)
+part-lay-end c = omega (arith, c.before.wide.ensures, c.before.before.pages-of.ensures, c.before.before.before.offset-of.ensures, c.before.before.before.before.before.before.before.before.requires.lists, offset_in c.before.before.before.before.before.before.before.before.args.pages.now c.before.before.before.before.before.before.before.before.args.owner)
 
 -- src/lib.rt:128:5
 lay-requires : tie.Need-lay-requires

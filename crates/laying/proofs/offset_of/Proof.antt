@@ -1,6 +1,6 @@
 use Rattle.std.proofs.Common.{◌≡◌, ◌-◌, ◌*◌, ◌≤◌, sym, refl, ap, ◌∙◌, zero-le, arith, rules}
 use Rattle.house.specs.Boot.{offset}
-use Rattle.house.proofs.Boot.Offsets.{offset-more}
+use Rattle.house.proofs.Boot.Offsets.{offset_more}
 use Rattle.laying.proofs.offset_of.Statement.{statement}
 use Rattle.laying.proofs.offset_of.Tie as tie
 use Rattle.laying.proofs.offset_of.Reads as reads
@@ -40,7 +40,7 @@ loop-less c = search rules
 
 -- src/lib.rt:89:5
 loop-again : tie.Need-loop-preserved invariant-loop decreases-loop
-loop-again c = (omega (arith, c.wide.ensures, c.before.pages-of.ensures, c.before.before.before.loop.invariant.0, offset-more c.before.before.before.before.before.args.pages.now c.before.before.before.loop.i), omega (arith, c.wide.ensures, c.before.pages-of.ensures, c.before.before.before.before.before.requires c.before.before.before.loop.i), omega arith)
+loop-again c = (omega (arith, c.wide.ensures, c.before.pages-of.ensures, c.before.before.before.loop.invariant.0, offset_more c.before.before.before.before.before.args.pages.now c.before.before.before.loop.i), omega (arith, c.wide.ensures, c.before.pages-of.ensures, c.before.before.before.before.before.requires c.before.before.before.loop.i), omega arith)
 
 -- src/lib.rt:83:1
 returns : tie.Need-returns invariant-loop decreases-loop

@@ -5,8 +5,8 @@ use mathlib.Core.Bool.{false}
 use mathlib.Core.Path.{◌≡◌, refl, sym, ap, ◌∙◌}
 use Prim.Native.Nat.{◌≤◌, ◌-◌, zero-le}
 use Rattle.house.specs.Lists.{any}
-use Rattle.house.proofs.Lists.Bounded.{any-more, any-yes}
-use Rattle.house.proofs.Lists.ByRule.{first_is, first-none}
+use Rattle.house.proofs.Lists.Bounded.{any_more, any_yes}
+use Rattle.house.proofs.Lists.ByRule.{first_is, first_none}
 use Rattle.marks.specs.Marked.{marked, twice_marked}
 use Rattle.marks.proofs.Marked.{marked_more, mark_found, mark_free}
 use Rattle.marks.proofs.mark.Given as goal

@@ -4,7 +4,7 @@ use native.Mathlib.Omega.{arith}
 use borrow.Author.Rules.{rules}
 use borrow.Author.Tests.{lt-ltb, le-ltb}
 use Rattle.house.specs.Turns.{world}
-use Rattle.house.proofs.Lists.ByRule.{listFrom-replicate}
+use Rattle.house.proofs.Lists.ByRule.{list_from_replicate}
 use Rattle.staleness.specs.Audit.{stale_count, count_at, stale_counts}
 use Rattle.staleness.proofs.SoFar.{so_far, far_none, far_all, far_set}
 use Rattle.staleness.proofs.count_each.Statement.{statement}
@@ -17,7 +17,7 @@ abbrev decreases-loop : tie.decreases-loop
 decreases-loop h memory n each₀ i₀ each i = h.count - i
 
 loop-holds : tie.Need-loop-init invariant-loop decreases-loop
-loop-holds c = let a = c.before.args in (sym (far_none (count_at (world a.h a.memory.now)) (λ _. 0) 8 ∙ listFrom-replicate 0 0 8), zero-le)
+loop-holds c = let a = c.before.args in (sym (far_none (count_at (world a.h a.memory.now)) (λ _. 0) 8 ∙ list_from_replicate 0 0 8), zero-le)
 
 count-of-requires : tie.Need-count-of-requires invariant-loop decreases-loop
 count-of-requires c κs = let p = c.before.before.before.requires in (omega (arith, p.few, c.loop-test.true), p.each c.before.loop.i c.loop-test.true)

@@ -7,8 +7,8 @@ use borrow.Author.Rules.{rules}
 use Rattle.addresses.specs.Walk.{entries}
 use Rattle.house.specs.Lists.{any}
 use Rattle.staleness.specs.Audit.{stale_in}
-use Rattle.house.proofs.Lists.Bounded.{any-more}
-use Rattle.house.proofs.Lists.ByRule.{first_is, first-none}
+use Rattle.house.proofs.Lists.Bounded.{any_more}
+use Rattle.house.proofs.Lists.ByRule.{first_is, first_none}
 use Rattle.staleness.proofs.first_page.Statement.{statement}
 use Rattle.staleness.proofs.first_page.Tie as tie
 
@@ -46,11 +46,11 @@ loop-less c = search rules
 
 loop-again : tie.Need-loop-preserved invariant-loop decreases-loop
 loop-again c = let a = c.before.before.before.before.before.before.before.before.before.args in let l = c.before.before.before.before.before.loop in
-    (any-more (stale_in a.frames.now a.pages a.t a.words.now a.shadow.now) l.px l.invariant.0 (simp c.before.before.before.wide.ensures at (sym c.before.is-stale.ensures ∙ c.if1.false)), omega arith)
+    (any_more (stale_in a.frames.now a.pages a.t a.words.now a.shadow.now) l.px l.invariant.0 (simp c.before.before.before.wide.ensures at (sym c.before.is-stale.ensures ∙ c.if1.false)), omega arith)
 
 returns-2 : tie.Need-returns-2 invariant-loop decreases-loop
 returns-2 c = let a = c.before.before.before.before.before.args in let l = c.before.loop in let e : l.px ≡ entries = le_antisymm l.invariant.1 c.loop-test.false in
-    e ∙ sym (first-none (stale_in a.frames.now a.pages a.t a.words.now a.shadow.now) entries (rw e at l.invariant.0))
+    e ∙ sym (first_none (stale_in a.frames.now a.pages a.t a.words.now a.shadow.now) entries (rw e at l.invariant.0))
 
 pub first-page-spec : {M : Type 1} → statement M
 first-page-spec =

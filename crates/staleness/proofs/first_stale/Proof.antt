@@ -8,7 +8,7 @@ use borrow.Author.Tests.{le-ltb}
 use Rattle.addresses.specs.Walk.{entries}
 use Rattle.house.specs.Lists.{any}
 use Rattle.house.specs.Turns.{world}
-use Rattle.house.proofs.Lists.Bounded.{any-more}
+use Rattle.house.proofs.Lists.Bounded.{any_more}
 use Rattle.staleness.specs.Audit.{finding, first_page, has_stale}
 use Rattle.staleness.proofs.Searching.{first_found, none_found}
 use Rattle.staleness.proofs.first_stale.Statement.{statement}
@@ -39,7 +39,7 @@ loop-less c = search rules
 
 loop-again : tie.Need-loop-preserved invariant-loop decreases-loop
 loop-again c = let a = c.before.before.before.before.before.args in let l = c.before.before.before.loop in let w = world a.h a.memory.now in
-    (any-more (has_stale w) l.i l.invariant.0 (le-ltb (first_page w l.i) entries (omega (arith, c.before.first-of.ensures, c.if1.false))), omega arith)
+    (any_more (has_stale w) l.i l.invariant.0 (le-ltb (first_page w l.i) entries (omega (arith, c.before.first-of.ensures, c.if1.false))), omega arith)
 
 returns-2 : tie.Need-returns-2 invariant-loop decreases-loop
 returns-2 c = let a = c.before.before.before.args in let l = c.before.loop in

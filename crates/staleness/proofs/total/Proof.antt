@@ -5,7 +5,7 @@ use native.Mathlib.Nat.{le_antisymm}
 use borrow.Author.Rules.{rules}
 use lib.ListN.{length}
 use Rattle.house.specs.Boot.{offset}
-use Rattle.house.proofs.Boot.Offsets.{offset-more, offset-sum}
+use Rattle.house.proofs.Boot.Offsets.{offset_more, offset_sum}
 use Rattle.staleness.proofs.total.Statement.{statement}
 use Rattle.staleness.proofs.total.Tie as tie
 
@@ -38,11 +38,11 @@ loop-less : tie.Need-loop-smaller invariant-loop decreases-loop
 loop-less c = search rules
 
 loop-again : tie.Need-loop-preserved invariant-loop decreases-loop
-loop-again c = (omega (arith, c.long.ensures.0, c.before.before.loop.invariant.0, offset-more c.before.before.before.args.t1 c.before.before.loop.i), omega (arith, c.long.ensures.1, c.before.before.loop.invariant.1), omega arith)
+loop-again c = (omega (arith, c.long.ensures.0, c.before.before.loop.invariant.0, offset_more c.before.before.before.args.t1 c.before.before.loop.i), omega (arith, c.long.ensures.1, c.before.before.loop.invariant.1), omega arith)
 
 returns : tie.Need-returns invariant-loop decreases-loop
 returns c = let a = c.before.before.args.t1 in let l = c.before.loop in let n : length a ≡ 8 = search rules in
-    l.invariant.0 ∙ ap (offset a) (le_antisymm l.invariant.2 c.loop-test.false ∙ sym n) ∙ offset-sum a
+    l.invariant.0 ∙ ap (offset a) (le_antisymm l.invariant.2 c.loop-test.false ∙ sym n) ∙ offset_sum a
 
 pub total-spec : {M : Type 1} → statement M
 total-spec =

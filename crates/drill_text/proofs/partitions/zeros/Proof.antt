@@ -1,6 +1,6 @@
 use Rattle.std.proofs.Common.{◌≡◌, ℕ, ◌-◌, ◌≤◌, true, eqb, length, get_or, sym, refl, arith, rules, eq-eqb, ne_eqb}
 use Rattle.house.specs.Lists.{all}
-use Rattle.house.proofs.Lists.Bounded.{all_more, all-no}
+use Rattle.house.proofs.Lists.Bounded.{all_more, all_no}
 use Rattle.drill_text.specs.Partitions.{zeros_of}
 use Rattle.drill_text.proofs.partitions.zeros.Statement.{statement}
 use Rattle.drill_text.proofs.partitions.zeros.Tie as tie
@@ -23,7 +23,7 @@ shared-slice-read-if1 c = search rules
 
 returns : tie.Need-returns invariant-loop decreases-loop
 unfolding zeros_of
-returns c = sym (all-no (λ (k : ℕ). eqb (get_or c.before.before.before.before.args.words.now k 0) 0) (length c.before.before.before.before.args.words.now) c.before.before.before.loop.i c.before.before.loop-test.true (ne_eqb _ _ c.if1.true))
+returns c = sym (all_no (λ (k : ℕ). eqb (get_or c.before.before.before.before.args.words.now k 0) 0) (length c.before.before.before.before.args.words.now) c.before.before.before.loop.i c.before.before.loop-test.true (ne_eqb _ _ c.if1.true))
 
 add-i : tie.Need-overflow-add-i invariant-loop decreases-loop
 add-i c = search rules

@@ -2,7 +2,7 @@ use Rattle.std.proofs.Common.{ℕ, sym, ap, ◌∙◌, arith, rules, le-ltb, lt-
 use borrow.Author.Tests.{lt-leb}
 use Rattle.house.specs.Boot.{first_of}
 use Rattle.house.specs.Calls.{beyond_of, read_verdict}
-use Rattle.house.proofs.Damage.Undamaged.{count-within}
+use Rattle.house.proofs.Damage.Undamaged.{count_within}
 use Rattle.hypervisor.proofs.calls.read_refusal.Statement.{statement}
 use Rattle.hypervisor.proofs.calls.read_refusal.Tie as tie
 
@@ -25,7 +25,7 @@ unfolding read_verdict first_of
 returns-3 c = λ m out l r. simp (l, sym c.before.before.before.before.before.damaged.ensures ∙ c.before.before.before.before.if1.false, eq-eqb _ _ (simp c.before.before.before.wide.ensures at c.before.before.if2.false), le-leb _ _ c.if3.true)
 
 pages-of-requires : tie.Need-pages-of-requires
-pages-of-requires c κs = omega (arith, c.if3.false, (count-within c.before.before.before.before.before.before.args.h (sym c.before.before.before.before.before.damaged.ensures ∙ c.before.before.before.before.if1.false)).1)
+pages-of-requires c κs = omega (arith, c.if3.false, (count_within c.before.before.before.before.before.before.args.h (sym c.before.before.before.before.before.damaged.ensures ∙ c.before.before.before.before.if1.false)).1)
 
 beyond-requires : tie.Need-beyond-requires
 beyond-requires c κs = search rules

@@ -1,8 +1,8 @@
 use Rattle.std.proofs.Common.{sym, ap, ◌∙◌, arith, rules}
 use Rattle.house.specs.Turns.{world}
 use Rattle.house.specs.Calls.{one_verdict, started, start_call}
-use Rattle.house.proofs.Damage.Undamaged.{count-within}
-use Rattle.house.proofs.Calls.Verdicts.{one-done}
+use Rattle.house.proofs.Damage.Undamaged.{count_within}
+use Rattle.house.proofs.Calls.Verdicts.{one_done}
 use Rattle.hypervisor.proofs.Refusals.{one_plain, leaves_given, leaves_done}
 use Rattle.hypervisor.proofs.calls.start.Statement.{statement}
 use Rattle.hypervisor.proofs.calls.start.Tie as tie
@@ -20,8 +20,8 @@ returns c = λ m. let a = c.before.before.before.args in
 
 start-requires : tie.Need-start-requires
 start-requires c κs = let a = c.before.before.args in
-    let d = one-done a.h a.i (sym c.before.one-refusal.ensures ∙ c.if1.false) in
-    omega (arith, d.there, (count-within a.h d.whole).1)
+    let d = one_done a.h a.i (sym c.before.one-refusal.ensures ∙ c.if1.false) in
+    omega (arith, d.there, (count_within a.h d.whole).1)
 
 returns-2 : tie.Need-returns-2
 unfolding start_call

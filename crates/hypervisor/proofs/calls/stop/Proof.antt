@@ -1,8 +1,8 @@
 use Rattle.std.proofs.Common.{sym, ap, ◌∙◌, rules}
 use Rattle.house.specs.Turns.{world}
 use Rattle.house.specs.Calls.{one_verdict, stopped, stop_call}
-use Rattle.house.proofs.Damage.Undamaged.{count-within}
-use Rattle.house.proofs.Calls.Verdicts.{one-done}
+use Rattle.house.proofs.Damage.Undamaged.{count_within}
+use Rattle.house.proofs.Calls.Verdicts.{one_done}
 use Rattle.hypervisor.proofs.Refusals.{one_plain, leaves_given, leaves_done}
 use Rattle.hypervisor.proofs.calls.stop.Statement.{statement}
 use Rattle.hypervisor.proofs.calls.stop.Tie as tie
@@ -20,8 +20,8 @@ returns c = λ m. let a = c.before.before.before.args in
 
 stop-requires : tie.Need-stop-requires
 stop-requires c κs = let a = c.before.before.args in
-    let d = one-done a.h a.i (sym c.before.one-refusal.ensures ∙ c.if1.false) in
-    ((count-within a.h d.whole).1, d.there)
+    let d = one_done a.h a.i (sym c.before.one-refusal.ensures ∙ c.if1.false) in
+    ((count_within a.h d.whole).1, d.there)
 
 returns-2 : tie.Need-returns-2
 unfolding stop_call

@@ -2,7 +2,7 @@ use Rattle.std.proofs.Common.{◌≡◌, ℕ, ◌-◌, ◌<◌, ◌≤◌, true,
 use Rattle.hypervisor.proofs.Turn.{asked_turned, after_turn, asked_sound, Within, lent_for_lem, alone_told, still_alone, current_few, still_some, fits, fits_on, fits_words, starts, ends}
 use Rattle.addresses.specs.Walk.{entries}
 use Rattle.house.proofs.Turns.Stretch.{steps_add}
-use Rattle.house.proofs.Turns.Kept.{sound-steps}
+use Rattle.house.proofs.Turns.Kept.{sound_steps}
 use Rattle.house.specs.Sound.{Sound}
 use Rattle.house.specs.Turns.{world, next_of, host_steps, house_at}
 use Rattle.hypervisor.proofs.run.steps.Statement.{statement}
@@ -147,7 +147,7 @@ loop-again c =
     let u = asked-for c.before.before.before.before.before.before.before.before.before.before.before.before.before.before in
     let d = asked_turned c.before.before.before.before.before.before.before.before.before.before.before.before.before.before.before.before.before.before.before.before.before.before.before.before.before.before.before.before.before.before.before.before.before.before.before.before.before.before.args.h _ _ _ _ _ _ _ _ _ _ _ _ _ _ _ _ _ _ c.before.before.before.before.before.before.before.before.before.before.before.before.before.before.before.before.before.before.before.before.before.before.before.before.before.wide.ensures c.before.before.before.before.before.before.before.before.before.before.before.before.before.before.stretch.ensures i.1 u.some i.4 u.turn in
     let w = after_turn c.before.before.before.before.before.before.before.before.before.before.before.before.before.before.before.before.before.before.before.before.before.before.before.before.before.before.before.before.before.before.before.before.before.before.before.before.before.before.args.h _ _ _ _ _ _ _ _ _ _ _ _ _ _ _ _ _ _ _ _ c.before.before.before.before.before.before.before.before.before.before.before.before.before.before.before.before.before.before.before.before.before.before.before.before.before.wide.ensures d c.before.later.ensures c.before.before.before.wrapping-add-u64.ensures in
-    (w ∙ ap (host_steps _) i.0 ∙ steps_add _ _ _, subst Sound (sym w) (sound-steps _ _ i.1), omega (arith, d.most, u.most, c.before.before.before.before.before.before.before.before.before.before.before.before.before.before.before.before.before.before.before.before.before.before.before.before.before.before.loop-test.true), omega (arith, i.3), still_alone _ _ _ _ _ _ _ _ _ c.before.later.ensures i.4)
+    (w ∙ ap (host_steps _) i.0 ∙ steps_add _ _ _, subst Sound (sym w) (sound_steps _ _ i.1), omega (arith, d.most, u.most, c.before.before.before.before.before.before.before.before.before.before.before.before.before.before.before.before.before.before.before.before.before.before.before.before.before.before.loop-test.true), omega (arith, i.3), still_alone _ _ _ _ _ _ _ _ _ c.before.later.ensures i.4)
 
 same_length : tie.Need-same-length invariant-loop decreases-loop
 same_length c = omega (arith, c.before.loop.invariant.3)

@@ -1,6 +1,6 @@
 use Rattle.std.proofs.Common.{arith, rules}
 use Rattle.house.specs.Turns.{world}
-use Rattle.house.proofs.Damage.Undamaged.{count-within, sound-partition}
+use Rattle.house.proofs.Damage.Undamaged.{count_within, sound_partition}
 use Rattle.house.proofs.Calls.Verdicts.{read_done}
 use Rattle.hypervisor.proofs.Read.{lent_placed, within_pages, read_words}
 use Rattle.hypervisor.proofs.Refusals.{shaped}
@@ -29,12 +29,12 @@ part-read-end : tie.Need-slice-bounds-read-end
 part-read-end c = let a = c.before.before.before.before.before.args in
     let d = read_done (world a.h a.memory.now) a.i a.address a.count a.out.now c.before.before.before.before.before.requires in
     let l = (shaped a.h c.before.before.before.before.before.well-formed.0).frames in
-    omega (arith, c.before.wide.ensures, d.there, (count-within a.h d.whole).1, l)
+    omega (arith, c.before.wide.ensures, d.there, (count_within a.h d.whole).1, l)
 
 pages-of-requires : tie.Need-pages-of-requires
 pages-of-requires c κs = let a = c.before.before.before.before.before.before.args in
     let d = read_done (world a.h a.memory.now) a.i a.address a.count a.out.now c.before.before.before.before.before.before.requires in
-    omega (arith, d.there, (count-within a.h d.whole).1)
+    omega (arith, d.there, (count_within a.h d.whole).1)
 
 wide-requires-2 : tie.Need-wide-requires-2
 wide-requires-2 c κs = search rules
@@ -42,7 +42,7 @@ wide-requires-2 c κs = search rules
 read-requires : tie.Need-read-requires
 read-requires c κs = let a = c.before.before.before.before.before.before.before.before.before.args in
     let d = read_done (world a.h a.memory.now) a.i a.address a.count a.out.now c.before.before.before.before.before.before.before.before.before.requires in
-    let s = sound-partition a.h d.whole a.memory.now (shaped a.h c.before.before.before.before.before.before.before.before.before.well-formed.0) d.size a.i d.there in
+    let s = sound_partition a.h d.whole a.memory.now (shaped a.h c.before.before.before.before.before.before.before.before.before.well-formed.0) d.size a.i d.there in
     (lent_placed a.h _ a.i _ _ c.before.before.before.before.before.wide.ensures c.before.before.pages-of.ensures s.placed, (within_pages a.h a.memory.now a.i a.address a.count a.out.now d _ _ c.before.before.pages-of.ensures c.before.wide2.ensures, d.room))
 
 same_length : tie.Need-same-length
