@@ -100,7 +100,7 @@ pub returns-in-35 : goal.returns-in-35
 returns-in-35 c = let e = c.load_word.ensures in (λ r. load_arm c.args.frames.now c.args.pages c.args.p c.args.t c.args.page c.args.y c.args.regs.now c.args.words.now c.args.shadow.now c.args.w _ _ _ refl refl refl 35 _ _ (o_35 c.args.w c.in-35.is) (e.0 r), λ q. (e.1 q, refl))
 
 pub returns-in-43 : goal.returns-in-43
-returns-in-43 c = let e = c.before.before.Store-word.ensures {- LOOK -} in (λ r. store_arm c.args.frames.now c.args.pages c.args.p c.args.t c.args.page c.args.y c.args.regs.now c.args.words.now c.args.shadow.now c.args.w _ _ _ refl refl refl 43 _ _ (o_43 c.args.w c.in-43.is) (e.0 r), λ q. (refl, e.1 q))
+returns-in-43 c = let e = c.store_word.ensures in (λ r. store_arm c.args.frames.now c.args.pages c.args.p c.args.t c.args.page c.args.y c.args.regs.now c.args.words.now c.args.shadow.now c.args.w _ _ _ refl refl refl 43 _ _ (o_43 c.args.w c.in-43.is) (e.0 r), λ q. (refl, e.1 q))
 
 pub returns-in-8 : goal.returns-in-8
 returns-in-8 c = let e = c.add_word.ensures in (λ r. sum_arm c.args.frames.now c.args.pages c.args.p c.args.t c.args.page c.args.y c.args.regs.now c.args.words.now c.args.shadow.now c.args.w _ _ _ refl refl refl Add _ _ _ (o_8 c.args.w c.in-8.is) (e.0 r).0 (e.0 r).1 (e.0 r).2, λ q. (e.1 q, refl))
@@ -118,7 +118,7 @@ pub returns-in-14 : goal.returns-in-14
 returns-in-14 c = let e = c.xor_word.ensures in (λ r. xor_arm c.args.frames.now c.args.pages c.args.p c.args.t c.args.page c.args.y c.args.regs.now c.args.words.now c.args.shadow.now c.args.w _ _ _ refl refl refl _ _ _ (o_14 c.args.w c.in-14.is) refl e.1 e.2, λ q. absurd (true≢false (sym e.0 ∙ q)))
 
 pub returns-in-15 : goal.returns-in-15
-returns-in-15 c = let e = c.before.before.high_word_lem.ensures {- LOOK -} in (λ r. lhgi_arm c.args.frames.now c.args.pages c.args.p c.args.t c.args.page c.args.y c.args.regs.now c.args.words.now c.args.shadow.now c.args.w _ _ _ refl refl refl _ _ c.in-15.is e.1 e.2, λ q. absurd (true≢false (sym e.0 ∙ q)))
+returns-in-15 c = let e = c.high_word.ensures in (λ r. lhgi_arm c.args.frames.now c.args.pages c.args.p c.args.t c.args.page c.args.y c.args.regs.now c.args.words.now c.args.shadow.now c.args.w _ _ _ refl refl refl _ _ c.in-15.is e.1 e.2, λ q. absurd (true≢false (sym e.0 ∙ q)))
 
 pub returns-in-4 : goal.returns-in-4
 returns-in-4 c = let e = c.branch-regs.ensures in (λ r. beqz_arm c.args.frames.now c.args.pages c.args.p c.args.t c.args.page c.args.y c.args.regs.now c.args.words.now c.args.shadow.now c.args.w _ _ _ refl refl refl _ _ _ c.in-4.is refl refl e.1, λ q. absurd (true≢false (sym e.0 ∙ q)))

@@ -1,3 +1,5 @@
+use mathlib.Core.Bool.{not}
+use mathlib.Core.Path.{ap}
 use Rattle.plain.proofs.Laws.{seen_inside, load_does, fits_left}
 use Rattle.processor.proofs.Opcodes.{or_left}
 use Rattle.dlx.specs.Fields.{loading, storing}
@@ -32,9 +34,9 @@ bounds-words-wide c = let i = seen_inside _ _ (record { pto = 0; ptl = 0 }) c.ar
 
 -- src/lib.rt:144:19
 pub bring-requires : goal.bring-requires
-bring-requires c = record { fact_1 = c.requires.fact_4; fact_2 = fits_left _ _ _ c.fits.ensures c.if-not-fits.false }
+bring-requires c = record { fact_1 = c.requires.fact_4; fact_2 = fits_left _ _ _ c.fits.ensures (ap not c.if-not-fits.false) }
 
 -- src/lib.rt:118:1
 pub returns : goal.returns
 returns c = let e = c.put.ensures in
-    (λ _ page t. load_does _ _ c.args.p t page c.args.y c.args.regs.now c.args.words.now _ c.args.o c.args.x c.args.imm _ _ c.wrapping_add_u32-a.ensures.value (sym (fits_left c.args.o _ _ c.fits.ensures c.if-not-fits.false)) c.seen-e.ensures (eq-eqb _ _ c.if-e-ne1.false) _ _ _ _ _ (simp (c.wide-2.ensures, c.wide.ensures)) c.bring.ensures e.1 e.2, λ q. absurd (true≢false (sym e.0 ∙ q)))
+    (λ _ page t. load_does _ _ c.args.p t page c.args.y c.args.regs.now c.args.words.now _ c.args.o c.args.x c.args.imm _ _ c.wrapping_add_u32-a.ensures.value (sym (fits_left c.args.o _ _ c.fits.ensures (ap not c.if-not-fits.false))) c.seen-e.ensures (eq-eqb _ _ c.if-e-ne1.false) _ _ _ _ _ (simp (c.wide-2.ensures, c.wide.ensures)) c.bring.ensures e.1 e.2, λ q. absurd (true≢false (sym e.0 ∙ q)))

@@ -1,3 +1,5 @@
+use mathlib.Core.Bool.{not}
+use mathlib.Core.Path.{ap}
 use Rattle.plain.proofs.Laws.{seen_inside, store_does, not_held, fits_left}
 use Rattle.processor.proofs.Opcodes.{or_right}
 use Rattle.dlx.specs.Fields.{loading, storing}
@@ -36,7 +38,7 @@ bounds-words-i c = let i = seen_inside _ _ c.args.t c.args.words.now _ _ _ _ c.r
 
 -- src/lib.rt:178:16
 pub place-requires : goal.place-requires
-place-requires c = record { fact_1 = c.requires.fact_3; fact_2 = fits_left _ _ _ c.fits.ensures c.if-not-fits.false }
+place-requires c = record { fact_1 = c.requires.fact_3; fact_2 = fits_left _ _ _ c.fits.ensures (ap not c.if-not-fits.false) }
 
 -- src/lib.rt:178:5
 pub bounds-words-i-2 : goal.bounds-words-i-2
@@ -45,4 +47,4 @@ bounds-words-i-2 c = let i = seen_inside _ _ c.args.t c.args.words.now _ _ _ _ c
 
 -- src/lib.rt:148:1
 pub returns : goal.returns
-returns c = (λ _ page rs. store_does _ _ c.args.p c.args.t page c.args.y rs c.args.words.now _ c.args.o c.args.x c.args.imm _ _ c.wrapping_add_u32-a.ensures.value (sym (fits_left c.args.o _ _ c.fits.ensures c.if-not-fits.false)) c.seen-e.ensures (eq-eqb (c.seen-e.result / 2 ^ 11 % 2) 1 (omega (arith, c.if-e-ne2.false))) c.args.v _ (c.wide.result * 1024 + c.wide-2.result) _ (ne_eqb (c.seen-e.result / 2 ^ 10 % 2) 1 (λ q. omega (arith, q, c.if-e-ne2.false))) (not_held _ _ _ _ _ c.requires.fact_4 c.if-frame-held.false) (simp (c.wide-2.ensures, c.wide.ensures)) (simp c.place.ensures) c.wrapping_add_u32.ensures.value, λ e. absurd (true≢false e))
+returns c = (λ _ page rs. store_does _ _ c.args.p c.args.t page c.args.y rs c.args.words.now _ c.args.o c.args.x c.args.imm _ _ c.wrapping_add_u32-a.ensures.value (sym (fits_left c.args.o _ _ c.fits.ensures (ap not c.if-not-fits.false))) c.seen-e.ensures (eq-eqb (c.seen-e.result / 2 ^ 11 % 2) 1 (omega (arith, c.if-e-ne2.false))) c.args.v _ (c.wide.result * 1024 + c.wide-2.result) _ (ne_eqb (c.seen-e.result / 2 ^ 10 % 2) 1 (λ q. omega (arith, q, c.if-e-ne2.false))) (not_held _ _ _ _ _ c.requires.fact_4 c.if-frame-held.false) (simp (c.wide-2.ensures, c.wide.ensures)) (simp c.place.ensures) c.wrapping_add_u32.ensures.value, λ e. absurd (true≢false e))

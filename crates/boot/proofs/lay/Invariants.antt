@@ -1,0 +1,15 @@
+use mathlib.Core.Path.{◌≡◌, refl, ◌∙◌}
+use Prim.Native.Nat.{◌*◌, ◌-◌, ◌≤◌, zero-le}
+use native.Mathlib.Omega.{arith}
+use lib.ListN.{length}
+use Rattle.house.specs.Boot.{offset, laid}
+use Rattle.boot.specs.Places.{filled}
+use Rattle.house.proofs.Boot.Offsets.{laid_after}
+use Rattle.boot.proofs.Places.{filled_none, filled_whole}
+use Rattle.boot.proofs.lay.Given as goal
+
+abbrev pub invariant-loop-i : goal.invariant-loop-i
+invariant-loop-i l = (l.places ≡ filled (laid l.pages l.frames) 0 2048 (l.i * 256)) × (l.from ≡ offset l.pages l.i) × (l.i ≤ length l.pages)
+
+abbrev pub decreases-loop-i : goal.decreases-loop-i
+decreases-loop-i l = length l.pages - l.i

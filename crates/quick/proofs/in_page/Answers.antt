@@ -1,0 +1,75 @@
+use Rattle.plain.proofs.Laws.{not_true, not_false}
+use Rattle.quick.proofs.Laws.{not_away, page_long, page_word, cached_inside, cached_fetch, goes_none, goes_quit, goes_on, found_none, found_quit}
+use Rattle.plain.specs.Plain.{pair_of}
+use Rattle.quick.specs.Quick.{Goes}
+use Rattle.dlx.specs.Words.{plus}
+use Rattle.addresses.specs.Premises.{Placed}
+use Rattle.std.proofs.Common.{◌≡◌, length, sym, refl, ◌∙◌, subst, arith, rules}
+use Rattle.plain.proofs.act.Reads as act-reads
+use Rattle.plain.proofs.held.Reads as held_reads
+use Rattle.addresses.proofs.Entries.{placed_listed}
+use Rattle.std.proofs.num.wrapping_sub_u32.Reads as wrapping-sub-u32-reads
+use Rattle.quick.proofs.in_page.Goals as goal
+
+pub held-held-requires : goal.held-held-requires
+held-held-requires c = placed_listed c.requires.fact_2
+
+pub loop-rest-init : goal.loop-rest-init
+loop-rest-init c = (goes_none _ _ _ _ _ _ _ _ _ _ c.wrapping_sub_u32-x.ensures.value c.wrapping_sub_u32-y.ensures.value, refl, refl)
+
+pub shape_of-regs-then-away : goal.shape_of-regs-then-away
+shape_of-regs-then-away c = omega (arith, c.loop-rest.invariant.1)
+
+pub shape_of-words-then-away : goal.shape_of-words-then-away
+shape_of-words-then-away c = omega (arith, c.loop-rest.invariant.2)
+
+pub returns-then-away : goal.returns-then-away
+returns-then-away c = (goes_quit _ _ _ _ _ _ _ _ _ _ _ _ _ _ _ _ _ _ c.quit.ensures c.loop-rest.invariant.0, c.loop-rest.invariant.1, c.loop-rest.invariant.2, found_quit _ _ _ _ c.args.k c.args.p _ _ _ _ _ _ _ _ _ _ c.quit.ensures (found_none _ _ _ _ c.args.k c.args.p _ _ _))
+
+pub overflow_add-base : goal.overflow_add-base
+overflow_add-base c = let i = cached_inside _ _ _ _ _ c.args.t c.args.words.now _ c.requires.fact_2 c.requires.fact_3 c.requires.fact_4 in omega (arith, i, c.requires.fact_2.small)
+
+pub offset_bounds-words-base : goal.offset_bounds-words-base
+offset_bounds-words-base c = let i = cached_inside _ _ _ _ _ c.args.t c.args.words.now _ c.requires.fact_2 c.requires.fact_3 c.requires.fact_4 in omega (arith, i, c.requires.fact_2.small)
+
+pub slice_bounds-fetch-count : goal.slice_bounds-fetch-count
+slice_bounds-fetch-count c = omega arith
+
+pub slice_bounds-fetch-start : goal.slice_bounds-fetch-start
+slice_bounds-fetch-start c = omega arith
+
+pub slice_bounds-fetch-end : goal.slice_bounds-fetch-end
+slice_bounds-fetch-end c = let i = cached_inside _ _ _ _ _ c.args.t c.args.words.now _ c.requires.fact_2 c.requires.fact_3 c.requires.fact_4 in omega (arith, i, c.loop-rest.invariant.2)
+
+pub fetch-w-requires : goal.fetch-w-requires
+fetch-w-requires c = let i = cached_inside _ _ _ _ _ c.args.t c.args.words.now _ c.requires.fact_2 c.requires.fact_3 c.requires.fact_4 in record { fact_1 = page_long c.loop-rest.words c.args.base (omega (arith, i, c.loop-rest.invariant.2)); fact_2 = (not_away _ (sym c.away.ensures ∙ c.if-away.false)).1 }
+
+pub act-requires : goal.act-requires
+act-requires c = let i = c.loop-rest.invariant in record { fact_1 = i.1 ∙ c.requires.fact_1; fact_2 = subst (λ z. Placed c.args.frames.now c.args.pages z) (sym i.2) c.requires.fact_2; fact_3 = c.requires.fact_3; fact_4 = c.requires.fact_5; fact_5 = c.held-held.ensures }
+
+pub shape_of-regs-then-not-act : goal.shape_of-regs-then-not-act
+shape_of-regs-then-not-act c = omega (arith, c.loop-rest.invariant.1)
+
+pub shape_of-words-then-not-act : goal.shape_of-words-then-not-act
+shape_of-words-then-not-act c = omega (arith, c.loop-rest.invariant.2)
+
+pub returns-then-not-act : goal.returns-then-not-act
+returns-then-not-act c = let f = c.act.ensures.1 c.if-not-act.true in rw (f.0, f.1) (goes_quit _ _ _ _ _ _ _ _ _ _ _ _ _ _ _ _ _ _ c.quit-then-not-act.ensures c.loop-rest.invariant.0, c.loop-rest.invariant.1, c.loop-rest.invariant.2, found_quit _ _ _ _ c.args.k c.args.p _ _ _ _ _ _ _ _ _ _ c.quit-then-not-act.ensures (λ _ latest k. cached_fetch _ _ _ _ _ _ c.args.p (omega arith) c.requires.fact_4 _ c.loop-rest.y _ _ _ latest k (sym c.away.ensures ∙ c.if-away.false) (page_word c.loop-rest.words c.args.base _ _ (not_away _ (sym c.away.ensures ∙ c.if-away.false)).1 c.fetch-w.ensures)))
+
+pub overflow_sub-rest : goal.overflow_sub-rest
+overflow_sub-rest c = omega (arith, c.loop-rest-test.true)
+
+pub loop-rest-smaller : goal.loop-rest-smaller
+loop-rest-smaller c = omega (arith, c.loop-rest-test.true)
+
+pub loop-rest-preserved : goal.loop-rest-preserved
+loop-rest-preserved c = let i = c.loop-rest.invariant in let f = c.act.ensures.0 c.if-not-act.false in (goes_on _ _ _ _ _ _ _ (omega arith) c.requires.fact_4 _ _ _ _ _ _ _ _ _ _ _ _ c.loop-rest-test.true (sym c.away.ensures ∙ c.if-away.false) (page_word c.loop-rest.words c.args.base _ _ (not_away _ (sym c.away.ensures ∙ c.if-away.false)).1 c.fetch-w.ensures) f i.0, omega (arith, i.1), omega (arith, i.2))
+
+pub shape_of-regs : goal.shape_of-regs
+shape_of-regs c = omega (arith, c.loop-rest.invariant.1)
+
+pub shape_of-words : goal.shape_of-words
+shape_of-words c = omega (arith, c.loop-rest.invariant.2)
+
+pub returns : goal.returns
+returns c = (goes_quit _ _ _ _ _ _ _ _ _ _ _ _ _ _ _ _ _ _ c.quit-2.ensures c.loop-rest.invariant.0, c.loop-rest.invariant.1, c.loop-rest.invariant.2, found_quit _ _ _ _ c.args.k c.args.p _ _ _ _ _ _ _ _ _ _ c.quit-2.ensures (found_none _ _ _ _ c.args.k c.args.p _ _ _))
