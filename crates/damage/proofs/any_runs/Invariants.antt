@@ -1,0 +1,15 @@
+use Rattle.house.proofs.Lists.Bounded.{any_more, any_yes}
+use Rattle.house.specs.Lists.{any}
+use lib.ListN.{get_or}
+use Prim.Native.Nat.{ℕ, ◌≤◌, ◌-◌, zero-le}
+use mathlib.Core.Bool.{false}
+use mathlib.Core.Path.{◌≡◌, refl, sym, subst}
+use native.Mathlib.Nat.{le_antisymm}
+use native.Mathlib.Omega.{arith}
+use Rattle.damage.proofs.any_runs.Given as goal
+
+abbrev pub invariant-loop-i : goal.invariant-loop-i
+invariant-loop-i l = (any (λ j. get_or l.running j false) l.i ≡ false) × (l.i ≤ l.n)
+
+abbrev pub decreases-loop-i : goal.decreases-loop-i
+decreases-loop-i l = l.n - l.i

@@ -1,0 +1,16 @@
+use native.Mathlib.Omega.{arith}
+use native.Mathlib.Nat.{le_antisymm}
+use mathlib.Core.Bool.{false}
+use mathlib.Core.Path.{◌≡◌, refl, sym}
+use Prim.Native.Nat.{◌≤◌, ◌-◌, zero-le}
+use borrow.Author.Tests.{eq-eqb, ne_eqb, le-leb, lt-leb}
+use Rattle.house.specs.Lists.{any}
+use Rattle.house.proofs.Lists.Bounded.{or_none, any_more, any_yes}
+use Rattle.damage.specs.Marks.{barred_at}
+use Rattle.damage.proofs.frame_barred.Given as goal
+
+abbrev pub invariant-loop-k : goal.invariant-loop-k
+invariant-loop-k l = (any (barred_at l.frames l.size) l.k ≡ false) × (l.k ≤ l.n)
+
+abbrev pub decreases-loop-k : goal.decreases-loop-k
+decreases-loop-k l = l.n - l.k

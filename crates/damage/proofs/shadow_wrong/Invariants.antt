@@ -1,0 +1,18 @@
+use native.Mathlib.Omega.{arith}
+use native.Mathlib.Nat.{le_antisymm}
+use lib.ListN.{get_or}
+use mathlib.Core.Bool.{false}
+use mathlib.Core.Path.{◌≡◌, refl, ◌∙◌, sym, subst}
+use Prim.Native.Nat.{ℕ, ◌%◌, ◌≤◌, ◌-◌, zero-le}
+use Rattle.addresses.specs.Walk.{entries}
+use Rattle.house.specs.Lists.{any}
+use Rattle.damage.specs.Marks.{entry_marked}
+use Rattle.damage.proofs.Marks.{group_found, group_more}
+use Rattle.damage.proofs.shadow_wrong.Given as goal
+
+-- whole groups are looked through
+abbrev pub invariant-loop-base : goal.invariant-loop-base
+invariant-loop-base l = (any (λ x. entry_marked l.owners l.tag (get_or l.shadow x 0)) l.base ≡ false) × (l.base ≤ entries) × (l.base % 32 ≡ 0)
+
+abbrev pub decreases-loop-base : goal.decreases-loop-base
+decreases-loop-base l = entries - l.base

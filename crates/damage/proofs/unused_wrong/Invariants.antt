@@ -1,0 +1,17 @@
+use native.Mathlib.Omega.{arith}
+use native.Mathlib.Nat.{le_antisymm}
+use lib.ListN.{get_or}
+use mathlib.Core.Bool.{false}
+use mathlib.Core.Path.{◌≡◌, refl, ◌∙◌, sym}
+use Prim.Native.Nat.{◌≤◌, ◌-◌, zero-le}
+use Rattle.house.specs.Lists.{any}
+use Rattle.house.specs.House.{no_partition}
+use Rattle.house.proofs.Lists.Bounded.{any_more, any_yes}
+use Rattle.damage.specs.Marks.{room_wrong}
+use Rattle.damage.proofs.unused_wrong.Given as goal
+
+abbrev pub invariant-loop-i : goal.invariant-loop-i
+invariant-loop-i l = (any (λ j. room_wrong l.count j (get_or l.running j false) (get_or l.parts j no_partition) l.regs l.frames l.shadows) l.i ≡ false) × (l.i ≤ 8)
+
+abbrev pub decreases-loop-i : goal.decreases-loop-i
+decreases-loop-i l = 8 - l.i

@@ -1,0 +1,7 @@
+use Rattle.engine.specs.Answers.{processor_at, table_at, timer_at}
+use Rattle.std.proofs.Common.{◌≡◌, refl, arith, rules}
+use Rattle.engine.proofs.processor_of.Goals as goal
+
+pub returns : goal.returns
+unfolding processor_at
+returns c = refl

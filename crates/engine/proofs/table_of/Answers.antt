@@ -1,0 +1,7 @@
+use Rattle.engine.specs.Answers.{processor_at, table_at, timer_at}
+use Rattle.std.proofs.Common.{◌≡◌, refl, arith, rules}
+use Rattle.engine.proofs.table_of.Goals as goal
+
+pub returns : goal.returns
+unfolding table_at
+returns c = refl
