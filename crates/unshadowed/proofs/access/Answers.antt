@@ -1,0 +1,59 @@
+use Rattle.std.proofs.Common.{ℕ, List, ap, rules, eq-eqb, ne_eqb}
+use Rattle.dlx.specs.Machine.{accessed, loaded, stored, after_read, after_write, request_of}
+use Rattle.tickets.specs.Queues.{Queues, desk}
+use Rattle.unshadowed.proofs.Parts.{load_is}
+use Rattle.processor.proofs.fields.bring.Reads as bring-reads
+use Rattle.std.proofs.num.wrapping_add_u32.Reads as wrapping-add-u32-reads
+use Rattle.tickets.proofs.send.Reads as send-reads
+use Rattle.receipt.proofs.receive.Reads as receive-reads
+use Rattle.unshadowed.proofs.access.Goals as goal
+
+-- src/lib.rt:163:50
+pub bring-requires : goal.bring-requires
+bring-requires c = let n = rw c.in-Load.is at c.requires.fact_4 in record { fact_1 = n.1; fact_2 = n.2 }
+
+-- src/lib.rt:166:17
+pub store-n-requires : goal.store-n-requires
+store-n-requires c = let n = rw c.in-Store.is at c.requires.fact_4 in record { fact_1 = c.requires.fact_2; fact_2 = n.0; fact_3 = n.1 }
+
+-- src/lib.rt:168:17
+pub returns-then-n-eq0 : goal.returns-then-n-eq0
+unfolding accessed stored loaded after_read after_write request_of desk
+returns-then-n-eq0 c = λ _. simp (c.in-Store.is, ← c.store-n.ensures, eq-eqb _ _ c.if-n-eq0.true, c.wrapping_add_u32-next.ensures.value)
+
+-- src/lib.rt:174:17
+pub send-reply-requires : goal.send-reply-requires
+send-reply-requires c = record { fact_1 = c.requires.fact_3.queued; fact_2 = c.requires.fact_3.few }
+
+-- src/lib.rt:178:17
+pub receive-code-requires : goal.receive-code-requires
+receive-code-requires c = record { fact_1 = c.requires.fact_1; fact_2 = c.requires.fact_3.queued; fact_3 = c.requires.fact_3.small }
+
+-- src/lib.rt:138:1
+pub returns-in-Done : goal.returns-in-Done
+unfolding accessed stored loaded after_read after_write request_of desk
+returns-in-Done c = λ _. simp c.in-Done.is
+
+-- src/lib.rt:138:1
+pub returns-in-Fault : goal.returns-in-Fault
+unfolding accessed stored loaded after_read after_write request_of desk
+returns-in-Fault c = λ _. simp (c.in-Load.is, ← c.load.ensures, c.in-Fault.is)
+
+-- src/lib.rt:138:1
+pub returns-in-Word : goal.returns-in-Word
+returns-in-Word c = load_is _ _ c.args.count c.args.i c.args.p _ _ _ _ _ _ _ _ _ _ _ _ c.in-Load.is c.load.ensures c.in-Word.is c.bring.ensures c.wrapping_add_u32-next.ensures.value
+
+-- src/lib.rt:138:1
+pub returns-else-n-eq0 : goal.returns-else-n-eq0
+unfolding accessed stored loaded after_read after_write request_of desk
+returns-else-n-eq0 c = λ _. simp (c.in-Store.is, ← c.store-n.ensures, ne_eqb _ _ c.if-n-eq0.false)
+
+-- src/lib.rt:138:1
+pub returns-in-Send : goal.returns-in-Send
+unfolding accessed stored loaded after_read after_write request_of desk
+returns-in-Send c = λ _. simp (c.in-Send.is, ← c.send-reply.ensures, c.wrapping_add_u32-next.ensures.value)
+
+-- src/lib.rt:138:1
+pub returns-in-Take : goal.returns-in-Take
+unfolding accessed stored loaded after_read after_write request_of desk
+returns-in-Take c = λ _. simp (c.in-Take.is, ap (λ (g : (List ℕ × ℕ) × Queues). g.0.0) c.receive-code.ensures, ap (λ (g : (List ℕ × ℕ) × Queues). g.0.1) c.receive-code.ensures, ap (λ (g : (List ℕ × ℕ) × Queues). g.1) c.receive-code.ensures, c.wrapping_add_u32-next.ensures.value)

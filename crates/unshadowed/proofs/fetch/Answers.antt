@@ -1,0 +1,25 @@
+use Rattle.dlx.proofs.Kept.{instruction_formed}
+use Rattle.dlx.specs.Machine.{fetched, executed, after_read}
+use Rattle.std.proofs.Common.{rules, eq-eqb, ne_eqb}
+use Rattle.processor.proofs.execute.execute.Reads as execute-reads
+use Rattle.processor.proofs.instruction.read_instruction.Reads as read-instruction-reads
+use Rattle.unshadowed.proofs.fetch.Goals as goal
+
+-- src/lib.rt:107:9
+pub returns-then-dpc-ne0 : goal.returns-then-dpc-ne0
+unfolding fetched
+returns-then-dpc-ne0 c = simp (ne_eqb _ _ c.if-dpc-ne0.true)
+
+-- src/lib.rt:114:28
+pub execute-requires : goal.execute-requires
+execute-requires c = record { fact_1 = c.requires.fact_1; fact_2 = rw c.read_instruction.ensures (instruction_formed _) }
+
+-- src/lib.rt:92:1
+pub returns-in-Fault : goal.returns-in-Fault
+unfolding fetched executed after_read
+returns-in-Fault c = simp (eq-eqb _ _ c.if-dpc-ne0.false, ← c.load.ensures, c.in-Fault.is)
+
+-- src/lib.rt:92:1
+pub returns-in-Word : goal.returns-in-Word
+unfolding fetched executed after_read
+returns-in-Word c = simp (eq-eqb _ _ c.if-dpc-ne0.false, ← c.load.ensures, c.in-Word.is, c.execute.ensures, c.read_instruction.ensures)

@@ -1,0 +1,28 @@
+use Rattle.dlx.specs.Machine.{retabled}
+use Rattle.std.proofs.Common.{rules}
+use Rattle.unshadowed.proofs.retable.Goals as goal
+
+-- src/lib.rt:185:1
+pub returns-in-Plain : goal.returns-in-Plain
+unfolding retabled
+returns-in-Plain c = λ fr ws n. simp c.in-Plain.is
+
+-- src/lib.rt:185:1
+pub returns-in-Special : goal.returns-in-Special
+unfolding retabled
+returns-in-Special c = λ fr ws n. simp c.in-Special.is
+
+-- src/lib.rt:185:1
+pub returns-in-Retable : goal.returns-in-Retable
+unfolding retabled
+returns-in-Retable c = λ fr ws n. simp c.in-Retable.is
+
+-- src/lib.rt:185:1
+pub returns-in-Cause : goal.returns-in-Cause
+unfolding retabled
+returns-in-Cause c = λ fr ws n. simp c.in-Cause.is
+
+-- src/lib.rt:185:1
+pub returns-in-Return : goal.returns-in-Return
+unfolding retabled
+returns-in-Return c = λ fr ws n. simp c.in-Return.is

@@ -1,0 +1,21 @@
+use Rattle.unshadowed.proofs.Parts.{stretch_done, stretch_called, stretch_on, after_step}
+use Rattle.unshadowed.specs.Memory.{unshadowed, unshadowed_memory}
+use Rattle.addresses.specs.Premises.{Placed}
+use Rattle.tickets.specs.Queues.{queues, desk, Seated}
+use Rattle.dlx.specs.Machine.{core, stretch_from}
+use Rattle.std.proofs.Common.{◌≡◌, ◌-◌, ◌≤◌, length, sym, refl, ◌∙◌, subst, le_refl, arith}
+use native.Mathlib.Nat.{sub_self}
+use Rattle.unshadowed.proofs.stretch.Given as goal
+
+abbrev pub invariant-loop-rest : goal.invariant-loop-rest
+invariant-loop-rest l =
+    (stretch_from (unshadowed_memory l.frames l.pages) (desk l.count l.i) l.rest (l.n - l.rest) (core l.processor l.regs l.latest l.timer, unshadowed l.table l.words) (queues l.tickets l.waiting) ≡ stretch_from (unshadowed_memory l.frames l.pages) (desk l.count l.i) l.n 0 (core l.initial.processor l.initial.regs l.initial.latest l.initial.timer, unshadowed l.initial.table l.initial.words) (queues l.initial.tickets l.initial.waiting))
+    × (l.rest ≤ l.n)
+    × (length l.regs ≡ length l.initial.regs)
+    × (length l.words ≡ length l.initial.words)
+    × Seated l.count l.i (queues l.tickets l.waiting)
+    × Seated l.count l.i (queues l.initial.tickets l.initial.waiting)
+
+abbrev pub decreases-loop-rest : goal.decreases-loop-rest
+decreases-loop-rest l =
+    l.rest
