@@ -1,0 +1,14 @@
+use Rattle.house.specs.Turns.{later_of}
+use Rattle.std.proofs.Common.{rules}
+use Rattle.hypervisor.proofs.run.later.Goals as goal
+
+pub returns-then-alone : goal.returns-then-alone
+unfolding later_of
+returns-then-alone c = simp (c.if-alone.true, c.remains.ensures)
+
+pub turn-requires : goal.turn-requires
+turn-requires c = let p = c.requires in record { fact_1 = p.0; fact_2 = p.1.0; fact_3 = p.1.1.1 c.if-alone.false }
+
+pub returns : goal.returns
+unfolding later_of
+returns c = simp (c.if-alone.false, c.turn.ensures)
