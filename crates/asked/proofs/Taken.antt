@@ -1,12 +1,11 @@
 -- One of noon's words more.
-use Rattle.std.proofs.Common.{◌≡◌, ℕ, ◌+◌, ◌-◌, ◌*◌, ◌%◌, ◌^◌, ◌<◌, ◌≤◌, Bool, true, false, not, ◌&&◌, eqb, ltb, List, length, take, drop, set, sym, refl, ap, ◌∙◌, arith, length-drop, take_all, le-ltb, lt-ltb, eq-eqb, ne_eqb}
-use Rattle.dlx.specs.Choice.{if◌then◌else◌}
+use Rattle.std.proofs.Common.{◌≡◌, ℕ, ◌+◌, ◌-◌, ◌*◌, ◌%◌, ◌<◌, ◌≤◌, Bool, true, false, ◌&&◌, eqb, List, length, take, drop, set, sym, ap, ◌∙◌, arith, length-drop, take_all, le-ltb, lt-ltb, eq-eqb, ne_eqb}
 use Rattle.dlx.specs.Words.{plus}
 use Rattle.command.specs.Words.{number_of}
 use Rattle.command.specs.declared.Number.{Number}
 use Rattle.asked.specs.Words.{rowed, row_of, name_length, address_of}
 use Rattle.decimal.specs.Texts.{ascii, same}
-use Rattle.asked.specs.Asked.{Going, going, wrong_word, awaiting, framed, imaged, took_word}
+use Rattle.asked.specs.Asked.{going, wrong_word, awaiting, framed, imaged, took_word}
 use Rattle.asked.specs.declared.asked.Asked.{Asked}
 use Rattle.asked.specs.declared.words.Row.{Row}
 

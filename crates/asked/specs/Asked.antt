@@ -1,5 +1,5 @@
 -- What noon's words from the first `partition` on ask for: page counts, frame lists and images.
-use Rattle.std.specs.Prelude.{◌≡◌, ℕ, ◌+◌, ◌*◌, ◌%◌, ◌^◌, true, false, not, ◌&&◌, List, [], ◌∷◌, length, replicate, ◌==◌, nat_lt, slice_set}
+use Rattle.std.specs.Prelude.{ℕ, ◌+◌, ◌*◌, ◌%◌, true, false, not, ◌&&◌, List, [], ◌∷◌, replicate, ◌==◌, nat_lt, slice_set}
 use Rattle.dlx.specs.Choice.{if◌then◌else◌}
 use Rattle.dlx.specs.Words.{plus}
 use Rattle.decimal.specs.Texts.{ascii, same}

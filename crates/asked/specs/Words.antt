@@ -1,5 +1,5 @@
 -- Two of noon's words: a frame list, decimals with commas between, and an image with its address.
-use Rattle.std.specs.Prelude.{ℕ, zero, suc, ◌+◌, ◌-◌, ◌%◌, ◌^◌, true, false, not, ◌&&◌, List, [], ◌∷◌, length, drop, ◌==◌, slice_index, slice_set}
+use Rattle.std.specs.Prelude.{ℕ, zero, suc, ◌+◌, ◌%◌, ◌^◌, true, false, not, List, [], ◌∷◌, length, drop, ◌==◌, slice_index, slice_set}
 use Rattle.dlx.specs.Choice.{if◌then◌else◌}
 use Rattle.dlx.specs.Words.{plus}
 use Rattle.command.specs.Words.{number, number_of, with_digit}

@@ -8,7 +8,7 @@ use decimal::is;
 
 // No word was wrong; what the next one has to be: 0 `partition`, 1 its frames, 2 its first image, 3 another one or `partition`; the partition at hand; the frames
 // and the images so far.
-#[derive(Drop)]
+#[derive(Clone, Copy)]
 pub struct Asked {
     pub right: bool,
     pub awaits: u32,

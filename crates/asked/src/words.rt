@@ -6,7 +6,7 @@ use command::{Number, number_in, with_digit};
 use dlx::words::wide;
 
 // A frame list as far as it was read: nothing is wrong, a number is begun, its value, and how many have ended.
-#[derive(Drop)]
+#[derive(Clone, Copy)]
 pub struct Row {
     pub right: bool,
     pub begun: bool,

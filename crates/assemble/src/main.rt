@@ -1,40 +1,44 @@
 // assemble FILE: reads lines, and writes the words that they are, raw, four bytes each, the lowest first; or nothing, and `refused: N D` on standard error.
+#![tactic(auto)]
+
 use command::{asks_help, fail, open, wrong};
-use libc::STDOUT_FILENO;
+use files::{print, word};
 use texts::turn;
 
-fn help() {
-    io::write_all(
-        STDOUT_FILENO,
+fn help(rt: &HostRuntime) {
+    let _ = print(
+        rt,
         b"assemble FILE: reads lines as list prints them (- for standard input), and writes their words raw, four bytes each, the lowest first;\n",
     );
-    io::write_all(
-        STDOUT_FILENO,
+    let _ = print(
+        rt,
         b"or nothing, and says `refused: N D`: docs/LISTINGS.md has the lines, and docs/CALLS.md tells what it means\n",
     );
 }
 
-fn main() {
-    let mut path = io::buffer();
-    let length = os::arg(1, &mut path);
+// Opens the file and goes on.
+fn open_and_turn(rt: &HostRuntime, path: &[u8]) {
+    match open(rt, path) {
+        Ok(mut source) => turn(rt, false, &mut source, path),
+        Err(why) => fail(rt, path, why),
+    }
+}
+
+fn main(rt: HostRuntime) {
+    let mut path = files::buffer();
+    let length = word(&rt, 1, &mut path);
     if asks_help(&path[..length]) {
-        help();
+        help(&rt);
         return;
     }
-    let given = os::arg_count();
+    let given = files::words(&rt);
     if given < 2 {
-        wrong(b"FILE", b"fewer words");
+        wrong(&rt, b"FILE", b"fewer words");
         return;
     }
     if given > 2 {
-        wrong(b"FILE", b"more words");
+        wrong(&rt, b"FILE", b"more words");
         return;
     }
-    let fd = open(&path[..length]);
-    if fd < 0 {
-        fail(&path[..length]);
-        return;
-    }
-    turn(false, fd, &path[..length]);
-    libc::close(fd);
+    open_and_turn(&rt, &path[..length]);
 }

@@ -1,6 +1,8 @@
 // audit FILE: reads a house file, or standard input where no file is named, boots its house over a memory of 16 zero frames, runs it, audits it
 // and prints how many shadow entries of each partition are stale, or `refused N D`. Where one is stale, standard error names the first. Of a saved file it audits the house
 // that was saved, and runs nothing.
+#![tactic(auto)]
+
 ghost use Rattle.std.specs.Prelude.{◌≡◌, List, [], ◌∷◌, ◌++◌, ℕ, ◌≤◌, length, drop};
 ghost use Rattle.decimal.specs.Texts.{Puts};
 ghost use Rattle.house.specs.Boot.{verdict};
@@ -11,13 +13,14 @@ ghost use Rattle.report.specs.Report.{line};
 ghost use Rattle.night_run.specs.Ran.{either_file, Told};
 ghost use Rattle.audit.specs.Printed.{lines_to, printed, first_line, named};
 
-use command::{asks_help, fail, open, wrong};
+use command::{asks_help, fail, open, put_out, wrong};
 use decimal::put_text;
+use files::{Source, is_not_given, print, say, try_word};
 use house::House;
-use libc::{STDERR_FILENO, STDIN_FILENO, STDOUT_FILENO};
 use night_run::{Taken, WORDS, read_file};
 use report::{put_word, refused};
 use staleness::stale_counts;
+use std::io;
 
 // A partition's line, at most 22 bytes.
 fn put_count(out: &mut [u8], at: usize, i: u32, n: u32) -> usize
@@ -88,14 +91,14 @@ fn first_line(i: u32, px: u32, out: &mut [u8; 1024]) -> usize
 }
 
 // Says a text on standard error: the one that names the first stale entry of the file that was read.
-fn say_first(t: Taken, text: &[u8])
+fn say_first(rt: &HostRuntime, t: Taken, text: &[u8])
     requires { Told either_file named t text.now }
 {
-    io::write_all(STDERR_FILENO, text);
+    say(rt, text);
 }
 
 // Names the first stale entry, where there is one.
-fn name_first(t: Taken, number: u32, detail: u64, house: House, memory: &[u32])
+fn name_first(rt: &HostRuntime, t: Taken, number: u32, detail: u64, house: House, memory: &[u32])
     requires { Told either_file named t (named (answered (verdict number detail) (world house memory.now))) }
 {
     if number != 0 {
@@ -107,81 +110,84 @@ fn name_first(t: Taken, number: u32, detail: u64, house: House, memory: &[u32])
     }
     let mut out = [0u8; 1024];
     let n = first_line(f.partition, f.page, &mut out);
-    say_first(t, &out[..n]);
+    say_first(rt, t, &out[..n]);
 }
 
 // ---- what is printed
 
 // Prints a text: the one for the file that was read.
-fn show(t: Taken, text: &[u8])
+fn show(rt: &HostRuntime, t: Taken, text: &[u8])
     requires { Told either_file printed t text.now }
 {
-    if !io::write_all(STDOUT_FILENO, text) {
-        fail(b"standard output");
-    }
+    put_out(rt, text);
 }
 
 // Prints the text for the answer, and names the first stale entry.
-fn tell(t: Taken, number: u32, detail: u64, house: House, memory: &[u32])
+fn tell(rt: &HostRuntime, t: Taken, number: u32, detail: u64, house: House, memory: &[u32])
     requires fact_1 { Told either_file printed t (printed (answered (verdict number detail) (world house memory.now))) }
     requires fact_2 { Told either_file named t (named (answered (verdict number detail) (world house memory.now))) }
 {
     let mut out = [0u8; 1024];
     let n = text_of(number, detail, house, memory, &mut out);
-    show(t, &out[..n]);
-    name_first(t, number, detail, house, memory);
+    show(rt, t, &out[..n]);
+    name_first(rt, t, number, detail, house, memory);
 }
 
-// Reads what is open as fd, runs it where it is a house file, audits it, and prints. A read that fails prints nothing and says why.
-fn audit(fd: i32, name: &[u8]) {
+// Reads the source, runs it where it is a house file, audits it, and prints. A read that fails prints nothing and says why.
+fn audit(rt: &HostRuntime, source: &mut Source, name: &[u8]) {
     let mut memory = [0u32; WORDS];
-    let x = read_file(fd, &mut memory);
+    let x = read_file(source, &mut memory);
     let taken = x.taken;
     if taken.failed() {
-        fail(name);
+        fail(rt, name, source.why());
         return;
     }
     let house = x.house;
     let n = x.words;
-    tell(taken, x.number, x.detail, house, &memory[..n]);
+    tell(rt, taken, x.number, x.detail, house, &memory[..n]);
 }
 
-fn help() {
-    io::write_all(
-        STDOUT_FILENO,
+fn help(rt: &HostRuntime) {
+    let _ = print(
+        rt,
         b"audit [FILE]: reads a house file (standard input where none is named, or where it is -), boots and runs its house, or reads a saved file, audits the house and prints\n",
     );
-    io::write_all(
-        STDOUT_FILENO,
+    let _ = print(
+        rt,
         b"`P COUNT` for each partition, its number and its stale shadow entries, or `refused N D`; where one is stale, standard error names the first: docs/AUDIT.md tells what it means\n",
     );
 }
 
-fn main() {
-    if os::arg_count() > 2 {
-        wrong(b"one FILE or none", b"more words");
+// Without a word for FILE: standard input. With one that cannot be taken, that is told.
+fn without_name(rt: &HostRuntime, why: io::Error) {
+    if is_not_given(why) {
+        let mut source = Source::standard_input(rt);
+        audit(rt, &mut source, b"standard input");
         return;
     }
-    let mut path = io::buffer();
-    let length = os::arg(1, &mut path);
-    let e = os::errno();
-    if e == libc::EINVAL {
-        audit(STDIN_FILENO, b"standard input");
+    fail(rt, b"the file's name", why);
+}
+
+// With FILE.
+fn with_name(rt: &HostRuntime, name: &[u8]) {
+    if asks_help(name) {
+        help(rt);
         return;
     }
-    if e != 0 {
-        fail(b"the file's name");
+    match open(rt, name) {
+        Ok(mut source) => audit(rt, &mut source, name),
+        Err(why) => fail(rt, name, why),
+    }
+}
+
+fn main(rt: HostRuntime) {
+    if files::words(&rt) > 2 {
+        wrong(&rt, b"one FILE or none", b"more words");
         return;
     }
-    if asks_help(&path[..length]) {
-        help();
-        return;
+    let mut path = files::buffer();
+    match try_word(&rt, 1, &mut path) {
+        Ok(length) => with_name(&rt, &path[..length]),
+        Err(why) => without_name(&rt, why),
     }
-    let fd = open(&path[..length]);
-    if fd < 0 {
-        fail(&path[..length]);
-        return;
-    }
-    audit(fd, &path[..length]);
-    libc::close(fd);
 }

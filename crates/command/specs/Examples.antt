@@ -1,5 +1,5 @@
 -- Worked examples. proofs/Checked.antt checks them by a single claim.
-use Rattle.std.specs.Prelude.{Bool, true, false, not, ◌&&◌, List, [], ◌∷◌, ℕ, ◌-◌, ◌^◌, eqb}
+use Rattle.std.specs.Prelude.{Bool, true, not, ◌&&◌, List, [], ◌∷◌, ℕ, ◌-◌, ◌^◌, eqb}
 use Prim.Native.String.{String}
 use Rattle.decimal.specs.Texts.{ascii}
 use Rattle.command.specs.Words.{asks_help, number_of}

@@ -1,10 +1,13 @@
 // What the programs' commands share: the words that they are given, and what they say where these are wrong, or where a read or a write failed. That goes to
 // standard error, with `failed: ` before all else.
+#![tactic(auto)]
+
 ghost use Rattle.std.specs.Prelude.{◌≡◌, ◌≤◌};
 ghost use Rattle.command.specs.Words.{no_number, with_digit, number_of, asks_help};
 
 use decimal::is;
-use libc::{STDERR_FILENO, STDIN_FILENO};
+use files::{Source, print, say, say_error};
+use std::io;
 
 // ---- words
 
@@ -19,7 +22,7 @@ pub fn asks_help(word: &[u8]) -> bool
 }
 
 // What a word says in decimals, where it says a number.
-#[derive(Drop)]
+#[derive(Clone, Copy)]
 pub struct Number {
     pub said: bool,
     pub value: u64,
@@ -82,27 +85,40 @@ pub fn number_in(word: &[u8], most: u64) -> Number
     n
 }
 
-// Opens the file that the word names for reading; `-` is standard input. Answers a descriptor, or -1.
-pub fn open(word: &[u8]) -> i32 {
+// Opens the file that the word names for reading; `-` is standard input.
+pub fn open(rt: &HostRuntime, word: &[u8]) -> io::Result<Source> {
     if is(word, b"-") {
-        return STDIN_FILENO;
+        return Ok(Source::standard_input(rt));
     }
-    os::open_read(word)
+    Source::open(rt, word)
 }
 
 // ---- what went wrong
 
-// A read or a write of what is named here failed, for what the system said last.
-pub fn fail(what: &[u8]) {
-    io::write_all(STDERR_FILENO, b"failed: ");
-    os::fail(what);
+// A read or a write of what is named here failed, for what the system said.
+pub fn fail(rt: &HostRuntime, what: &[u8], why: io::Error) {
+    say(rt, b"failed: ");
+    say(rt, what);
+    say(rt, b": ");
+    say_error(rt, why);
+}
+
+// Writes a text to standard output, and answers whether that could be done. Where it could not, that is told.
+pub fn put_out(rt: &HostRuntime, text: &[u8]) -> bool {
+    match print(rt, text) {
+        Ok(()) => true,
+        Err(why) => {
+            fail(rt, b"standard output", why);
+            false
+        }
+    }
 }
 
 // The program was given something that it cannot use.
-pub fn wrong(expected: &[u8], given: &[u8]) {
-    io::write_all(STDERR_FILENO, b"failed: expected ");
-    io::write_all(STDERR_FILENO, expected);
-    io::write_all(STDERR_FILENO, b"; was given ");
-    io::write_all(STDERR_FILENO, given);
-    io::write_all(STDERR_FILENO, b"\n");
+pub fn wrong(rt: &HostRuntime, expected: &[u8], given: &[u8]) {
+    say(rt, b"failed: expected ");
+    say(rt, expected);
+    say(rt, b"; was given ");
+    say(rt, given);
+    say(rt, b"\n");
 }

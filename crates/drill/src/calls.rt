@@ -20,14 +20,14 @@ use house::{Answer, House};
 use hypervisor::calls;
 
 // The house and the text used after a call.
-#[derive(Drop)]
+#[derive(Clone, Copy)]
 pub struct Done {
     pub house: House,
     pub used: usize,
 }
 
 // The house, the words lent, and the text used, after a command.
-#[derive(Drop)]
+#[derive(Clone, Copy)]
 pub struct Played {
     pub house: House,
     pub lent: usize,

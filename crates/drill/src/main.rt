@@ -1,5 +1,7 @@
 // The drill: plays a script of calls from standard input, and tells of the house after each call on standard output. It takes no words.
 // The script's format is FORMAT.md of the second emulator, which plays the same scripts.
+#![tactic(auto)]
+
 mod calls;
 mod reading;
 mod saving;
@@ -10,8 +12,8 @@ ghost use Rattle.drill.specs.Goes.{Goes};
 
 use command::{asks_help, fail, wrong};
 use drill_text::ROOM;
+use files::{Source, print};
 use house::House;
-use libc::{STDIN_FILENO, STDOUT_FILENO};
 use reading::Reading;
 use restore::Restoring;
 
@@ -22,7 +24,7 @@ const MOST_WORDS: usize = 263168;
 const MOST_OUTPUT: usize = 70000;
 
 // What goes from turn to turn: a command of the house, or the end, is reached.
-#[derive(Drop)]
+#[derive(Clone, Copy)]
 struct State {
     house: House,
     restoring: Restoring,
@@ -32,6 +34,8 @@ struct State {
 
 // One of the commands that save and read back, and on to the next.
 fn save_turn(
+    rt: &HostRuntime,
+    source: &mut Source,
     s: State,
     input: &mut [u8],
     memory: &mut [u32],
@@ -44,7 +48,7 @@ fn save_turn(
     requires fact_3 { 70000 ≤ length output.old }
     ensures { Goes result (length input.old) (length memory.old) }
 {
-    let used = told::flushed(text, s.used);
+    let used = told::flushed(rt, text, s.used);
     let here = s.reading;
     let p = saving::play(
         s.house,
@@ -57,7 +61,7 @@ fn save_turn(
         text,
         used,
     );
-    let reached = reading::settle(input, memory, here, here.lent);
+    let reached = reading::settle(source, input, memory, here, here.lent);
     let house = p.house;
     let restoring = p.restoring;
     State {
@@ -70,6 +74,8 @@ fn save_turn(
 
 // One of the others.
 fn call_turn(
+    rt: &HostRuntime,
+    source: &mut Source,
     s: State,
     input: &mut [u8],
     memory: &mut [u32],
@@ -81,10 +87,10 @@ fn call_turn(
     requires fact_2 { 0 < s.reading.command.size }
     ensures { Goes result (length input.old) (length memory.old) }
 {
-    let used = told::flushed(text, s.used);
+    let used = told::flushed(rt, text, s.used);
     let here = s.reading;
     let p = calls::play(s.house, here, input, memory, few, many, text, used);
-    let reached = reading::settle(input, memory, here, p.lent);
+    let reached = reading::settle(source, input, memory, here, p.lent);
     let c = here.command;
     let restoring = saving::cleared(c.op, s.restoring);
     let house = p.house;
@@ -98,6 +104,8 @@ fn call_turn(
 
 // One command of the house, and on to the next.
 fn turn(
+    rt: &HostRuntime,
+    source: &mut Source,
     s: State,
     input: &mut [u8],
     memory: &mut [u32],
@@ -114,13 +122,15 @@ fn turn(
     let here = s.reading;
     let c = here.command;
     if (c.op > 13) & (c.op < 17) {
-        return save_turn(s, input, memory, held, output, text);
+        return save_turn(rt, source, s, input, memory, held, output, text);
     }
-    call_turn(s, input, memory, few, many, text)
+    call_turn(rt, source, s, input, memory, few, many, text)
 }
 
 // Plays to the end of the script or to a wrong command. No script has so many turns that the count would end them.
 fn play(
+    rt: &HostRuntime,
+    source: &mut Source,
     input: &mut [u8],
     memory: &mut [u32],
     few: &mut [u32; 16],
@@ -129,7 +139,7 @@ fn play(
     output: &mut [u8; MOST_OUTPUT],
     text: &mut [u8; ROOM],
 ) {
-    let reached = reading::first(input, memory);
+    let reached = reading::first(source, input, memory);
     let none = House::none();
     let restoring = restore::reading::begin();
     let mut s = State {
@@ -143,10 +153,10 @@ fn play(
         let here = s.reading;
         let c = here.command;
         if c.size == 0 {
-            told::finish(text, s.used, here.at, here.end, here.offset);
+            told::finish(rt, text, s.used, here.at, here.end, here.offset);
             return;
         }
-        s = turn(s, input, memory, few, many, held, output, text);
+        s = turn(rt, source, s, input, memory, few, many, held, output, text);
         turns -= 1;
     }
 }
@@ -188,42 +198,44 @@ fn text_space() -> [u8; ROOM]
 }
 
 // Standard input can be read: a read of no byte answers so. A folder, or a closed one, cannot.
-fn readable() -> bool {
+fn readable(source: &mut Source) -> bool {
     let mut none = [0u8; 0];
-    libc::read(STDIN_FILENO, &mut none) >= 0
+    source.read(&mut none) >= 0
 }
 
-fn help() {
-    io::write_all(
-        STDOUT_FILENO,
+fn help(rt: &HostRuntime) {
+    let _ = print(
+        rt,
         b"drill: plays a script of calls from standard input, and writes what it sees after each call; emulator/FORMAT.md has both\n",
     );
 }
 
 // What is said where words are given.
-fn answer_words() {
-    let mut space = io::buffer();
-    let length = os::arg(1, &mut space);
+fn answer_words(rt: &HostRuntime) {
+    let mut space = files::buffer();
+    let length = files::word(rt, 1, &mut space);
     if asks_help(&space[..length]) {
-        help();
+        help(rt);
         return;
     }
     wrong(
+        rt,
         b"no words, and a script on standard input",
         &space[..length],
     );
 }
 
-fn main() {
-    if os::arg_count() > 1 {
-        answer_words();
+fn main(rt: HostRuntime) {
+    if files::words(&rt) > 1 {
+        answer_words(&rt);
         return;
     }
-    if !readable() {
-        fail(b"standard input");
+    let mut source = Source::standard_input(&rt);
+    if !readable(&mut source) {
+        fail(&rt, b"standard input", source.why());
         return;
     }
-    let mut input = io::large_buffer();
+    let mut input = files::large_buffer();
     let mut memory = memory_space();
     let mut few = few_space();
     let mut many = many_space();
@@ -231,6 +243,8 @@ fn main() {
     let mut output = output_space();
     let mut text = text_space();
     play(
+        &rt,
+        &mut source,
         &mut input,
         &mut memory,
         &mut few,

@@ -6,14 +6,14 @@ ghost use Rattle.drill.specs.Player.{lent_of, changed_of};
 use dlx::words::wide;
 use drill_script::commands::Command;
 use drill_script::{commands, words};
-use libc::STDIN_FILENO;
+use files::Source;
 
 // The bytes of the longest command.
 const MOST_COMMAND: usize = 16464;
 
 // The unread bytes stand in the input from `at` to `end`; `ended` says that there are no more behind them. The command at `at` has
 // this offset in the script, and so many words are lent.
-#[derive(Drop)]
+#[derive(Clone, Copy)]
 pub struct Reading {
     pub at: usize,
     pub end: usize,
@@ -39,12 +39,12 @@ fn shift(input: &mut [u8], at: usize, end: usize) -> usize
 }
 
 // The unread bytes to the front, and more behind them. Gives how many there are.
-fn refill(input: &mut [u8], at: usize, end: usize) -> usize
+fn refill(source: &mut Source, input: &mut [u8], at: usize, end: usize) -> usize
     requires { (at ≤ end) × (end ≤ length input.old) }
     ensures { result ≤ length input.old }
 {
     let left = shift(input, at, end);
-    left + io::read_full(STDIN_FILENO, &mut input[left..])
+    left + source.read_full(&mut input[left..])
 }
 
 // The command at `at`.
@@ -65,7 +65,7 @@ fn found(input: &[u8], at: usize, end: usize, ended: bool, offset: u64, lent: us
 }
 
 // The command behind this one.
-fn next(input: &mut [u8], r: Reading, lent: usize) -> Reading
+fn next(source: &mut Source, input: &mut [u8], r: Reading, lent: usize) -> Reading
     requires { Stands r (length input.old) r.lent }
     ensures { Stands result (length input.old) lent }
 {
@@ -79,7 +79,7 @@ fn next(input: &mut [u8], r: Reading, lent: usize) -> Reading
     if end - at >= MOST_COMMAND {
         return found(input, at, end, false, offset, lent);
     }
-    let n = refill(input, at, end);
+    let n = refill(source, input, at, end);
     found(input, 0, n, n < input.len(), offset, lent)
 }
 
@@ -109,12 +109,18 @@ fn changes_memory(op: u32) -> bool {
 }
 
 // From the command behind this one over commands of the memory, up to another or the end.
-pub fn settle(input: &mut [u8], memory: &mut [u32], before: Reading, lent: usize) -> Reading
+pub fn settle(
+    source: &mut Source,
+    input: &mut [u8],
+    memory: &mut [u32],
+    before: Reading,
+    lent: usize,
+) -> Reading
     requires fact_1 { Stands before (length input.old) before.lent }
     requires fact_2 { lent ≤ length memory.old }
     ensures { Stands result (length input.old) result.lent × (result.lent ≤ length memory.old) }
 {
-    let mut r = next(input, before, lent);
+    let mut r = next(source, input, before, lent);
     let mut turns = u64::MAX;
     while turns > 0 {
         let c = r.command;
@@ -122,13 +128,13 @@ pub fn settle(input: &mut [u8], memory: &mut [u32], before: Reading, lent: usize
             return r;
         }
         let after = changed(memory, r.lent, c);
-        r = next(input, r, after);
+        r = next(source, input, r, after);
         turns -= 1;
     }
     r
 }
 
-pub fn first(input: &mut [u8], memory: &mut [u32]) -> Reading
+pub fn first(source: &mut Source, input: &mut [u8], memory: &mut [u32]) -> Reading
     ensures { Stands result (length input.old) result.lent × (result.lent ≤ length memory.old) }
 {
     let none = commands::none();
@@ -140,5 +146,5 @@ pub fn first(input: &mut [u8], memory: &mut [u32]) -> Reading
         lent: 0,
         command: none,
     };
-    settle(input, memory, before, 0)
+    settle(source, input, memory, before, 0)
 }

@@ -20,7 +20,7 @@ use restore::{Reader, Restoring};
 use saver::piece::Saved;
 
 // The house, the reading, and the text used, after a command.
-#[derive(Drop)]
+#[derive(Clone, Copy)]
 pub struct Left {
     pub house: House,
     pub restoring: Restoring,
@@ -28,7 +28,7 @@ pub struct Left {
 }
 
 // The reading and the text used after a piece.
-#[derive(Drop)]
+#[derive(Clone, Copy)]
 pub struct Pieced {
     pub restoring: Restoring,
     pub used: usize,

@@ -4,13 +4,12 @@ ghost use Rattle.decimal.specs.Decimals.{decimal};
 ghost use Rattle.decimal.specs.Texts.{ascii, Puts};
 ghost use Rattle.drill.specs.Told.{most_told, told_of, shown_of};
 
-use command::fail;
+use command::put_out;
 use decimal::{put_byte, put_decimal, put_text};
 use drill_text::partitions::partitions;
 use drill_text::queues::queues;
 use drill_text::{ROOM, lines};
 use house::Answer;
-use libc::STDOUT_FILENO;
 
 // The text of a call.
 pub fn call(text: &mut [u8; ROOM], used: usize, op: u32, a: Answer, memory: &[u32]) -> usize
@@ -37,28 +36,22 @@ pub fn shown(number: u32, detail: u64) -> usize
     detail as usize
 }
 
-fn put(text: &[u8]) {
-    if !io::write_all(STDOUT_FILENO, text) {
-        fail(b"standard output");
-    }
-}
-
 // Writes the text.
-fn written(text: &[u8], used: usize)
+fn written(rt: &HostRuntime, text: &[u8], used: usize)
     requires { used ≤ length text.now }
 {
-    put(&text[..used]);
+    put_out(rt, &text[..used]);
 }
 
 // Writes the text where there is much of it. Gives how much is left.
-pub fn flushed(text: &[u8], used: usize) -> usize
+pub fn flushed(rt: &HostRuntime, text: &[u8], used: usize) -> usize
     requires { used ≤ length text.now }
     ensures { result < 65536 }
 {
     if used < 65536 {
         return used;
     }
-    written(text, used);
+    written(rt, text, used);
     0
 }
 
@@ -72,13 +65,20 @@ fn wrong(text: &mut [u8; ROOM], used: usize, offset: u64) -> usize
 }
 
 // The end of the script, or a wrong command.
-pub fn finish(text: &mut [u8; ROOM], used: usize, at: usize, end: usize, offset: u64)
+pub fn finish(
+    rt: &HostRuntime,
+    text: &mut [u8; ROOM],
+    used: usize,
+    at: usize,
+    end: usize,
+    offset: u64,
+)
     requires { used + 38 ≤ 524288 }
 {
     if at == end {
-        written(text, used);
+        written(rt, text, used);
         return;
     }
     let told = wrong(text, used, offset);
-    written(text, told);
+    written(rt, text, told);
 }

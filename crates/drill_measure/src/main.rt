@@ -2,13 +2,15 @@
 // Standard input has decimal numbers: steps, at most 1,000,000, the turn's length, 1..10,000, and the guest: 0 words, also where there is no third number,
 // 1 bytes and half words, 2 registers, 3 traps, 4 the timer. Standard output is the number of steps done and a digest of the registers, the special registers and
 // the whole memory; or `refused N D`. It takes no words.
+#![tactic(auto)]
+
 use boot::boot;
-use command::{asks_help, fail, wrong};
+use command::{asks_help, put_out, wrong};
 use dlx::partition::{Partition, Processor, Table, Timer};
 use dlx::words::wide;
+use files::{Source, print, print_number};
 use house::{Answer, House};
 use hypervisor::calls::run;
-use libc::{STDIN_FILENO, STDOUT_FILENO};
 
 // The frame of a guest page: the list of the 67 is a permutation of the frames 1 to 67.
 fn frame_of(page: u32) -> u32 {
@@ -303,7 +305,7 @@ fn digest(house: House, words: &[u32; 69632]) -> u64 {
 }
 
 // A decimal number's value, and where it ends.
-#[derive(Drop)]
+#[derive(Clone, Copy)]
 struct Numeral {
     value: u32,
     end: usize,
@@ -343,18 +345,16 @@ fn after(line: &[u8], end: usize) -> u32 {
     0
 }
 
-fn end_line() {
-    if !io::write_all(STDOUT_FILENO, b"\n") {
-        fail(b"standard output");
-    }
+fn end_line(rt: &HostRuntime) {
+    put_out(rt, b"\n");
 }
 
-fn refused(a: Answer) {
-    io::write_all(STDOUT_FILENO, b"refused ");
-    io::print_decimal(STDOUT_FILENO, a.number as u64);
-    io::write_all(STDOUT_FILENO, b" ");
-    io::print_decimal(STDOUT_FILENO, a.detail);
-    end_line();
+fn refused(rt: &HostRuntime, a: Answer) {
+    let _ = print(rt, b"refused ");
+    print_number(rt, a.number as u64);
+    let _ = print(rt, b" ");
+    print_number(rt, a.detail);
+    end_line(rt);
 }
 
 // One partition of 67 pages.
@@ -367,9 +367,9 @@ fn ran(house: House, words: &mut [u32; 69632], steps: u32) -> Answer {
     run(house, words, steps)
 }
 
-fn measure(steps: u32, q: u32, guest: u32) {
+fn measure(rt: &HostRuntime, steps: u32, q: u32, guest: u32) {
     if guest > 4 {
-        wrong(b"a guest from 0 to 4 as the third number", b"another");
+        wrong(rt, b"a guest from 0 to 4 as the third number", b"another");
         return;
     }
     let mut words = [0u32; 69632];
@@ -379,55 +379,60 @@ fn measure(steps: u32, q: u32, guest: u32) {
     put_guest(&mut words, guest);
     let b = booted(q, &frames, &words);
     if b.number != 0 {
-        refused(b);
+        refused(rt, b);
         return;
     }
     let house = b.house;
     let a = ran(house, &mut words, steps);
     if a.number != 0 {
-        refused(a);
+        refused(rt, a);
         return;
     }
     let after = a.house;
-    io::print_decimal(STDOUT_FILENO, a.detail);
-    io::write_all(STDOUT_FILENO, b" ");
-    io::print_decimal(STDOUT_FILENO, digest(after, &words));
-    end_line();
+    print_number(rt, a.detail);
+    let _ = print(rt, b" ");
+    print_number(rt, digest(after, &words));
+    end_line(rt);
 }
 
-fn help() {
-    io::write_all(
-        STDOUT_FILENO,
+fn help(rt: &HostRuntime) {
+    let _ = print(
+        rt,
         b"drill_measure: reads `STEPS TURN GUEST` from standard input (0 words, 1 bytes, 2 registers, 3 traps, 4 timer), runs it, and prints the steps done\n",
     );
-    io::write_all(
-        STDOUT_FILENO,
+    let _ = print(
+        rt,
         b"and a digest, or `refused N D`; docs/SPEED.md has what it is for\n",
     );
 }
 
 // What is said where words are given.
-fn answer_words() {
-    let mut space = io::buffer();
-    let length = os::arg(1, &mut space);
+fn answer_words(rt: &HostRuntime) {
+    let mut space = files::buffer();
+    let length = files::word(rt, 1, &mut space);
     if asks_help(&space[..length]) {
-        help();
+        help(rt);
         return;
     }
-    wrong(b"no words, and numbers on standard input", &space[..length]);
+    wrong(
+        rt,
+        b"no words, and numbers on standard input",
+        &space[..length],
+    );
 }
 
-fn main() {
-    if os::arg_count() > 1 {
-        answer_words();
+fn main(rt: HostRuntime) {
+    if files::words(&rt) > 1 {
+        answer_words(&rt);
         return;
     }
     let mut line = [0u8; 64];
-    io::read_full(STDIN_FILENO, &mut line);
+    let mut source = Source::standard_input(&rt);
+    source.read_full(&mut line);
     let steps = number(&line, 0);
     let end = steps.end;
     if end < 64 {
         let q = number(&line, end + 1);
-        measure(steps.value, q.value, after(&line, q.end));
+        measure(&rt, steps.value, q.value, after(&line, q.end));
     }
 }

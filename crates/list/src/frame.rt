@@ -10,8 +10,8 @@ ghost use Rattle.night_run.specs.Ran.{either_held, Told};
 ghost use Rattle.report.specs.Put.{Counts, put};
 ghost use Rattle.list.specs.Frame.{frame_text};
 
-use command::{fail, wrong};
-use libc::STDOUT_FILENO;
+use command::{fail, put_out, wrong};
+use files::Source;
 use listing::list;
 use night_run::{Taken, WORDS, hold_file};
 use report::put_refused;
@@ -55,39 +55,45 @@ fn text_of(number: u32, detail: u64, memory: &[u32], frame: usize, out: &mut [u8
 }
 
 // Prints a text: the one for the file that was read.
-fn show(t: Taken, frame: usize, text: &[u8])
+fn show(rt: &HostRuntime, t: Taken, frame: usize, text: &[u8])
     requires { Told either_held (frame_text frame) t text.now }
 {
-    if !io::write_all(STDOUT_FILENO, text) {
-        fail(b"standard output");
-    }
+    put_out(rt, text);
 }
 
 // Prints the text for the answer. A frame that is not there, which this word named, is told.
-fn tell(t: Taken, number: u32, detail: u64, memory: &[u32], frame: usize, word: &[u8])
+fn tell(
+    rt: &HostRuntime,
+    t: Taken,
+    number: u32,
+    detail: u64,
+    memory: &[u32],
+    frame: usize,
+    word: &[u8],
+)
     requires fact_1 { frame < 1024 }
     requires fact_2 { ((h : House) × Told either_held (frame_text frame) t (frame_text frame (answered (verdict number detail) (world h memory.now)))) }
 {
     let mut out = [0u8; ROOM];
     let n = text_of(number, detail, memory, frame, &mut out);
     if n == 0 {
-        wrong(b"FRAME, one that the memory has", word);
+        wrong(rt, b"FRAME, one that the memory has", word);
         return;
     }
-    show(t, frame, &out[..n]);
+    show(rt, t, frame, &out[..n]);
 }
 
-// Reads what is open as fd, and prints the frame that this word names. A read that fails prints nothing and says why.
-pub fn list_frame(fd: i32, name: &[u8], frame: usize, word: &[u8])
+// Reads the source, and prints the frame that this word names. A read that fails prints nothing and says why.
+pub fn list_frame(rt: &HostRuntime, source: &mut Source, name: &[u8], frame: usize, word: &[u8])
     requires { frame < 1024 }
 {
     let mut memory = [0u32; WORDS];
-    let x = hold_file(fd, &mut memory);
+    let x = hold_file(source, &mut memory);
     let taken = x.taken;
     if taken.failed() {
-        fail(name);
+        fail(rt, name, source.why());
         return;
     }
     let n = x.words;
-    tell(taken, x.number, x.detail, &memory[..n], frame, word);
+    tell(rt, taken, x.number, x.detail, &memory[..n], frame, word);
 }

@@ -1,34 +1,36 @@
 // list FILE: reads raw words, four bytes each, the lowest first, and prints each as a line of its listing. list FILE FRAME: reads a house file or a saved one, and
 // prints the words of one frame of the memory that it holds so; it boots and runs nothing.
+#![tactic(auto)]
+
 mod frame;
 mod words;
 
 ghost use Rattle.std.specs.Prelude.{◌≡◌, ◌≤◌, length};
 ghost use Rattle.list.specs.Words.{Bytes, Behind, rest_behind, Told};
 
-use command::{asks_help, fail, number_in, open, wrong};
+use command::{asks_help, fail, number_in, open, put_out, wrong};
+use files::{Source, count, print};
 use frame::list_frame;
-use libc::STDOUT_FILENO;
 use words::{Rest, put_words};
 
 // The lines of a piece of 4,096 bytes, at most 43 bytes with the newline: no byte completes more than one.
 const ROOM: usize = 176128;
 
-// Prints the text for a piece, and answers whether that could be written.
-fn show(r: Rest, piece: &[u8], text: &[u8]) -> bool
+// Prints the text for a piece, and answers whether that could be written. Where it could not, that is told.
+fn show(rt: &HostRuntime, r: Rest, piece: &[u8], text: &[u8]) -> bool
     requires { Told r piece.now text.now }
 {
-    io::write_all(STDOUT_FILENO, text)
+    put_out(rt, text)
 }
 
 // What a piece leaves, and whether its lines could be written.
-#[derive(Drop)]
+#[derive(Clone, Copy)]
 struct Listed {
     rest: Rest,
     written: bool,
 }
 
-fn list_piece(r: Rest, piece: &[u8]) -> Listed
+fn list_piece(rt: &HostRuntime, r: Rest, piece: &[u8]) -> Listed
     requires fact_1 { length piece.now ≤ 4096 }
     requires fact_2 { Behind r }
     ensures rest_value { result.rest ≡ rest_behind r piece.now }
@@ -38,36 +40,35 @@ fn list_piece(r: Rest, piece: &[u8]) -> Listed
     let p = put_words(r, piece, &mut out);
     let n = p.end;
     let rest = p.rest;
-    let written = show(r, piece, &out[..n]);
+    let written = show(rt, r, piece, &out[..n]);
     Listed { rest, written }
 }
 
 // At the end of the words. Fewer than four bytes at the end are told.
-fn finish(r: Rest) {
+fn finish(rt: &HostRuntime, r: Rest) {
     if r.count % 4 != 0 {
-        wrong(b"whole words, 4 bytes each", b"fewer bytes at the end");
+        wrong(rt, b"whole words, 4 bytes each", b"fewer bytes at the end");
     }
 }
 
-// Reads what is open as fd to its end, and prints piece by piece. A read or a write that fails is told. No file has so many pieces that the count would end them.
-fn list_words(fd: i32, name: &[u8]) {
+// Reads the source to its end, and prints piece by piece. A read or a write that fails is told. No file has so many pieces that the count would end them.
+fn list_words(rt: &HostRuntime, source: &mut Source, name: &[u8]) {
     let mut rest = Rest::none();
     let mut left = u64::MAX;
     while left > 0 {
-        let mut buffer = io::buffer();
-        let got = libc::read(fd, &mut buffer);
+        let mut buffer = files::buffer();
+        let got = source.read(&mut buffer);
         if got < 0 {
-            fail(name);
+            fail(rt, name, source.why());
             return;
         }
-        let n = io::count(got, &buffer);
+        let n = count(got, &buffer);
         if n == 0 {
-            finish(rest);
+            finish(rt, rest);
             return;
         }
-        let x = list_piece(rest, &buffer[..n]);
+        let x = list_piece(rt, rest, &buffer[..n]);
         if !x.written {
-            fail(b"standard output");
             return;
         }
         rest = x.rest;
@@ -75,59 +76,56 @@ fn list_words(fd: i32, name: &[u8]) {
     }
 }
 
-fn help() {
-    io::write_all(
-        STDOUT_FILENO,
+fn help(rt: &HostRuntime) {
+    let _ = print(
+        rt,
         b"list FILE: reads raw words (- for standard input), four bytes each, the lowest first, and prints each as a line: docs/LISTINGS.md has the lines\n",
     );
-    io::write_all(
-        STDOUT_FILENO,
+    let _ = print(
+        rt,
         b"list FILE FRAME: reads a house file or a saved one, and prints the words of one frame, from 0 on, of the memory that it holds so; nothing is run\n",
     );
 }
 
 // The frame that the second word names.
-fn frame_of(fd: i32, name: &[u8]) {
-    let mut word = io::buffer();
-    let length = os::arg(2, &mut word);
+fn frame_of(rt: &HostRuntime, source: &mut Source, name: &[u8]) {
+    let mut word = files::buffer();
+    let length = files::word(rt, 2, &mut word);
     let n = number_in(&word[..length], 1023);
     if !n.said {
-        wrong(b"FRAME, a decimal below 1024", &word[..length]);
+        wrong(rt, b"FRAME, a decimal below 1024", &word[..length]);
         return;
     }
-    list_frame(fd, name, n.value as usize, &word[..length]);
+    list_frame(rt, source, name, n.value as usize, &word[..length]);
 }
 
-// What is open as fd, with so many words.
-fn list_open(fd: i32, name: &[u8], given: usize) {
+// What is open as source, with so many words.
+fn list_open(rt: &HostRuntime, source: &mut Source, name: &[u8], given: usize) {
     if given > 2 {
-        frame_of(fd, name);
+        frame_of(rt, source, name);
         return;
     }
-    list_words(fd, name);
+    list_words(rt, source, name);
 }
 
-fn main() {
-    let mut path = io::buffer();
-    let length = os::arg(1, &mut path);
+fn main(rt: HostRuntime) {
+    let mut path = files::buffer();
+    let length = files::word(&rt, 1, &mut path);
     if asks_help(&path[..length]) {
-        help();
+        help(&rt);
         return;
     }
-    let given = os::arg_count();
+    let given = files::words(&rt);
     if given < 2 {
-        wrong(b"FILE [FRAME]", b"fewer words");
+        wrong(&rt, b"FILE [FRAME]", b"fewer words");
         return;
     }
     if given > 3 {
-        wrong(b"FILE [FRAME]", b"more words");
+        wrong(&rt, b"FILE [FRAME]", b"more words");
         return;
     }
-    let fd = open(&path[..length]);
-    if fd < 0 {
-        fail(&path[..length]);
-        return;
+    match open(&rt, &path[..length]) {
+        Ok(mut source) => list_open(&rt, &mut source, &path[..length], given),
+        Err(why) => fail(&rt, &path[..length], why),
     }
-    list_open(fd, &path[..length], given);
-    libc::close(fd);
 }

@@ -8,7 +8,7 @@ use decimal::put_byte;
 use listing::writing::put_line;
 
 // What the bytes so far leave: the last four of them, each at the top when it came, and how many of these stand behind the last whole word, modulo 4.
-#[derive(Drop)]
+#[derive(Clone, Copy)]
 pub struct Rest {
     pub word: u32,
     pub count: u32,
@@ -44,7 +44,7 @@ fn put_completed(out: &mut [u8], at: usize, r: Rest, b: u8) -> usize
 }
 
 // The lines of a piece: where they end, and what its bytes leave.
-#[derive(Drop)]
+#[derive(Clone, Copy)]
 pub struct Put {
     pub rest: Rest,
     pub end: usize,

@@ -1,5 +1,7 @@
 // look FILE: reads a house file, or standard input where no file is named, boots and runs its house as night does, and prints each partition's registers, and why
 // it was interrupted last. Of a saved file it prints the same, and runs nothing. Or `refused N D`.
+#![tactic(auto)]
+
 mod lines;
 
 ghost use Rattle.std.specs.Prelude.{◌≡◌, List, ℕ};
@@ -10,12 +12,13 @@ ghost use Rattle.report.specs.Put.{Counts, put};
 ghost use Rattle.night_run.specs.Ran.{no_frames, either_file, Told};
 ghost use Rattle.look.specs.Look.{printed};
 
-use command::{asks_help, fail, open, wrong};
+use command::{asks_help, fail, open, put_out, wrong};
+use files::{Source, is_not_given, print, try_word};
 use house::House;
-use libc::{STDIN_FILENO, STDOUT_FILENO};
 use lines::{ROOM, put_house};
 use night_run::{Taken, WORDS, read_file};
 use report::put_refused;
+use std::io;
 
 // Puts the text for an answer at the buffer's start, and answers its length.
 fn text_of(number: u32, detail: u64, house: House, out: &mut [u8; ROOM]) -> usize
@@ -29,19 +32,19 @@ fn text_of(number: u32, detail: u64, house: House, out: &mut [u8; ROOM]) -> usiz
 }
 
 // What was read, and the length of the text for it.
-#[derive(Drop)]
+#[derive(Clone, Copy)]
 struct Text {
     taken: Taken,
     length: usize,
 }
 
-// Reads what is open as fd, runs it where it is a house file, and puts the text for it at the buffer's start; none where a read failed.
-fn text_for(fd: i32, memory: &mut [u32; WORDS], out: &mut [u8; ROOM]) -> Text
+// Reads the source, runs it where it is a house file, and puts the text for it at the buffer's start; none where a read failed.
+fn text_for(source: &mut Source, memory: &mut [u32; WORDS], out: &mut [u8; ROOM]) -> Text
     requires { memory.old ≡ no_frames }
     ensures by_index { (text : List ℕ) × Told either_file printed result.taken text × ((result.length, out.new) ≡ put text out.old) }
     ensures counts { Counts result.length out.new }
 {
-    let x = read_file(fd, memory);
+    let x = read_file(source, memory);
     let taken = x.taken;
     if taken.failed() {
         return Text { taken, length: 0 };
@@ -52,63 +55,66 @@ fn text_for(fd: i32, memory: &mut [u32; WORDS], out: &mut [u8; ROOM]) -> Text
 }
 
 // Prints a text: the one for the file that was read.
-fn show(t: Taken, text: &[u8])
+fn show(rt: &HostRuntime, t: Taken, text: &[u8])
     requires { Told either_file printed t text.now }
 {
-    if !io::write_all(STDOUT_FILENO, text) {
-        fail(b"standard output");
-    }
+    put_out(rt, text);
 }
 
-// Reads what is open as fd, runs it where it is a house file, and prints. A read that fails prints nothing and says why.
-fn look(fd: i32, name: &[u8]) {
+// Reads the source, runs it where it is a house file, and prints. A read that fails prints nothing and says why.
+fn look(rt: &HostRuntime, source: &mut Source, name: &[u8]) {
     let mut memory = [0u32; WORDS];
     let mut out = [0u8; ROOM];
-    let x = text_for(fd, &mut memory, &mut out);
+    let x = text_for(source, &mut memory, &mut out);
     if x.taken.failed() {
-        fail(name);
+        fail(rt, name, source.why());
         return;
     }
     let n = x.length;
-    show(x.taken, &out[..n]);
+    show(rt, x.taken, &out[..n]);
 }
 
-fn help() {
-    io::write_all(
-        STDOUT_FILENO,
+fn help(rt: &HostRuntime) {
+    let _ = print(
+        rt,
         b"look [FILE]: reads a house file (standard input where none is named, or where it is -), boots and runs its house, or reads a saved file, and prints each\n",
     );
-    io::write_all(
-        STDOUT_FILENO,
+    let _ = print(
+        rt,
         b"partition's state, why it was interrupted last, and its registers; or `refused N D`: docs/FILES.md tells what it means\n",
     );
 }
 
-fn main() {
-    if os::arg_count() > 2 {
-        wrong(b"one FILE or none", b"more words");
+// Without a word for FILE: standard input. With one that cannot be taken, that is told.
+fn without_name(rt: &HostRuntime, why: io::Error) {
+    if is_not_given(why) {
+        let mut source = Source::standard_input(rt);
+        look(rt, &mut source, b"standard input");
         return;
     }
-    let mut path = io::buffer();
-    let length = os::arg(1, &mut path);
-    let e = os::errno();
-    if e == libc::EINVAL {
-        look(STDIN_FILENO, b"standard input");
+    fail(rt, b"the file's name", why);
+}
+
+// With FILE.
+fn with_name(rt: &HostRuntime, name: &[u8]) {
+    if asks_help(name) {
+        help(rt);
         return;
     }
-    if e != 0 {
-        fail(b"the file's name");
+    match open(rt, name) {
+        Ok(mut source) => look(rt, &mut source, name),
+        Err(why) => fail(rt, name, why),
+    }
+}
+
+fn main(rt: HostRuntime) {
+    if files::words(&rt) > 2 {
+        wrong(&rt, b"one FILE or none", b"more words");
         return;
     }
-    if asks_help(&path[..length]) {
-        help();
-        return;
+    let mut path = files::buffer();
+    match try_word(&rt, 1, &mut path) {
+        Ok(length) => with_name(&rt, &path[..length]),
+        Err(why) => without_name(&rt, why),
     }
-    let fd = open(&path[..length]);
-    if fd < 0 {
-        fail(&path[..length]);
-        return;
-    }
-    look(fd, &path[..length]);
-    libc::close(fd);
 }

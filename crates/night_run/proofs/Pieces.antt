@@ -12,7 +12,7 @@ use lib.Seq.{take-append-le, take_all, length-take-le}
 use native.Mathlib.Nat.{min-eq_left}
 use lib.Signed.{lt_z}
 use Rattle.dlx.specs.Choice.{if◌then◌else◌}
-use Rattle.io.specs.Counts.{IsPrefixLen, clamp_len}
+use Rattle.files.specs.Counts.{IsPrefixLen, clamp_len}
 use Rattle.dlx.proofs.Kept.{either}
 use Rattle.dlx.proofs.Tests.{by_test}
 use Rattle.house.proofs.Lists.Bounded.{one_way}

@@ -2,7 +2,7 @@
 use Rattle.std.specs.Prelude.{◌≡◌, Bool, true, false, ◌&&◌, ◌||◌, List, [], ◌++◌, ℕ, ◌+◌, ◌<◌, ◌≤◌, ◌^◌, ltb, leb, eqb, ℤ, pos, negsuc, length, get_or, take}
 use Rattle.std.specs.Int.Signed.{lt_z}
 use Rattle.dlx.specs.Choice.{if◌then◌else◌}
-use Rattle.libc.specs.Io.{Moved}
+use Rattle.files.specs.Counts.{Moved}
 use Rattle.night_run.specs.declared.input.Taken.{Taken}
 
 abbrev pub Bytes : List ℕ → Type 0

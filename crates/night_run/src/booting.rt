@@ -11,12 +11,13 @@ ghost use Rattle.night_run.specs.Ran.{after_boot, house_file, house_file_by, hel
 use crate::input::take_piece;
 use crate::{Ran, Taken};
 use boot::boot;
+use files::Source;
 use house::{Answer, House};
 use housefile::{Reader, feed, finished, lists, total};
 use unshadowed_run::run_by;
 
 // How the reads stand, and the reader behind their bytes.
-#[derive(Drop)]
+#[derive(Clone, Copy)]
 pub struct Housed {
     pub taken: Taken,
     pub reader: Reader,
@@ -26,7 +27,7 @@ pub struct Housed {
 fn house_piece(
     t: Taken,
     r: Reader,
-    fd: i32,
+    source: &mut Source,
     turns: &mut [u32; 2],
     pages: &mut [u32; 8],
     frames: &mut [u32; 2048],
@@ -34,8 +35,8 @@ fn house_piece(
 ) -> Housed
     ensures { (count : ℕ) × (buffer : List ℕ) × OneRead t result.taken count buffer × (length buffer ≡ 65536) × (read result.reader turns.new pages.new frames.new memory.new ≡ fed (read r turns.old pages.old frames.old memory.old) (take count buffer)) }
 {
-    let mut buffer = io::large_buffer();
-    let p = take_piece(t, fd, &mut buffer);
+    let mut buffer = files::large_buffer();
+    let p = take_piece(t, source, &mut buffer);
     let n = p.count;
     let reader = feed(r, &buffer[..n], turns, pages, frames, memory);
     let taken = p.taken;
@@ -44,7 +45,7 @@ fn house_piece(
 
 // Reads on, to the end of the input or to the first wrong record: that one's refusal no byte behind it can change.
 fn take_house(
-    fd: i32,
+    source: &mut Source,
     t: Taken,
     r: Reader,
     turns: &mut [u32; 2],
@@ -57,7 +58,7 @@ fn take_house(
     let mut taken = t;
     let mut reader = r;
     while taken.more(reader.wrong) {
-        let x = house_piece(taken, reader, fd, turns, pages, frames, memory);
+        let x = house_piece(taken, reader, source, turns, pages, frames, memory);
         taken = x.taken;
         reader = x.reader;
     }
@@ -66,7 +67,7 @@ fn take_house(
 
 // Reads all of it: the first bytes, and on behind them.
 fn read_house(
-    fd: i32,
+    source: &mut Source,
     t: Taken,
     head: &[u8],
     turns: &mut [u32; 2],
@@ -80,7 +81,7 @@ fn read_house(
 {
     let none = Reader::none();
     let first = feed(none, head, turns, pages, frames, memory);
-    take_house(fd, t, first, turns, pages, frames, memory)
+    take_house(source, t, first, turns, pages, frames, memory)
 }
 
 // ---- what it comes to
@@ -174,7 +175,13 @@ fn held_house(taken: Taken, reader: Reader, memory: &[u32]) -> Ran
 }
 
 // Reads on behind the first bytes, over 16 zero frames, boots the house and runs it by the engine that is asked for.
-pub fn boot_from(fd: i32, t: Taken, head: &[u8], memory: &mut [u32], unshadowed: bool) -> Ran
+pub fn boot_from(
+    source: &mut Source,
+    t: Taken,
+    head: &[u8],
+    memory: &mut [u32],
+    unshadowed: bool,
+) -> Ran
     requires fact_1 { Going house_file.wrong head.now t head.now }
     requires fact_2 { memory.old ≡ replicate 16384 0 }
     ensures handed_from { HandedFrom (house_file_by unshadowed) head.now result memory.new }
@@ -183,14 +190,14 @@ pub fn boot_from(fd: i32, t: Taken, head: &[u8], memory: &mut [u32], unshadowed:
     let mut turns = [0u32; 2];
     let mut pages = [0u32; 8];
     let mut frames = [0u32; 2048];
-    let x = read_house(fd, t, head, &mut turns, &mut pages, &mut frames, memory);
+    let x = read_house(source, t, head, &mut turns, &mut pages, &mut frames, memory);
     let taken = x.taken;
     let reader = x.reader;
     ran_house(taken, reader, &turns, &pages, &frames, memory, unshadowed)
 }
 
 // Reads on behind the first bytes, over 16 zero frames, and boots nothing.
-pub fn hold_from(fd: i32, t: Taken, head: &[u8], memory: &mut [u32]) -> Ran
+pub fn hold_from(source: &mut Source, t: Taken, head: &[u8], memory: &mut [u32]) -> Ran
     requires fact_1 { Going house_file.wrong head.now t head.now }
     requires fact_2 { memory.old ≡ replicate 16384 0 }
     ensures handed_from { HandedFrom held_file head.now result memory.new }
@@ -199,7 +206,7 @@ pub fn hold_from(fd: i32, t: Taken, head: &[u8], memory: &mut [u32]) -> Ran
     let mut turns = [0u32; 2];
     let mut pages = [0u32; 8];
     let mut frames = [0u32; 2048];
-    let x = read_house(fd, t, head, &mut turns, &mut pages, &mut frames, memory);
+    let x = read_house(source, t, head, &mut turns, &mut pages, &mut frames, memory);
     let taken = x.taken;
     let reader = x.reader;
     held_house(taken, reader, memory)

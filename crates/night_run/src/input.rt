@@ -1,10 +1,11 @@
 // The reads of a file: how many bytes they bring, and how they end. What is made of the bytes is for others.
 ghost use Rattle.std.specs.Prelude.{◌≡◌, Bool, not, ◌&&◌, List, ◌++◌, ℕ, ◌-◌, ◌^◌, ◌<◌, ◌≤◌, ltb, length, take};
-ghost use Rattle.io.specs.Counts.{IsPrefixLen};
+ghost use Rattle.files.specs.Counts.{IsPrefixLen};
 ghost use Rattle.night_run.specs.Pieces.{Bytes, none_taken, over, brought, after_read, OneRead, Going};
 
 use crate::system;
 use crate::system::Answer;
+use files::Source;
 
 // How many bytes of a file are read before anything is made of them, if there are so many: the first record of a saved file, which tells how large a memory it
 // wants.
@@ -12,7 +13,7 @@ pub const HEAD: usize = 22;
 
 // What the reads have come to: how many bytes they brought, whether they are over, and whether the last one failed. Other modules get one from `none` and
 // `take_piece` alone.
-#[derive(Drop)]
+#[derive(Clone, Copy)]
 pub struct Taken {
     bytes: u64,
     ended: bool,
@@ -78,7 +79,7 @@ fn over(t: Taken, failed: bool) -> Taken
 }
 
 // What a read brought: how the reads stand, and how many bytes stand at the buffer's start.
-#[derive(Drop)]
+#[derive(Clone, Copy)]
 pub struct Piece {
     pub taken: Taken,
     pub count: usize,
@@ -113,35 +114,35 @@ fn after_read(t: Taken, answer: Answer, buffer: &[u8]) -> Piece
 }
 
 // One read more. What it answers and leaves in the buffer is the system's.
-pub fn take_piece(t: Taken, fd: i32, buffer: &mut [u8]) -> Piece
+pub fn take_piece(t: Taken, source: &mut Source, buffer: &mut [u8]) -> Piece
     ensures one_read { OneRead t result.taken result.count buffer.new }
     ensures prefix_len { IsPrefixLen result.count buffer.new }
 {
-    let answer = system::read(fd, buffer);
+    let answer = system::read(source, buffer);
     after_read(t, answer, buffer)
 }
 
 // ---- the first bytes
 
 // One read more of them.
-fn head_piece(t: Taken, fd: i32, head: &mut [u8]) -> Piece
+fn head_piece(t: Taken, source: &mut Source, head: &mut [u8]) -> Piece
     requires fact_1 { t.bytes < 22 }
     requires fact_2 { length head.old ≡ 22 }
     ensures { (buffer : List ℕ) × OneRead t result.taken result.count buffer × (length buffer ≡ 22 - t.bytes) × (take result.taken.bytes head.new ≡ take t.bytes head.old ++ take result.count buffer) }
 {
     let n = t.bytes as usize;
-    take_piece(t, fd, &mut head[n..22])
+    take_piece(t, source, &mut head[n..22])
 }
 
-// The first bytes of what is open as fd, at the buffer's start.
-pub fn take_head(fd: i32, head: &mut [u8]) -> Taken
+// The first bytes of the source, at the buffer's start.
+pub fn take_head(source: &mut Source, head: &mut [u8]) -> Taken
     requires { length head.old ≡ 22 }
     ensures by_index { (wrong : List ℕ → Bool) → Going wrong (take result.bytes head.new) result (take result.bytes head.new) }
     ensures bytes_bound { result.bytes ≤ 22 }
 {
     let mut t = Taken::none();
     while t.begins() {
-        let p = head_piece(t, fd, head);
+        let p = head_piece(t, source, head);
         t = p.taken;
     }
     t

@@ -1,5 +1,7 @@
 // What programs over a file share. A house file is read in pieces, its house booted over a memory of 16 zero frames and run; a saved file is read in pieces, and
 // nothing is run. House and memory are handed on, or the refusal.
+#![tactic(auto)]
+
 mod booting;
 mod choice;
 mod input;
@@ -12,6 +14,7 @@ ghost use Rattle.night_run.specs.Ran.{no_frames, house_file_by, saved_file, eith
 
 use booting::{boot_from, hold_from};
 use choice::{is_saved, room};
+use files::Source;
 use house::House;
 pub use input::Taken;
 use input::take_head;
@@ -21,7 +24,7 @@ use restoring::restore_from;
 pub const WORDS: usize = 1048576;
 
 // What was read, and what it came to: a house number and its detail, the house, and how many words of the lent memory are its.
-#[derive(Drop)]
+#[derive(Clone, Copy)]
 pub struct Ran {
     pub taken: Taken,
     pub number: u32,
@@ -49,96 +52,96 @@ impl Ran {
 // ---- in a memory that is lent as a slice
 
 // A house file, by the engine that is asked for.
-fn run_in(fd: i32, memory: &mut [u32], unshadowed: bool) -> Ran
+fn run_in(source: &mut Source, memory: &mut [u32], unshadowed: bool) -> Ran
     requires { memory.old ≡ no_frames }
     ensures handed { Handed (house_file_by unshadowed) result memory.new }
     ensures words_in_bounds { result.words ≤ length memory.new }
 {
     let mut head = [0u8; 22];
-    let t = take_head(fd, &mut head);
+    let t = take_head(source, &mut head);
     let n = t.in_head(&head);
-    boot_from(fd, t, &head[..n], &mut memory[..16384], unshadowed)
+    boot_from(source, t, &head[..n], &mut memory[..16384], unshadowed)
 }
 
 // A saved file.
-fn restore_in(fd: i32, memory: &mut [u32]) -> Ran
+fn restore_in(source: &mut Source, memory: &mut [u32]) -> Ran
     requires { memory.old ≡ no_frames }
     ensures handed { Handed saved_file result memory.new }
     ensures words_in_bounds { result.words ≤ length memory.new }
 {
     let mut head = [0u8; 22];
-    let t = take_head(fd, &mut head);
+    let t = take_head(source, &mut head);
     let n = t.in_head(&head);
     let words = room(&head[..n]);
-    restore_from(fd, t, &head[..n], &mut memory[..words])
+    restore_from(source, t, &head[..n], &mut memory[..words])
 }
 
 // Either; the first record tells which.
-fn read_in(fd: i32, memory: &mut [u32]) -> Ran
+fn read_in(source: &mut Source, memory: &mut [u32]) -> Ran
     requires { memory.old ≡ no_frames }
     ensures handed { Handed either_file result memory.new }
     ensures words_in_bounds { result.words ≤ length memory.new }
 {
     let mut head = [0u8; 22];
-    let t = take_head(fd, &mut head);
+    let t = take_head(source, &mut head);
     let n = t.in_head(&head);
     if is_saved(&head[..n]) {
         let words = room(&head[..n]);
-        return restore_from(fd, t, &head[..n], &mut memory[..words]);
+        return restore_from(source, t, &head[..n], &mut memory[..words]);
     }
-    boot_from(fd, t, &head[..n], &mut memory[..16384], false)
+    boot_from(source, t, &head[..n], &mut memory[..16384], false)
 }
 
 // Either, and nothing is booted of a house file.
-fn hold_in(fd: i32, memory: &mut [u32]) -> Ran
+fn hold_in(source: &mut Source, memory: &mut [u32]) -> Ran
     requires { memory.old ≡ no_frames }
     ensures handed { Handed either_held result memory.new }
     ensures words_in_bounds { result.words ≤ length memory.new }
 {
     let mut head = [0u8; 22];
-    let t = take_head(fd, &mut head);
+    let t = take_head(source, &mut head);
     let n = t.in_head(&head);
     if is_saved(&head[..n]) {
         let words = room(&head[..n]);
-        return restore_from(fd, t, &head[..n], &mut memory[..words]);
+        return restore_from(source, t, &head[..n], &mut memory[..words]);
     }
-    hold_from(fd, t, &head[..n], &mut memory[..16384])
+    hold_from(source, t, &head[..n], &mut memory[..16384])
 }
 
 // ---- and as the array that a program has
 
-// Reads what is open as fd as a house file, boots its house and runs it by the engine that is asked for.
-pub fn run_file(fd: i32, memory: &mut [u32; WORDS], unshadowed: bool) -> Ran
+// Reads the source as a house file, boots its house and runs it by the engine that is asked for.
+pub fn run_file(source: &mut Source, memory: &mut [u32; WORDS], unshadowed: bool) -> Ran
     requires { memory.old ≡ no_frames }
     ensures handed { Handed (house_file_by unshadowed) result memory.new }
     ensures words_in_bounds { result.words ≤ length memory.new }
 {
-    run_in(fd, memory, unshadowed)
+    run_in(source, memory, unshadowed)
 }
 
-// Reads what is open as fd as a saved file.
-pub fn restore_file(fd: i32, memory: &mut [u32; WORDS]) -> Ran
+// Reads the source as a saved file.
+pub fn restore_file(source: &mut Source, memory: &mut [u32; WORDS]) -> Ran
     requires { memory.old ≡ no_frames }
     ensures handed { Handed saved_file result memory.new }
     ensures words_in_bounds { result.words ≤ length memory.new }
 {
-    restore_in(fd, memory)
+    restore_in(source, memory)
 }
 
-// Reads what is open as fd: a saved file, or a house file, whose house is booted and run. The first record tells which.
-pub fn read_file(fd: i32, memory: &mut [u32; WORDS]) -> Ran
+// Reads the source: a saved file, or a house file, whose house is booted and run. The first record tells which.
+pub fn read_file(source: &mut Source, memory: &mut [u32; WORDS]) -> Ran
     requires { memory.old ≡ no_frames }
     ensures handed { Handed either_file result memory.new }
     ensures words_in_bounds { result.words ≤ length memory.new }
 {
-    read_in(fd, memory)
+    read_in(source, memory)
 }
 
-// Reads what is open as fd: a saved file, or a house file, and then boots nothing.
-pub fn hold_file(fd: i32, memory: &mut [u32; WORDS]) -> Ran
+// Reads the source: a saved file, or a house file, and then boots nothing.
+pub fn hold_file(source: &mut Source, memory: &mut [u32; WORDS]) -> Ran
     requires { memory.old ≡ no_frames }
     ensures handed { Handed either_held result memory.new }
     ensures words_in_bounds { result.words ≤ length memory.new }
 {
-    hold_in(fd, memory)
+    hold_in(source, memory)
 }

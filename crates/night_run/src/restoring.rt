@@ -7,11 +7,12 @@ ghost use Rattle.night_run.specs.Ran.{refused_over, saved_over, SavedGoing, Save
 
 use crate::input::take_piece;
 use crate::{Ran, Taken};
+use files::Source;
 use restore::Restoring;
 use restore::reading::{begin, finish, read};
 
 // How the reads stand, and the reading behind their bytes.
-#[derive(Drop)]
+#[derive(Clone, Copy)]
 pub struct Restored {
     pub taken: Taken,
     pub restoring: Restoring,
@@ -21,14 +22,14 @@ pub struct Restored {
 fn saved_piece(
     t: Taken,
     r: Restoring,
-    fd: i32,
+    source: &mut Source,
     held: &mut [u8; 4106],
     memory: &mut [u32],
 ) -> Restored
     ensures { (count : ℕ) × (buffer : List ℕ) × OneRead t result.taken count buffer × (length buffer ≡ 65536) × (reading_at result.restoring.reader result.restoring.house held.new memory.new ≡ read_piece (reading_at r.reader r.house held.old memory.old) memory.old (take count buffer)) }
 {
-    let mut buffer = io::large_buffer();
-    let p = take_piece(t, fd, &mut buffer);
+    let mut buffer = files::large_buffer();
+    let p = take_piece(t, source, &mut buffer);
     let n = p.count;
     let restoring = read(r, &buffer[..n], held, memory);
     let taken = p.taken;
@@ -37,7 +38,7 @@ fn saved_piece(
 
 // Reads on, to the end of the input or to the first refusal, which no byte behind it can change.
 fn take_saved(
-    fd: i32,
+    source: &mut Source,
     t: Taken,
     r: Restoring,
     held: &mut [u8; 4106],
@@ -48,7 +49,7 @@ fn take_saved(
     let mut taken = t;
     let mut restoring = r;
     while taken.more(restoring.reader.refusal != 0) {
-        let x = saved_piece(taken, restoring, fd, held, memory);
+        let x = saved_piece(taken, restoring, source, held, memory);
         taken = x.taken;
         restoring = x.restoring;
     }
@@ -56,7 +57,7 @@ fn take_saved(
 }
 
 // Reads on behind the first bytes, over this memory.
-pub fn restore_from(fd: i32, t: Taken, head: &[u8], memory: &mut [u32]) -> Ran
+pub fn restore_from(source: &mut Source, t: Taken, head: &[u8], memory: &mut [u32]) -> Ran
     requires { Going (refused_over memory.old) head.now t head.now }
     ensures handed_from { HandedFrom (saved_over memory.old) head.now result memory.new }
     ensures words_in_bounds { result.words ≤ length memory.new }
@@ -64,7 +65,7 @@ pub fn restore_from(fd: i32, t: Taken, head: &[u8], memory: &mut [u32]) -> Ran
     let mut held = [0u8; 4106];
     let none = begin();
     let first = read(none, head, &mut held, memory);
-    let x = take_saved(fd, t, first, &mut held, memory);
+    let x = take_saved(source, t, first, &mut held, memory);
     let taken = x.taken;
     if taken.failed() {
         return Ran::none(taken, 0, 0);

@@ -1,20 +1,21 @@
 // What the operating system hands over. No contract can say what that is, so an answer comes from `read` alone.
 ghost use Rattle.std.specs.Prelude.{◌≡◌, pos, length};
 ghost use Rattle.std.specs.Int.Signed.{lt_z};
-ghost use Rattle.io.specs.Counts.{IsPrefixLen, clamp_len};
-ghost use Rattle.libc.specs.Io.{Moved};
+ghost use Rattle.files.specs.Counts.{IsPrefixLen, Moved, clamp_len};
+
+use files::{Source, count};
 
 // What a read answered: how many bytes it put at the buffer's start, none at the end of the input; or a number below 0, where it failed.
-#[derive(Drop)]
+#[derive(Clone, Copy)]
 pub struct Answer {
     got: isize,
 }
 
 // One read.
-pub fn read(fd: i32, buffer: &mut [u8]) -> Answer
+pub fn read(source: &mut Source, buffer: &mut [u8]) -> Answer
     ensures { Moved (length buffer.old) result.got }
 {
-    let got = libc::read(fd, buffer);
+    let got = source.read(buffer);
     Answer { got }
 }
 
@@ -24,7 +25,7 @@ impl Answer {
         ensures prefix_len { IsPrefixLen result buffer.now }
         ensures value { result ≡ clamp_len self.got (length buffer.now) }
     {
-        io::count(self.got, buffer)
+        count(self.got, buffer)
     }
 
     pub fn failed(self) -> bool

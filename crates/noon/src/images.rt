@@ -5,27 +5,28 @@ ghost use Rattle.laying.specs.Slip.{slip_text};
 ghost use Rattle.noon.specs.Noon.{Laid, LaidNext};
 
 use asked::words::{name_length, put_at};
-use command::{fail, open, wrong};
+use command::{fail, open, put_out, wrong};
 use dlx::words::wide;
+use files::{Source, print};
 use laying::{fault_of, lay_image, put_slip};
-use libc::STDOUT_FILENO;
 
 // ---- one image
 
-fn tell_fault(fault: u32, name: &[u8]) {
+fn tell_fault(rt: &HostRuntime, fault: u32, name: &[u8]) {
     if fault == 1 {
-        wrong(b"an image of whole words, 4 bytes each", name);
+        wrong(rt, b"an image of whole words, 4 bytes each", name);
         return;
     }
     if fault == 2 {
-        wrong(b"an image that ends within its partition's pages", name);
+        wrong(rt, b"an image that ends within its partition's pages", name);
         return;
     }
-    wrong(b"an image apart from the others of its partition", name);
+    wrong(rt, b"an image apart from the others of its partition", name);
 }
 
 // Image k, which has these bytes. Answers whether it is laid.
 fn lay_bytes(
+    rt: &HostRuntime,
     k: u32,
     name: &[u8],
     bytes: &[u8],
@@ -45,7 +46,7 @@ fn lay_bytes(
 {
     let fault = fault_of(pages, table, counts, k, bytes.len());
     if fault != 0 {
-        tell_fault(fault, name);
+        tell_fault(rt, fault, name);
         return false;
     }
     let at = 3 * wide(k);
@@ -56,15 +57,16 @@ fn lay_bytes(
 }
 
 // The input is at its end: a read brings no byte, and does not fail.
-fn at_end(fd: i32) -> bool {
-    let mut buffer = io::buffer();
-    libc::read(fd, &mut buffer) == 0
+fn at_end(source: &mut Source) -> bool {
+    let mut buffer = files::buffer();
+    source.read(&mut buffer) == 0
 }
 
 // Image k, which is open as fd. More than 64 KiB are beyond any partition's pages.
 fn lay_open(
+    rt: &HostRuntime,
     k: u32,
-    fd: i32,
+    source: &mut Source,
     name: &[u8],
     pages: &[u32],
     frames: &[u32],
@@ -79,15 +81,16 @@ fn lay_open(
     requires fact_4 { length counts.old ≡ 64 }
     ensures { result ≡ true → LaidNext pages.now frames.now table.now k counts.old sums.old memory.old counts.new sums.new memory.new }
 {
-    let mut buffer = io::large_buffer();
-    let n = io::read_full(fd, &mut buffer);
+    let mut buffer = files::large_buffer();
+    let n = source.read_full(&mut buffer);
     if n < 65536 {
-        if !at_end(fd) {
-            fail(name);
+        if !at_end(source) {
+            fail(rt, name, source.why());
             return false;
         }
     }
     lay_bytes(
+        rt,
         k,
         name,
         &buffer[..n],
@@ -102,6 +105,7 @@ fn lay_open(
 
 // Image k, by its name.
 fn lay_next(
+    rt: &HostRuntime,
     k: u32,
     pages: &[u32],
     frames: &[u32],
@@ -116,32 +120,33 @@ fn lay_next(
     requires fact_4 { length counts.old ≡ 64 }
     ensures { result ≡ true → LaidNext pages.now frames.now table.now k counts.old sums.old memory.old counts.new sums.new memory.new }
 {
-    let mut word = io::buffer();
-    let length = os::arg(wide(table[3 * wide(k) + 2]), &mut word);
+    let mut word = files::buffer();
+    let length = files::word(rt, wide(table[3 * wide(k) + 2]), &mut word);
     let n = name_length(&word[..length]);
-    let fd = open(&word[..n]);
-    if fd < 0 {
-        fail(&word[..n]);
-        return false;
+    match open(rt, &word[..n]) {
+        Ok(mut source) => lay_open(
+            rt,
+            k,
+            &mut source,
+            &word[..n],
+            pages,
+            frames,
+            table,
+            counts,
+            sums,
+            memory,
+        ),
+        Err(why) => {
+            fail(rt, &word[..n], why);
+            false
+        }
     }
-    let laid = lay_open(
-        k,
-        fd,
-        &word[..n],
-        pages,
-        frames,
-        table,
-        counts,
-        sums,
-        memory,
-    );
-    libc::close(fd);
-    laid
 }
 
 // ---- all of them
 
 pub fn lay_all(
+    rt: &HostRuntime,
     images: u32,
     pages: &[u32],
     frames: &[u32],
@@ -159,7 +164,7 @@ pub fn lay_all(
 {
     let mut k: u32 = 0;
     while k < images {
-        if !lay_next(k, pages, frames, table, counts, sums, memory) {
+        if !lay_next(rt, k, pages, frames, table, counts, sums, memory) {
             return false;
         }
         k += 1;
@@ -170,18 +175,25 @@ pub fn lay_all(
 // ---- their slip
 
 // A line: that of image k.
-fn show(k: u32, table: &[u32], counts: &[u32], sums: &[u32], text: &[u8], name: &[u8])
+fn show(
+    rt: &HostRuntime,
+    k: u32,
+    table: &[u32],
+    counts: &[u32],
+    sums: &[u32],
+    text: &[u8],
+    name: &[u8],
+)
     requires { text.now ≡ slip_text (get_or table.now (3 * k) 0) (get_or table.now (3 * k + 1) 0) (get_or counts.now k 0) (get_or sums.now k 0) }
 {
-    if !io::write_all(STDOUT_FILENO, text) {
-        fail(b"standard output");
+    if !put_out(rt, text) {
         return;
     }
-    io::write_all(STDOUT_FILENO, name);
-    io::write_all(STDOUT_FILENO, b"\n");
+    let _ = print(rt, name);
+    let _ = print(rt, b"\n");
 }
 
-fn tell_image(k: u32, table: &[u32], counts: &[u32], sums: &[u32])
+fn tell_image(rt: &HostRuntime, k: u32, table: &[u32], counts: &[u32], sums: &[u32])
     requires fact_1 { k < 64 }
     requires fact_2 { length table.now ≡ 192 }
     requires fact_3 { length counts.now ≡ 64 }
@@ -191,13 +203,13 @@ fn tell_image(k: u32, table: &[u32], counts: &[u32], sums: &[u32])
     let at = 3 * i;
     let mut out = [0u8; 80];
     let end = put_slip(&mut out, 0, table[at], table[at + 1], counts[i], sums[i]);
-    let mut word = io::buffer();
-    let length = os::arg(wide(table[at + 2]), &mut word);
+    let mut word = files::buffer();
+    let length = files::word(rt, wide(table[at + 2]), &mut word);
     let n = name_length(&word[..length]);
-    show(k, table, counts, sums, &out[..end], &word[..n]);
+    show(rt, k, table, counts, sums, &out[..end], &word[..n]);
 }
 
-pub fn tell_all(images: u32, table: &[u32], counts: &[u32], sums: &[u32])
+pub fn tell_all(rt: &HostRuntime, images: u32, table: &[u32], counts: &[u32], sums: &[u32])
     requires fact_1 { images ≤ 64 }
     requires fact_2 { length table.now ≡ 192 }
     requires fact_3 { length counts.now ≡ 64 }
@@ -205,7 +217,7 @@ pub fn tell_all(images: u32, table: &[u32], counts: &[u32], sums: &[u32])
 {
     let mut k: u32 = 0;
     while k < images {
-        tell_image(k, table, counts, sums);
+        tell_image(rt, k, table, counts, sums);
         k += 1;
     }
 }

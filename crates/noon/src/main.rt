@@ -1,5 +1,7 @@
 // noon OUT Q STEPS partition FRAMES IMAGE[@ADDRESS].. [partition ..]: lays images into the pages of partitions and writes the house file OUT, which the night runs; and
 // prints a line for each image. What the night would refuse it refuses, and then nothing is written.
+#![tactic(auto)]
+
 mod images;
 mod making;
 mod words;
@@ -7,69 +9,75 @@ mod words;
 ghost use Rattle.std.specs.Prelude.{◌≤◌};
 
 use command::{asks_help, number_in, wrong};
-use libc::STDOUT_FILENO;
+use files::print;
 use making::make;
 
-fn help() {
-    io::write_all(
-        STDOUT_FILENO,
+fn help(rt: &HostRuntime) {
+    let _ = print(
+        rt,
         b"noon OUT Q STEPS partition FRAMES IMAGE[@ADDRESS].. [partition FRAMES IMAGE[@ADDRESS]..]..: makes the house file OUT: turns of Q steps, a run of STEPS;\n",
     );
-    io::write_all(
-        STDOUT_FILENO,
+    let _ = print(
+        rt,
         b"for each partition its frames (1 to 15, commas between) and images: raw words, laid into its pages from the guest byte address ADDRESS on (0 where none\n",
     );
-    io::write_all(
-        STDOUT_FILENO,
+    let _ = print(
+        rt,
         b"is given); prints where each image went, its words and their sum; or `refused N D`, as the night would, and nothing is written: docs/FILES.md\n",
     );
 }
 
 // With Q and STEPS.
-fn with_numbers(given: u32, path: &[u8], q_word: &[u8], steps_word: &[u8])
+fn with_numbers(rt: &HostRuntime, given: u32, path: &[u8], q_word: &[u8], steps_word: &[u8])
     requires { 4 ≤ given }
 {
     let q = number_in(q_word, 4294967295);
     if !q.said {
-        wrong(b"Q, a decimal below 2^32", q_word);
+        wrong(rt, b"Q, a decimal below 2^32", q_word);
         return;
     }
     let steps = number_in(steps_word, 4294967295);
     if !steps.said {
-        wrong(b"STEPS, a decimal below 2^32", steps_word);
+        wrong(rt, b"STEPS, a decimal below 2^32", steps_word);
         return;
     }
-    make(given, path, q.value as u32, steps.value as u32);
+    make(rt, given, path, q.value as u32, steps.value as u32);
 }
 
-fn main() {
-    let given = os::arg_count();
-    let mut path = io::buffer();
-    let length = os::arg(1, &mut path);
+fn main(rt: HostRuntime) {
+    let given = files::words(&rt);
+    let mut path = files::buffer();
+    let length = files::word(&rt, 1, &mut path);
     if asks_help(&path[..length]) {
-        help();
+        help(&rt);
         return;
     }
     if given < 7 {
         wrong(
+            &rt,
             b"OUT Q STEPS partition FRAMES IMAGE[@ADDRESS]..",
             b"fewer words",
         );
         return;
     }
     if given > 1000000 {
-        wrong(b"at most 1000000 words", b"more");
+        wrong(&rt, b"at most 1000000 words", b"more");
         return;
     }
-    let mut q = io::buffer();
-    let q_length = os::arg(2, &mut q);
-    let mut steps = io::buffer();
-    let steps_length = os::arg(3, &mut steps);
+    let mut q = files::buffer();
+    let q_length = files::word(&rt, 2, &mut q);
+    let mut steps = files::buffer();
+    let steps_length = files::word(&rt, 3, &mut steps);
     if length == 0 {
-        wrong(b"OUT, a name of 1 to 4091 bytes", b"none, or a longer one");
+        wrong(
+            &rt,
+            b"OUT, a name of 1 to 4091 bytes",
+            b"none, or a longer one",
+        );
         return;
     }
     with_numbers(
+        &rt,
         given as u32,
         &path[..length],
         &q[..q_length],

@@ -10,17 +10,16 @@ ghost use Rattle.noon.specs.Noon.{night_refusal, Given, LaidAll, Made};
 use crate::images::{lay_all, tell_all};
 use crate::words::ask;
 use boot::boot;
-use command::{fail, wrong};
+use command::{put_out, wrong};
 use contents::put_contents;
 use dlx::words::wide;
 use hypervisor::calls::run_refusal;
-use libc::STDOUT_FILENO;
 use report::refused;
 use written::{begin, end, put};
 
 // ---- what the night would refuse
 
-#[derive(Drop)]
+#[derive(Clone, Copy)]
 pub struct Refusal {
     pub number: u32,
     pub detail: u64,
@@ -45,26 +44,25 @@ fn night_refuses(q: u32, run: u32, pages: &[u32], frames: &[u32]) -> Refusal
 }
 
 // Prints a refusal: the one that the night would.
-fn show(q: u32, run: u32, pages: &[u32], frames: &[u32], text: &[u8])
+fn show(rt: &HostRuntime, q: u32, run: u32, pages: &[u32], frames: &[u32], text: &[u8])
     requires { (m : List ℕ) → length m ≡ 16384 → text.now ≡ refusal_text (night_refusal (ran_of (right (file q run pages.now frames.now m)))) }
 {
-    if !io::write_all(STDOUT_FILENO, text) {
-        fail(b"standard output");
-    }
+    put_out(rt, text);
 }
 
-fn tell_refusal(r: Refusal, q: u32, run: u32, pages: &[u32], frames: &[u32])
+fn tell_refusal(rt: &HostRuntime, r: Refusal, q: u32, run: u32, pages: &[u32], frames: &[u32])
     requires { (m : List ℕ) → length m ≡ 16384 → verdict r.number r.detail ≡ night_refusal (ran_of (right (file q run pages.now frames.now m))) }
 {
     let mut out = [0u8; 1024];
     let n = refused(r.number, r.detail, &mut out);
-    show(q, run, pages, frames, &out[..n]);
+    show(rt, q, run, pages, frames, &out[..n]);
 }
 
 // ---- what is written
 
 // Writes the file: that of these contents, which the words ask for, and which the night runs.
 fn put_file(
+    rt: &HostRuntime,
     q: u32,
     run: u32,
     images: u32,
@@ -77,12 +75,13 @@ fn put_file(
 ) -> bool
     requires { (Made q run pages.now frames.now table.now memory.now images) × (bytes.now ≡ contents_file (file q run pages.now frames.now memory.now)) }
 {
-    let w = begin(path);
-    let x = put(w, path, bytes);
-    end(x, path)
+    let w = begin(rt, path);
+    let x = put(rt, w, path, bytes);
+    end(rt, x, path)
 }
 
 fn write_file(
+    rt: &HostRuntime,
     q: u32,
     run: u32,
     images: u32,
@@ -101,6 +100,7 @@ fn write_file(
     let mut out = [0u8; 73956];
     let n = put_contents(q, run, pages, frames, memory, &mut out);
     put_file(
+        rt,
         q,
         run,
         images,
@@ -117,6 +117,7 @@ fn write_file(
 
 // Of these lists and this table of images.
 fn make_listed(
+    rt: &HostRuntime,
     q: u32,
     run: u32,
     images: u32,
@@ -132,13 +133,14 @@ fn make_listed(
 {
     let r = night_refuses(q, run, pages, frames);
     if r.number != 0 {
-        tell_refusal(r, q, run, pages, frames);
+        tell_refusal(rt, r, q, run, pages, frames);
         return;
     }
     let mut counts = [0u32; 64];
     let mut sums = [0u32; 64];
     let mut memory = [0u32; 16384];
     if !lay_all(
+        rt,
         images,
         pages,
         frames,
@@ -149,10 +151,10 @@ fn make_listed(
     ) {
         return;
     }
-    if !write_file(q, run, images, pages, frames, table, &memory, path) {
+    if !write_file(rt, q, run, images, pages, frames, table, &memory, path) {
         return;
     }
-    tell_all(images, table, &counts, &sums);
+    tell_all(rt, images, table, &counts, &sums);
 }
 
 fn up_to(n: usize, most: usize) -> usize
@@ -165,24 +167,25 @@ fn up_to(n: usize, most: usize) -> usize
 }
 
 // Of the words from the fourth on.
-pub fn make(given: u32, path: &[u8], q: u32, run: u32)
+pub fn make(rt: &HostRuntime, given: u32, path: &[u8], q: u32, run: u32)
     requires { 4 ≤ given }
 {
     let mut pages = [0u32; 65];
     let mut frames = [0u32; 2048];
     let mut table = [0u32; 192];
-    let a = ask(given, &mut pages, &mut frames, &mut table);
+    let a = ask(rt, given, &mut pages, &mut frames, &mut table);
     if !a.right {
         return;
     }
     if a.awaits != 3 {
-        wrong(b"an image", b"no more words");
+        wrong(rt, b"an image", b"no more words");
         return;
     }
     let count = up_to(wide(a.owner) + 1, 65);
     let total = up_to(wide(a.total), 2048);
     let images = up_to(wide(a.images), 64) as u32;
     make_listed(
+        rt,
         q,
         run,
         images,

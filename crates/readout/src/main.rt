@@ -1,6 +1,8 @@
 // readout FILE PARTITION ADDRESS COUNT [raw|signed]: reads a house file, boots and runs its house as night does, and prints COUNT words of one partition's pages, from
 // the untranslated guest byte address ADDRESS on: in decimals, one to a line, as two's complement numbers where that is asked for, or raw, four bytes each, the lowest
 // first. Or `refused N D`, on standard error alone where raw words are asked for. Of a saved file it prints the words that were saved, and runs nothing.
+#![tactic(auto)]
+
 mod shown;
 mod words;
 
@@ -13,19 +15,19 @@ ghost use Rattle.report.specs.Report.{refused_text};
 ghost use Rattle.night_run.specs.Ran.{no_frames, either_file, Told};
 ghost use Rattle.readout.specs.Printed.{words_text, refused_out, read_text, printed, read_refusal, refusal_of};
 
-use command::{Number, asks_help, fail, number_in, open, wrong};
+use command::{Number, asks_help, fail, number_in, open, put_out, wrong};
 use decimal::is;
 use dlx::words::wide;
+use files::{Source, print};
 use house::House;
 use hypervisor::calls::read_out;
-use libc::{STDERR_FILENO, STDOUT_FILENO};
 use night_run::{Taken, read_file};
 use report::refused;
 use shown::{Shown, show};
 use words::{PIECE, ROOM, WORDS, put_words};
 
 // What is asked for.
-#[derive(Drop)]
+#[derive(Clone, Copy)]
 pub struct Want {
     pub partition: u32,
     pub address: u32,
@@ -40,59 +42,57 @@ const LENT: usize = night_run::WORDS;
 // ---- what is printed
 
 // Says a refusal on standard error, where raw words are asked for: the refusal of the file that was read, or of the read-out.
-fn say(t: Taken, w: Want, number: u32, detail: u64)
+fn say(rt: &HostRuntime, t: Taken, w: Want, number: u32, detail: u64)
     requires { Told either_file (refusal_of w) t (refused_text number detail) }
 {
-    io::write_all(STDERR_FILENO, b"refused: ");
-    io::print_decimal(STDERR_FILENO, number as u64);
-    io::write_all(STDERR_FILENO, b" ");
-    io::print_decimal(STDERR_FILENO, detail);
-    io::write_all(STDERR_FILENO, b"\n");
+    files::say(rt, b"refused: ");
+    files::say_number(rt, number as u64);
+    files::say(rt, b" ");
+    files::say_number(rt, detail);
+    files::say(rt, b"\n");
 }
 
 // Prints a refusal: the text for the file that was read.
-fn show_refusal(t: Taken, w: Want, text: &[u8])
+fn show_refusal(rt: &HostRuntime, t: Taken, w: Want, text: &[u8])
     requires { Told either_file (printed w) t text.now }
 {
-    if !io::write_all(STDOUT_FILENO, text) {
-        fail(b"standard output");
-    }
+    put_out(rt, text);
 }
 
 // Prints a refusal, or says it.
-fn tell_refusal(t: Taken, w: Want, number: u32, detail: u64)
+fn tell_refusal(rt: &HostRuntime, t: Taken, w: Want, number: u32, detail: u64)
     requires fact_1 { Told either_file (printed w) t (refused_out w (verdict number detail)) }
     requires fact_2 { Told either_file (refusal_of w) t (refused_text number detail) }
 {
     if w.raw {
-        say(t, w, number, detail);
+        say(rt, t, w, number, detail);
         return;
     }
     let mut out = [0u8; 1024];
     let n = refused(number, detail, &mut out);
-    show_refusal(t, w, &out[..n]);
+    show_refusal(rt, t, w, &out[..n]);
 }
 
 // ---- which of its two reasons 12 has, on standard error
 
-fn say_odd(address: u32)
+fn say_odd(rt: &HostRuntime, address: u32)
     requires { address % 4 ≡ 0 → ⊥ }
 {
-    io::write_all(STDERR_FILENO, b"the address is not a multiple of 4\n");
+    files::say(rt, b"the address is not a multiple of 4\n");
 }
 
-fn say_pages(house: House, i: u32, address: u32, pages: u32)
+fn say_pages(rt: &HostRuntime, house: House, i: u32, address: u32, pages: u32)
     requires { (address % 4 ≡ 0) × (pages ≡ pages_of house i) }
 {
-    io::write_all(STDERR_FILENO, b"the partition has ");
-    io::print_decimal(STDERR_FILENO, pages as u64);
-    io::write_all(STDERR_FILENO, b" page");
+    files::say(rt, b"the partition has ");
+    files::say_number(rt, pages as u64);
+    files::say(rt, b" page");
     if pages != 1 {
-        io::write_all(STDERR_FILENO, b"s");
+        files::say(rt, b"s");
     }
-    io::write_all(STDERR_FILENO, b": addresses below ");
-    io::print_decimal(STDERR_FILENO, 4096 * pages as u64);
-    io::write_all(STDERR_FILENO, b"\n");
+    files::say(rt, b": addresses below ");
+    files::say_number(rt, 4096 * pages as u64);
+    files::say(rt, b"\n");
 }
 
 fn pages_of(house: House, i: u32) -> u32
@@ -104,22 +104,30 @@ fn pages_of(house: House, i: u32) -> u32
     return p.pages;
 }
 
-fn tell_reason(w: Want, house: House)
+fn tell_reason(rt: &HostRuntime, w: Want, house: House)
     requires { w.partition < 8 }
 {
     let address = w.address;
     let i = w.partition;
     if address % 4 != 0 {
-        say_odd(address);
+        say_odd(rt, address);
         return;
     }
-    say_pages(house, i, address, pages_of(house, i));
+    say_pages(rt, house, i, address, pages_of(house, i));
 }
 
 // ---- the words
 
 // Prints n of the words, those behind the ones that are printed.
-fn show_words(t: Taken, w: Want, words: &[u32; WORDS], s: Shown, n: usize, count: usize) -> Shown
+fn show_words(
+    rt: &HostRuntime,
+    t: Taken,
+    w: Want,
+    words: &[u32; WORDS],
+    s: Shown,
+    n: usize,
+    count: usize,
+) -> Shown
     requires fact_1 { s.words + n ≤ count }
     requires fact_2 { n ≤ 4096 }
     requires fact_3 { count ≤ 262144 }
@@ -128,7 +136,7 @@ fn show_words(t: Taken, w: Want, words: &[u32; WORDS], s: Shown, n: usize, count
 {
     let mut out = [0u8; ROOM];
     let k = put_words(words, s.words(), n, w, &mut out);
-    show(s, t, w, n, &out[..k])
+    show(rt, s, t, w, n, &out[..k])
 }
 
 fn least(a: usize, b: usize) -> usize
@@ -142,7 +150,7 @@ fn least(a: usize, b: usize) -> usize
 }
 
 // Prints the words, piece by piece: all of them, but where a write fails.
-fn tell_words(t: Taken, w: Want, words: &[u32; WORDS], count: usize) -> Shown
+fn tell_words(rt: &HostRuntime, t: Taken, w: Want, words: &[u32; WORDS], count: usize) -> Shown
     requires fact_1 { count ≤ 262144 }
     requires fact_2 { Told either_file (printed w) t (words_text w words.now count) }
     ensures { result.failed ≡ false → result.words ≡ count }
@@ -150,89 +158,96 @@ fn tell_words(t: Taken, w: Want, words: &[u32; WORDS], count: usize) -> Shown
     let mut s = Shown::none();
     while s.more(count) {
         let n = least(count - s.words(), PIECE);
-        s = show_words(t, w, words, s, n, count);
+        s = show_words(rt, t, w, words, s, n, count);
     }
     s
 }
 
 // Reads the words of the house out over these zeros, and prints them.
-fn tell_read(t: Taken, w: Want, house: House, memory: &[u32], words: &mut [u32; WORDS])
+fn tell_read(
+    rt: &HostRuntime,
+    t: Taken,
+    w: Want,
+    house: House,
+    memory: &[u32],
+    words: &mut [u32; WORDS],
+)
     requires fact_1 { Told either_file (printed w) t (read_text w (world house memory.now) words.old) }
     requires fact_2 { Told either_file (refusal_of w) t (read_refusal w (world house memory.now) words.old) }
 {
     let a = read_out(house, memory, w.partition, w.address, w.count, words);
     if a.number == 12 {
-        tell_refusal(t, w, a.number, a.detail);
-        tell_reason(w, house);
+        tell_refusal(rt, t, w, a.number, a.detail);
+        tell_reason(rt, w, house);
         return;
     }
     if a.number != 0 {
-        tell_refusal(t, w, a.number, a.detail);
+        tell_refusal(rt, t, w, a.number, a.detail);
         return;
     }
-    tell_words(t, w, words, w.count as usize);
+    tell_words(rt, t, w, words, w.count as usize);
 }
 
 // Prints the text for an answer.
-fn tell(t: Taken, w: Want, number: u32, detail: u64, house: House, memory: &[u32])
+fn tell(rt: &HostRuntime, t: Taken, w: Want, number: u32, detail: u64, house: House, memory: &[u32])
     requires fact_1 { Told either_file (printed w) t (printed w (answered (verdict number detail) (world house memory.now))) }
     requires fact_2 { Told either_file (refusal_of w) t (refusal_of w (answered (verdict number detail) (world house memory.now))) }
 {
     if number != 0 {
-        tell_refusal(t, w, number, detail);
+        tell_refusal(rt, t, w, number, detail);
         return;
     }
     let mut words = [0u32; WORDS];
-    tell_read(t, w, house, memory, &mut words);
+    tell_read(rt, t, w, house, memory, &mut words);
 }
 
-// Reads what is open as fd, runs it where it is a house file, and prints. A read that fails prints nothing and says why.
-fn readout(fd: i32, name: &[u8], w: Want) {
+// Reads the source, runs it where it is a house file, and prints. A read that fails prints nothing and says why.
+fn readout(rt: &HostRuntime, source: &mut Source, name: &[u8], w: Want) {
     let mut memory = [0u32; LENT];
-    let x = read_file(fd, &mut memory);
+    let x = read_file(source, &mut memory);
     let taken = x.taken;
     if taken.failed() {
-        fail(name);
+        fail(rt, name, source.why());
         return;
     }
     let house = x.house;
     let n = x.words;
-    tell(taken, w, x.number, x.detail, house, &memory[..n]);
+    tell(rt, taken, w, x.number, x.detail, house, &memory[..n]);
 }
 
 // ---- the command
 
-fn help() {
-    io::write_all(
-        STDOUT_FILENO,
+fn help(rt: &HostRuntime) {
+    let _ = print(
+        rt,
         b"readout FILE PARTITION ADDRESS COUNT [raw|signed]: reads a house file (- for standard input), boots and runs its house, or reads a saved file, and prints COUNT words of a\n",
     );
-    io::write_all(
-        STDOUT_FILENO,
+    let _ = print(
+        rt,
         b"partition's pages from a byte address on, in decimals, one to a line, with a minus where bit 31 is set and signed is asked for, or raw, four bytes each, the lowest first;\n",
     );
-    io::write_all(
-        STDOUT_FILENO,
+    let _ = print(
+        rt,
         b"or `refused N D`, on standard error where raw words are asked for: docs/FILES.md and docs/CALLS.md tell what it means\n",
     );
 }
 
 // The number that argument i says. Where it says none, that is told.
-fn number_at(i: usize, expected: &[u8], most: u64) -> Number
+fn number_at(rt: &HostRuntime, i: usize, expected: &[u8], most: u64) -> Number
     ensures { result.value ≤ most }
 {
-    let mut word = io::buffer();
-    let length = os::arg(i, &mut word);
+    let mut word = files::buffer();
+    let length = files::word(rt, i, &mut word);
     let n = number_in(&word[..length], most);
     if n.said {
         return n;
     }
-    wrong(expected, &word[..length]);
+    wrong(rt, expected, &word[..length]);
     n
 }
 
 // The words' form: in decimals, or as the fifth word says.
-#[derive(Drop)]
+#[derive(Clone, Copy)]
 struct Form {
     said: bool,
     raw: bool,
@@ -240,7 +255,7 @@ struct Form {
 }
 
 // The form that the fifth word asks for, if there is one. Where it asks for none, that is told.
-fn asked_form(given: usize) -> Form {
+fn asked_form(rt: &HostRuntime, given: usize) -> Form {
     if given < 6 {
         return Form {
             said: true,
@@ -248,8 +263,8 @@ fn asked_form(given: usize) -> Form {
             signed: false,
         };
     }
-    let mut word = io::buffer();
-    let length = os::arg(5, &mut word);
+    let mut word = files::buffer();
+    let length = files::word(rt, 5, &mut word);
     if is(&word[..length], b"raw") {
         return Form {
             said: true,
@@ -264,7 +279,7 @@ fn asked_form(given: usize) -> Form {
             signed: true,
         };
     }
-    wrong(b"nothing behind COUNT, raw or signed", &word[..length]);
+    wrong(rt, b"nothing behind COUNT, raw or signed", &word[..length]);
     Form {
         said: false,
         raw: false,
@@ -272,30 +287,28 @@ fn asked_form(given: usize) -> Form {
     }
 }
 
-fn open_and_read(path: &[u8], w: Want) {
-    let fd = open(path);
-    if fd < 0 {
-        fail(path);
-        return;
+fn open_and_read(rt: &HostRuntime, path: &[u8], w: Want) {
+    match open(rt, path) {
+        Ok(mut source) => readout(rt, &mut source, path, w),
+        Err(why) => fail(rt, path, why),
     }
-    readout(fd, path, w);
-    libc::close(fd);
 }
 
-fn with_words(path: &[u8], given: usize) {
-    let f = asked_form(given);
+fn with_words(rt: &HostRuntime, path: &[u8], given: usize) {
+    let f = asked_form(rt, given);
     if !f.said {
         return;
     }
-    let partition = number_at(2, b"PARTITION, a decimal below 4294967296", 0xFFFF_FFFF);
+    let partition = number_at(rt, 2, b"PARTITION, a decimal below 4294967296", 0xFFFF_FFFF);
     if !partition.said {
         return;
     }
-    let address = number_at(3, b"ADDRESS, a decimal below 4294967296", 0xFFFF_FFFF);
+    let address = number_at(rt, 3, b"ADDRESS, a decimal below 4294967296", 0xFFFF_FFFF);
     if !address.said {
         return;
     }
     let count = number_at(
+        rt,
         4,
         b"COUNT, a decimal below 18446744073709551616",
         0xFFFF_FFFF_FFFF_FFFF,
@@ -312,24 +325,32 @@ fn with_words(path: &[u8], given: usize) {
         raw: f.raw,
         signed: f.signed,
     };
-    open_and_read(path, w);
+    open_and_read(rt, path, w);
 }
 
-fn main() {
-    let mut path = io::buffer();
-    let length = os::arg(1, &mut path);
+fn main(rt: HostRuntime) {
+    let mut path = files::buffer();
+    let length = files::word(&rt, 1, &mut path);
     if asks_help(&path[..length]) {
-        help();
+        help(&rt);
         return;
     }
-    let given = os::arg_count();
+    let given = files::words(&rt);
     if given < 5 {
-        wrong(b"FILE PARTITION ADDRESS COUNT [raw|signed]", b"fewer words");
+        wrong(
+            &rt,
+            b"FILE PARTITION ADDRESS COUNT [raw|signed]",
+            b"fewer words",
+        );
         return;
     }
     if given > 6 {
-        wrong(b"FILE PARTITION ADDRESS COUNT [raw|signed]", b"more words");
+        wrong(
+            &rt,
+            b"FILE PARTITION ADDRESS COUNT [raw|signed]",
+            b"more words",
+        );
         return;
     }
-    with_words(&path[..length], given);
+    with_words(&rt, &path[..length], given);
 }

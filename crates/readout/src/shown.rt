@@ -3,12 +3,11 @@ ghost use Rattle.std.specs.Prelude.{◌≡◌, true, false, not, ◌&&◌, ◌+�
 ghost use Rattle.readout.specs.Printed.{none_shown, ToldBehind};
 
 use crate::Want;
-use command::fail;
-use libc::STDOUT_FILENO;
+use command::put_out;
 use night_run::Taken;
 
 // How many words are printed, and whether a write failed. Other modules get one from `none` and `show` alone.
-#[derive(Drop)]
+#[derive(Clone, Copy)]
 pub struct Shown {
     words: usize,
     failed: bool,
@@ -41,18 +40,17 @@ impl Shown {
 }
 
 // Prints n words, those behind the ones that are printed. Where that cannot be written, it is told.
-pub fn show(s: Shown, t: Taken, w: Want, n: usize, piece: &[u8]) -> Shown
+pub fn show(rt: &HostRuntime, s: Shown, t: Taken, w: Want, n: usize, piece: &[u8]) -> Shown
     requires { ToldBehind w t s.words n piece.now }
     ensures { result.words ≡ s.words + n }
 {
     let words = s.words + n;
-    if io::write_all(STDOUT_FILENO, piece) {
+    if put_out(rt, piece) {
         return Shown {
             words,
             failed: s.failed,
         };
     }
-    fail(b"standard output");
     Shown {
         words,
         failed: true,

@@ -6,6 +6,7 @@ ghost use Rattle.house.specs.Calls.{answered};
 ghost use Rattle.night_run.specs.Ran.{no_frames, saved_file, Handed};
 ghost use Rattle.resume.specs.Resumed.{resumed, resumed_file};
 
+use files::Source;
 use house::{Answer, House};
 use hypervisor::calls::run;
 use night_run::{Ran, WORDS, restore_file};
@@ -47,13 +48,13 @@ fn run_from(x: Ran, memory: &mut [u32], steps: u64) -> Ran
     }
 }
 
-// Reads what is open as fd as a saved file, and runs its house.
-pub fn resume_file(fd: i32, steps: u64, memory: &mut [u32; WORDS]) -> Ran
+// Reads the source as a saved file, and runs its house.
+pub fn resume_file(source: &mut Source, steps: u64, memory: &mut [u32; WORDS]) -> Ran
     requires { memory.old ≡ no_frames }
     ensures handed { Handed (resumed_file steps) result memory.new }
     ensures words_in_bounds { result.words ≤ length memory.new }
 {
-    let x = restore_file(fd, memory);
+    let x = restore_file(source, memory);
     let taken = x.taken;
     if taken.failed() {
         return x;

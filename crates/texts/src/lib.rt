@@ -1,5 +1,7 @@
 // A text in, and the words that its lines are out: raw, four bytes each, the lowest first; or nothing, and `refused: N D` on standard error. A line is an instruction of a
 // listing, or a word in decimals, as is asked for.
+#![tactic(auto)]
+
 mod numbers;
 mod reading;
 
@@ -8,9 +10,9 @@ ghost use Rattle.decimal.specs.Raw.{raw};
 ghost use Rattle.decimal.specs.Texts.{text, put};
 ghost use Rattle.texts.specs.Reading.{no_words, held, Fits, Whole, Told};
 
-use command::fail;
+use command::{fail, put_out};
 use decimal::put_raw;
-use libc::{STDERR_FILENO, STDOUT_FILENO};
+use files::{Source, count, say, say_number};
 use reading::{At, fed, finished};
 
 // The words of the largest partition, 256 pages.
@@ -19,14 +21,14 @@ const WORDS: usize = 262144;
 // ---- the text
 
 // What was read, and whether a read failed.
-#[derive(Drop)]
+#[derive(Clone, Copy)]
 struct Text {
     at: At,
     failed: bool,
 }
 
-// Reads what is open as fd to its end, and keeps the words of its lines. A read fails also at the 2^64th byte.
-fn read_text(decimals: bool, fd: i32, line: &mut [u8], words: &mut [u32]) -> Text
+// Reads the source to its end, and keeps the words of its lines. A read fails also at the 2^64th byte.
+fn read_text(decimals: bool, source: &mut Source, line: &mut [u8], words: &mut [u32]) -> Text
     requires fact_1 { length line.old ≡ 81 }
     requires fact_2 { words.old ≡ no_words }
     ensures whole { result.failed ≡ false → Whole decimals (held result.at line.new words.new) }
@@ -39,12 +41,12 @@ fn read_text(decimals: bool, fd: i32, line: &mut [u8], words: &mut [u32]) -> Tex
     };
     let mut bytes: u64 = 0;
     while bytes < u64::MAX {
-        let mut buffer = io::buffer();
-        let got = libc::read(fd, &mut buffer);
+        let mut buffer = files::buffer();
+        let got = source.read(&mut buffer);
         if got < 0 {
             return Text { at, failed: true };
         }
-        let n = io::count(got, &buffer);
+        let n = count(got, &buffer);
         if n == 0 {
             let last = finished(decimals, at, line, words);
             return Text {
@@ -64,21 +66,21 @@ fn read_text(decimals: bool, fd: i32, line: &mut [u8], words: &mut [u32]) -> Tex
 
 // ---- what is said and written: the answer for the text that was read
 
-fn refuse(decimals: bool, number: u32, detail: u64)
+fn refuse(rt: &HostRuntime, decimals: bool, number: u32, detail: u64)
     requires { Told decimals number detail 0 no_words }
 {
-    io::write_all(STDERR_FILENO, b"refused: ");
-    io::print_decimal(STDERR_FILENO, number as u64);
-    io::write_all(STDERR_FILENO, b" ");
-    io::print_decimal(STDERR_FILENO, detail);
-    io::write_all(STDERR_FILENO, b"\n");
+    say(rt, b"refused: ");
+    say_number(rt, number as u64);
+    say(rt, b" ");
+    say_number(rt, detail);
+    say(rt, b"\n");
 }
 
 // The wrong line, of which at most 81 bytes are there.
-fn say_line(line: &[u8]) {
-    io::write_all(STDERR_FILENO, b"line: ");
-    io::write_all(STDERR_FILENO, line);
-    io::write_all(STDERR_FILENO, b"\n");
+fn say_line(rt: &HostRuntime, line: &[u8]) {
+    say(rt, b"line: ");
+    say(rt, line);
+    say(rt, b"\n");
 }
 
 // The bytes of words.
@@ -94,19 +96,19 @@ fn put_words(words: &[u32], out: &mut [u8]) -> usize
     end
 }
 
-// Writes the bytes of some of the words, and answers whether that could be done.
-fn show(words: &[u32], bytes: &[u8]) -> bool
+// Writes the bytes of some of the words, and answers whether that could be done. Where it could not, that is told.
+fn show(rt: &HostRuntime, words: &[u32], bytes: &[u8]) -> bool
     requires { bytes.now ≡ raw words.now }
 {
-    io::write_all(STDOUT_FILENO, bytes)
+    put_out(rt, bytes)
 }
 
-fn write_some(words: &[u32]) -> bool
+fn write_some(rt: &HostRuntime, words: &[u32]) -> bool
     requires { length words.now ≤ 1024 }
 {
-    let mut out = io::buffer();
+    let mut out = files::buffer();
     let n = put_words(words, &mut out);
-    show(words, &out[..n])
+    show(rt, words, &out[..n])
 }
 
 // Where the next 1,024 words end.
@@ -120,22 +122,21 @@ fn next(at: usize, count: usize) -> usize
     at + 1024
 }
 
-fn write_words(decimals: bool, words: &[u32], count: usize)
+fn write_words(rt: &HostRuntime, decimals: bool, words: &[u32], count: usize)
     requires fact_1 { Told decimals 0 0 count words.now }
     requires fact_2 { count ≤ length words.now }
 {
     let mut at = 0;
     while at < count {
         let to = next(at, count);
-        if !write_some(&words[at..to]) {
-            fail(b"standard output");
+        if !write_some(rt, &words[at..to]) {
             return;
         }
         at = to;
     }
 }
 
-fn answer(decimals: bool, at: At, line: &[u8], words: &[u32])
+fn answer(rt: &HostRuntime, decimals: bool, at: At, line: &[u8], words: &[u32])
     requires fact_1 { Whole decimals (held at line.now words.now) }
     requires fact_2 { Fits at line.now }
     requires fact_3 { length words.now ≡ 262144 }
@@ -143,28 +144,28 @@ fn answer(decimals: bool, at: At, line: &[u8], words: &[u32])
     let wrong = at.wrong;
     if wrong != 0 {
         let n = at.length;
-        refuse(decimals, 18, wrong);
-        say_line(&line[..n]);
+        refuse(rt, decimals, 18, wrong);
+        say_line(rt, &line[..n]);
         return;
     }
     if at.lines > 262144 {
-        refuse(decimals, 13, 0);
+        refuse(rt, decimals, 13, 0);
         return;
     }
-    write_words(decimals, words, at.lines as usize);
+    write_words(rt, decimals, words, at.lines as usize);
 }
 
 // ---- the whole of it
 
-// Reads what is open as fd, and writes the words of its lines: words in decimals, or instructions. A read that fails writes nothing and says why.
-pub fn turn(decimals: bool, fd: i32, name: &[u8]) {
+// Reads the source, and writes the words of its lines: words in decimals, or instructions. A read that fails writes nothing and says why.
+pub fn turn(rt: &HostRuntime, decimals: bool, source: &mut Source, name: &[u8]) {
     let mut line = [0u8; 81];
     let mut words = [0u32; WORDS];
-    let x = read_text(decimals, fd, &mut line, &mut words);
+    let x = read_text(decimals, source, &mut line, &mut words);
     if x.failed {
-        fail(name);
+        fail(rt, name, source.why());
         return;
     }
     let at = x.at;
-    answer(decimals, at, &line, &words);
+    answer(rt, decimals, at, &line, &words);
 }

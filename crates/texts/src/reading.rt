@@ -6,7 +6,7 @@ ghost use Rattle.texts.specs.Reading.{held, Fits, longer, ended, took, fed, fini
 use crate::numbers::{idle, right_by, word_by};
 
 // How much of a line is kept, how many lines have ended, and the number of the wrong one, 0 for none yet.
-#[derive(Drop)]
+#[derive(Clone, Copy)]
 pub struct At {
     pub length: usize,
     pub lines: u64,

@@ -8,7 +8,7 @@ use lib.ListN.{length, take, drop, length-append}
 use lib.Seq.{length-take-le, take_at}
 use Rattle.decimal.specs.Texts.{Puts}
 use Rattle.decimal.proofs.Texts.{whole}
-use Rattle.io.specs.Counts.{IsPrefixLen}
+use Rattle.files.specs.Counts.{IsPrefixLen}
 
 -- what is spoiled is not good
 pub not_good : {A : Type 0} (g : Bool) → g ≡ false → g ≡ true → A

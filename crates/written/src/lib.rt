@@ -1,31 +1,34 @@
 // A file that is there whole or not at all: it is written under another name beside it, synced and renamed. What goes wrong is told on standard error, and the
 // file of that name stays as it was.
+#![tactic(auto)]
+
 ghost use Rattle.std.specs.Prelude.{◌≡◌, Bool, true, false, ◌+◌, ◌≤◌, length, take};
-ghost use Rattle.io.specs.Counts.{IsPrefixLen};
+ghost use Rattle.files.specs.Counts.{IsPrefixLen};
 ghost use Rattle.written.specs.Names.{beside};
 
 use command::{fail, wrong};
 use decimal::put_text;
+use files::{Target, is_missing, remove, rename};
 
 // A file that is being written: so many bytes have gone to it, and nothing went wrong yet.
 #[derive(Drop)]
 pub struct Writing {
-    fd: i32,
+    file: Option<Target>,
     bytes: u64,
     good: bool,
 }
 
 impl Writing {
     // How many bytes have gone to the file.
-    pub fn count(self) -> u64
-        ensures { result ≡ self.bytes }
+    pub fn count(&self) -> u64
+        ensures { result ≡ self.now.bytes }
     {
         self.bytes
     }
 
     // Nothing went wrong yet.
-    pub fn good(self) -> bool
-        ensures { result ≡ self.good }
+    pub fn good(&self) -> bool
+        ensures { result ≡ self.now.good }
     {
         self.good
     }
@@ -35,7 +38,7 @@ impl Writing {
         ensures { result.good ≡ false }
     {
         Writing {
-            fd: self.fd,
+            file: self.file,
             bytes: self.bytes,
             good: false,
         }
@@ -44,23 +47,29 @@ impl Writing {
 
 // ---- the file's name, and the one beside it
 
-// The name may be taken: there is no file of it, or one that may be written and can be synced. Nothing else is replaced, such as a device.
-fn may_be_taken(path: &[u8]) -> bool {
-    let fd = os::open_update(path);
-    if fd < 0 {
-        if os::errno() == libc::ENOENT {
-            return true;
+// The file is synced. Where it cannot be, that is told.
+fn synced(rt: &HostRuntime, path: &[u8], file: &Target) -> bool {
+    match file.sync() {
+        Ok(()) => true,
+        Err(why) => {
+            fail(rt, path, why);
+            false
         }
-        fail(path);
-        return false;
     }
-    if libc::fsync(fd) < 0 {
-        fail(path);
-        libc::close(fd);
-        return false;
+}
+
+// The name may be taken: there is no file of it, or one that may be written and can be synced. Nothing else is replaced, such as a device.
+fn may_be_taken(rt: &HostRuntime, path: &[u8]) -> bool {
+    match Target::update(rt, path) {
+        Ok(file) => synced(rt, path, &file),
+        Err(why) => {
+            if is_missing(why) {
+                return true;
+            }
+            fail(rt, path, why);
+            false
+        }
     }
-    libc::close(fd);
-    true
 }
 
 // Puts the path and `.new` behind it, and answers where that ends.
@@ -95,47 +104,62 @@ fn none() -> Writing
     ensures { (result.bytes ≡ 0) × (result.good ≡ false) }
 {
     Writing {
-        fd: -1,
+        file: None,
         bytes: 0,
         good: false,
     }
 }
 
 // Makes the file beside; one that a program left there when it was ended is replaced.
-fn made(path: &[u8], name: &[u8]) -> Writing
+fn made(rt: &HostRuntime, path: &[u8], name: &[u8]) -> Writing
     ensures { result.bytes ≡ 0 }
 {
-    os::unlink(name);
-    let fd = os::create(name);
-    if fd < 0 {
-        fail(path);
-        return none();
-    }
-    Writing {
-        fd,
-        bytes: 0,
-        good: true,
+    let _ = remove(rt, name);
+    match Target::create(rt, name) {
+        Ok(file) => Writing {
+            file: Some(file),
+            bytes: 0,
+            good: true,
+        },
+        Err(why) => {
+            fail(rt, path, why);
+            none()
+        }
     }
 }
 
 // Begins to write the file of this path.
-pub fn begin(path: &[u8]) -> Writing
+pub fn begin(rt: &HostRuntime, path: &[u8]) -> Writing
     ensures { result.bytes ≡ 0 }
 {
     if path.len() > 4091 {
-        wrong(b"a name of at most 4091 bytes", b"a longer one");
+        wrong(rt, b"a name of at most 4091 bytes", b"a longer one");
         return none();
     }
-    if !may_be_taken(path) {
+    if !may_be_taken(rt, path) {
         return none();
     }
-    let mut name = io::buffer();
+    let mut name = files::buffer();
     let n = put_beside(path, &mut name);
-    made(path, &name[..n])
+    made(rt, path, &name[..n])
+}
+
+// All of these bytes have gone to the file. Where they cannot, that is told.
+fn written(rt: &HostRuntime, file: &mut Option<Target>, path: &[u8], piece: &[u8]) -> bool {
+    match file {
+        None => false,
+        Some(target) => match target.write(piece) {
+            Ok(()) => true,
+            Err(why) => {
+                fail(rt, path, why);
+                false
+            }
+        },
+    }
 }
 
 // Writes a piece behind the others.
-pub fn put(w: Writing, path: &[u8], piece: &[u8]) -> Writing
+pub fn put(rt: &HostRuntime, w: Writing, path: &[u8], piece: &[u8]) -> Writing
     ensures { result.good ≡ true → (w.good ≡ true) × (result.bytes ≡ w.bytes + length piece.now) }
 {
     if !w.good {
@@ -145,94 +169,106 @@ pub fn put(w: Writing, path: &[u8], piece: &[u8]) -> Writing
     if size > u64::MAX - w.bytes {
         return w.spoiled();
     }
-    if !io::write_all(w.fd, piece) {
-        fail(path);
-        return w.spoiled();
-    }
-    Writing {
-        fd: w.fd,
-        bytes: w.bytes + size,
-        good: true,
-    }
+    let bytes = w.bytes + size;
+    let mut file = w.file;
+    let good = written(rt, &mut file, path, piece);
+    Writing { file, bytes, good }
 }
 
 // ---- the end
 
 // The file beside has as many bytes as were written: no other program has put its own there meanwhile.
-fn has_all(name: &[u8], bytes: u64) -> bool {
-    if bytes > 0x7FFF_FFFF_FFFF_FFFF {
-        return false;
+fn has_all(rt: &HostRuntime, name: &[u8], bytes: u64) -> bool {
+    match Target::look_at(rt, name) {
+        Ok(file) => ends_at(file, bytes),
+        Err(_) => false,
     }
-    let fd = os::open_read(name);
-    if fd < 0 {
-        return false;
+}
+
+fn ends_at(mut file: Target, bytes: u64) -> bool {
+    match file.length() {
+        Ok(end) => end == bytes,
+        Err(_) => false,
     }
-    let end = libc::lseek(fd, 0, libc::SEEK_END);
-    libc::close(fd);
-    end == bytes as i64
 }
 
 // Syncs the folder, so that the new name lasts.
-fn sync_folder(folder: &[u8]) -> bool {
-    let fd = os::open_read(folder);
-    if fd < 0 {
-        fail(folder);
-        return false;
+fn sync_folder(rt: &HostRuntime, folder: &[u8]) -> bool {
+    match Target::look_at(rt, folder) {
+        Ok(file) => synced(rt, folder, &file),
+        Err(why) => {
+            fail(rt, folder, why);
+            false
+        }
     }
-    if libc::fsync(fd) < 0 {
-        fail(folder);
-        libc::close(fd);
-        return false;
-    }
-    libc::close(fd);
-    true
 }
 
-fn sync_beside(path: &[u8]) -> bool {
+fn sync_beside(rt: &HostRuntime, path: &[u8]) -> bool {
     let n = folder_length(path);
     if n == 0 {
-        return sync_folder(b".");
+        return sync_folder(rt, b".");
     }
-    sync_folder(&path[..n])
+    sync_folder(rt, &path[..n])
+}
+
+// Lets the file take its name. What fails is told.
+fn renamed(rt: &HostRuntime, path: &[u8], name: &[u8]) -> bool {
+    match rename(rt, name, path) {
+        Ok(()) => true,
+        Err(why) => {
+            fail(rt, path, why);
+            false
+        }
+    }
 }
 
 // Syncs the file, and lets it take its name. What fails is told.
-fn named(fd: i32, bytes: u64, path: &[u8], name: &[u8]) -> bool {
-    if libc::fsync(fd) < 0 {
-        fail(path);
+fn named(rt: &HostRuntime, file: &Target, bytes: u64, path: &[u8], name: &[u8]) -> bool {
+    if !synced(rt, path, file) {
         return false;
     }
-    if !has_all(name, bytes) {
-        wrong(b"no other program that writes it", path);
+    if !has_all(rt, name, bytes) {
+        wrong(rt, b"no other program that writes it", path);
         return false;
     }
-    if os::rename(name, path) < 0 {
-        fail(path);
-        return false;
+    renamed(rt, path, name)
+}
+
+// The file takes its name, or goes away where anything went wrong.
+fn ended(
+    rt: &HostRuntime,
+    file: &Target,
+    bytes: u64,
+    good: bool,
+    path: &[u8],
+    name: &[u8],
+) -> bool {
+    if good {
+        if named(rt, file, bytes, path, name) {
+            return true;
+        }
     }
-    true
+    let _ = remove(rt, name);
+    false
 }
 
 // Ends the writing: the file takes its name, or goes away where anything went wrong. Answers whether the new one is there and will last.
-pub fn end(w: Writing, path: &[u8]) -> bool {
-    if w.fd < 0 {
-        return false;
+pub fn end(rt: &HostRuntime, w: Writing, path: &[u8]) -> bool {
+    let bytes = w.bytes;
+    let good = w.good;
+    match w.file {
+        None => false,
+        Some(file) => {
+            if path.len() > 4091 {
+                return false;
+            }
+            let mut name = files::buffer();
+            let n = put_beside(path, &mut name);
+            if !ended(rt, &file, bytes, good, path, &name[..n]) {
+                return false;
+            }
+            drop(file);
+            sync_beside(rt, path)
+        }
     }
-    if path.len() > 4091 {
-        return false;
-    }
-    let mut name = io::buffer();
-    let n = put_beside(path, &mut name);
-    if !w.good {
-        libc::close(w.fd);
-        os::unlink(&name[..n]);
-        return false;
-    }
-    if !named(w.fd, w.bytes, path, &name[..n]) {
-        libc::close(w.fd);
-        os::unlink(&name[..n]);
-        return false;
-    }
-    libc::close(w.fd);
-    sync_beside(path)
 }

@@ -3,7 +3,7 @@ use lib.IntN.{ℤ}
 use lib.ListN.{length}
 use mir.Syntax.{w64}
 use mir.ValLaws.{to_z-of_z}
-use Rattle.io.specs.Counts.{clamp_len}
+use Rattle.files.specs.Counts.{clamp_len}
 use borrow.Author.Rules.{rules}
 use Rattle.night_run.proofs.system.Answer.count.Statement.{statement}
 use Rattle.night_run.proofs.system.Answer.count.Tie as tie
