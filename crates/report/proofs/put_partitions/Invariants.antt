@@ -1,13 +1,7 @@
-use mathlib.Core.Path.{◌≡◌}
-use Prim.Native.Nat.{◌*◌, ◌-◌, ◌≤◌, zero-le}
-use native.Mathlib.Omega.{arith}
-use borrow.Author.Rules.{rules}
-use lib.ListN.{length, take}
+use Prim.Native.Nat.{◌*◌, ◌-◌, ◌≤◌}
+use lib.ListN.{take}
 use Rattle.decimal.specs.Texts.{Puts}
-use Rattle.decimal.proofs.Texts.{roomy}
-use Rattle.house.specs.House.{no_partition}
 use Rattle.report.specs.Report.{lines_from}
-use Rattle.report.proofs.Texts.{unmapped, lines_none, lines_on, lines_done}
 use Rattle.report.proofs.put_partitions.Given as goal
 
 abbrev pub invariant-loop-i : goal.invariant-loop-i

@@ -2,13 +2,7 @@ use native.Mathlib.Omega.{arith}
 use Rattle.decimal.specs.Texts.{ascii}
 use Rattle.decimal.proofs.Texts.{puts, ◌then◌}
 use Rattle.report.specs.Report.{line, refused_text}
-use borrow.Author.Rules.{rules}
 use Rattle.report.proofs.put_refused.Goals as goal
-
-{- LOOK: no goal of this name now
-slice-aggregate-put-text : tie.Need-slice-aggregate-put-text
-slice-aggregate-put-text c = search rules
--}
 
 pub returns : goal.returns
 unfolding ascii line refused_text

@@ -1,7 +1,6 @@
 use native.Mathlib.Omega.{arith}
 use Rattle.decimal.proofs.Texts.{puts}
 use Rattle.report.proofs.Texts.{field_short}
-use borrow.Author.Rules.{rules}
 use Rattle.report.proofs.put_word.Goals as goal
 
 pub returns : goal.returns

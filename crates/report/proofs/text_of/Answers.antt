@@ -1,6 +1,5 @@
 use Rattle.report.proofs.Texts.{put_as}
 use Rattle.report.proofs.Answers.{text_refused, text_done}
-use borrow.Author.Rules.{rules}
 use Rattle.report.proofs.text_of.Goals as goal
 
 pub returns-then-number-ne0 : goal.returns-then-number-ne0
