@@ -3,11 +3,8 @@ use mathlib.Core.Path.{◌≡◌, refl, sym, ap, ◌∙◌}
 use mathlib.Core.List.{List, [], ◌∷◌, ◌++◌, append-nil}
 use Prim.Native.Nat.{ℕ, zero, suc, ◌+◌, ◌-◌, ◌*◌, ◌/◌, ◌%◌, ◌^◌, ◌<◌, ◌≤◌}
 use native.Mathlib.Omega.{arith}
-use borrow.Author.Tests.{ltb-true, ltb-false}
-use lib.Dec.{ltb}
-use lib.ListN.{length, get_or, take, drop, length-append, length-drop, get_or-append, get_or-eq_default}
-use lib.Seq.{get_or-append-add, get_or-take, get_or-drop, take-take, take-nil}
-use Rattle.dlx.proofs.Tests.{by_test}
+use lib.ListN.{length, get_or, take, drop}
+use lib.Seq.{take-take, take-nil}
 use Rattle.housefile.specs.Records.{number, words_of, size, kind}
 use Rattle.save.specs.Saved.{little, all_bytes, record_of, records}
 

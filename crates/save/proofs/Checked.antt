@@ -1,6 +1,6 @@
 -- The examples hold.
-use mathlib.Core.Path.{◌≡◌, refl, ◌∙◌}
-use mathlib.Core.Bool.{Bool, true, ◌&&◌}
+use mathlib.Core.Path.{◌≡◌, refl}
+use mathlib.Core.Bool.{true, ◌&&◌}
 use Rattle.dlx.specs.Parts.{inner, outer}
 use Rattle.tickets.specs.Queues.{queue_of}
 use Rattle.house.specs.Lists.{list_from, any}

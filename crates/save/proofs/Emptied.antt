@@ -1,14 +1,13 @@
 -- A house with every shadow empty is what one emptying of each partition leaves.
 use mathlib.Core.Path.{◌≡◌, refl, sym, ap, subst, ◌∙◌}
-use mathlib.Core.Bool.{Bool, true, false}
-use mathlib.Core.List.{List, [], ◌∷◌, ◌++◌}
-use Prim.Native.Nat.{ℕ, zero, suc, ◌+◌, ◌*◌, ◌/◌, ◌%◌, ◌<◌, ◌≤◌}
+use mathlib.Core.Bool.{false}
+use mathlib.Core.List.{List, [], ◌∷◌}
+use Prim.Native.Nat.{ℕ, zero, suc, ◌*◌, ◌/◌, ◌%◌, ◌<◌, ◌≤◌}
 use native.Mathlib.Omega.{arith}
-use borrow.Author.Tests.{lt-leb, eq-eqb}
-use lib.Dec.{eqb, leb}
-use lib.ListN.{length, get_or, take, drop, replicate}
-use Rattle.dlx.specs.Parts.{inner, outer}
-use Rattle.dlx.proofs.Parts.{inner_replicate, part_at}
+use borrow.Author.Tests.{lt-leb}
+use lib.ListN.{replicate}
+use Rattle.dlx.specs.Parts.{inner}
+use Rattle.dlx.proofs.Parts.{inner_replicate}
 use Rattle.addresses.specs.Walk.{entries}
 use Rattle.house.specs.House.{fresh_shadows, all_entries, with_shadows}
 use Rattle.house.specs.Damage.{damaged}
@@ -19,7 +18,7 @@ use Rattle.house.specs.Sound.{Typed, Undamaged, Stays}
 use Rattle.house.specs.declared.House.{House}
 use Rattle.house.proofs.Damage.Updates.{fresh_long, fresh_at}
 use Rattle.house.proofs.Damage.Undamaged.{undamaged_gives}
-use Rattle.demands.specs.Histories.{Call, empty, after, history}
+use Rattle.demands.specs.Histories.{empty, after, history}
 use Rattle.demands.proofs.Histories.Grown.{history_then}
 use Rattle.demands.proofs.Histories.Stays.{history_stays}
 use Rattle.save.specs.Promises.{emptyings}

@@ -1,28 +1,27 @@
 -- Histories with saves and restores.
 use mathlib.Core.Path.{◌≡◌, refl, sym, ap, subst, ◌∙◌}
-use mathlib.Core.Bool.{Bool, true, false, not, ◌&&◌, ◌||◌}
+use mathlib.Core.Bool.{true, not, ◌&&◌}
 use mathlib.Core.List.{List, [], ◌∷◌, ◌++◌, append_assoc, append-nil}
-use Prim.Native.Nat.{ℕ, zero, suc, ◌+◌, ◌*◌, ◌^◌, ◌<◌, ◌≤◌}
+use Prim.Native.Nat.{ℕ, zero, suc, ◌+◌, ◌≤◌}
 use native.Mathlib.Omega.{arith}
 use borrow.Author.Tests.{eqb-true, eqb-false, eq-eqb, ne_eqb}
 use lib.Dec.{eqb}
-use lib.ListN.{length, get_or, take, drop, replicate, length-append, length-drop}
+use lib.ListN.{length, take, drop, replicate, length-append, length-drop}
 use lib.Seq.{length-take-le, take-length}
-use Rattle.dlx.specs.Choice.{if◌then◌else◌}
 use Rattle.dlx.proofs.Tests.{by_test}
 use Rattle.house.specs.House.{no_house}
 use Rattle.house.specs.Boot.{verdict, first_of, booted_house}
-use Rattle.house.specs.Turns.{World, world, host_steps}
+use Rattle.house.specs.Turns.{World, world}
 use Rattle.house.specs.Calls.{Answered, answered, one_verdict, empty_call, emptied_house}
 use Rattle.house.specs.Sound.{Typed}
 use Rattle.demands.specs.Histories.{Boot, booted, Call, empty, after, history, turns_in, steps_of, turns_made, steps_made, lone_of, log_in, log_of}
 use Rattle.demands.proofs.Booted.FreshHouse.{booted_ready, booted_whole}
 use Rattle.demands.proofs.Histories.Grown.{history_then}
 use Rattle.demands.proofs.Histories.Stays.{history_stays}
-use Rattle.save.specs.Saved.{record_of, records, turn_words, file_of}
-use Rattle.save.specs.Reading.{Progress, Reading, reading, begun, refused_by, over, may_come, content_right, taken, took, fed, lent}
+use Rattle.save.specs.Saved.{record_of, turn_words, file_of}
+use Rattle.save.specs.Reading.{Progress, Reading, reading, begun, refused_by, over, may_come, content_right, taken, fed, lent}
 use Rattle.save.specs.Calls.{piece_length, save_verdict, save_call, read_piece, read_verdict, finished}
-use Rattle.save.specs.Promises.{Savable, emptied, Bytes, whole, pieces_read, SaveOf, RestoreOf, emptyings, Restores, Life, begins, calls, resumes, LivesGrown, Nothing, EmptyingsCountNothing, Refused, brought, Saves, GrownSavable}
+use Rattle.save.specs.Promises.{Savable, emptied, whole, pieces_read, SaveOf, RestoreOf, emptyings, Restores, Life, begins, calls, resumes, LivesGrown, EmptyingsCountNothing, Refused, brought, Saves, GrownSavable}
 use Rattle.save.proofs.Machine.{stuck, take_record}
 use Rattle.save.proofs.Emptied.{all_emptied}
 use Rattle.save.proofs.RoundTrip.{turn_below, reads_back}

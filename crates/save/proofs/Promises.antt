@@ -1,30 +1,28 @@
 -- What a saved file is worth: the theorems.
 use mathlib.Core.Path.{◌≡◌, refl, sym, ap, subst, ◌∙◌}
-use mathlib.Core.Bool.{Bool, true, false, not, ◌&&◌, ◌||◌}
+use mathlib.Core.Bool.{true, false, not, ◌&&◌}
 use mathlib.Core.List.{List, [], ◌∷◌, ◌++◌, append_assoc, append-nil}
-use Prim.Native.Nat.{ℕ, zero, suc, ◌+◌, ◌-◌, ◌*◌, ◌/◌, ◌%◌, ◌^◌, ◌<◌, ◌≤◌, min}
+use Prim.Native.Nat.{ℕ, ◌+◌, ◌/◌}
 use native.Mathlib.Omega.{arith}
-use borrow.Author.Tests.{eqb-true, eqb-false, eq-eqb, ne_eqb}
+use borrow.Author.Tests.{eqb-true, eq-eqb}
 use lib.Dec.{eqb}
 use lib.ListN.{length, get_or, take, drop, length-append, length-drop}
 use lib.Seq.{take_at, take-add, drop-drop, take_all, length-take-le}
 use Rattle.dlx.specs.Choice.{if◌then◌else◌}
 use Rattle.dlx.proofs.Tests.{by_test}
-use Rattle.house.proofs.Lists.Bounded.{one_way}
-use Rattle.house.specs.House.{no_house, fresh_shadows, with_shadows}
+use Rattle.house.specs.House.{no_house}
 use Rattle.house.specs.Damage.{damaged}
-use Rattle.house.specs.Boot.{Verdict, verdict, first_of}
+use Rattle.house.specs.Boot.{verdict, first_of}
 use Rattle.house.specs.Turns.{World, world}
 use Rattle.house.specs.Calls.{Answered, answered}
-use Rattle.house.specs.Sound.{Typed}
 use Rattle.housefile.specs.Records.{words_of}
 use Rattle.save.specs.Saved.{little, record_of, records, turn_words, guest_words, ticket_words, frame_words, file_of}
-use Rattle.save.specs.Reading.{Progress, Reading, reading, begun, over, fed, lent}
+use Rattle.save.specs.Reading.{Progress, Reading, begun, fed, lent}
 use Rattle.save.specs.Calls.{piece_length, save_verdict, save_call, read_piece, read_verdict, finished}
-use Rattle.save.specs.Promises.{Savable, emptied, Bytes, whole, pieces_read, ReadBack, OneFile, GivesWhole, OneHouse, CutAnywhere, right_records, TookRight, RightAlone, brought, SaveOf, RestoreOf, emptyings, Restores, Life, begins, calls, resumes, LivesGrown, Nothing, EmptyingsCountNothing}
+use Rattle.save.specs.Promises.{Savable, Bytes, whole, pieces_read, ReadBack, OneFile, GivesWhole, OneHouse, CutAnywhere, right_records, RightAlone, brought, SaveOf}
 use Rattle.save.proofs.Machine.{fed_pieces}
 use Rattle.save.proofs.Bytes.{below_left, below_append, words_bytes, record_below, records_below}
-use Rattle.save.proofs.Exact.{Good, Filled}
+use Rattle.save.proofs.Exact.{Good}
 use Rattle.save.proofs.Bytewise.{Exact, exact_fed, exact_begun}
 use Rattle.save.proofs.RoundTrip.{turn_below, reads_back}
 

@@ -1,10 +1,10 @@
 -- The bytes taken one by one come to what the whole file says.
 use mathlib.Core.Path.{◌≡◌, refl, sym, ap, subst, ◌∙◌}
-use mathlib.Core.Bool.{Bool, true, false, not, ◌&&◌, ◌||◌}
+use mathlib.Core.Bool.{true, false, not, ◌&&◌}
 use mathlib.Core.List.{List, [], ◌∷◌, ◌++◌, append_assoc, append-nil}
-use Prim.Native.Nat.{ℕ, zero, suc, ◌+◌, ◌-◌, ◌*◌, ◌/◌, ◌%◌, ◌^◌, ◌<◌, ◌≤◌}
+use Prim.Native.Nat.{ℕ, zero, suc, ◌+◌, ◌-◌, ◌/◌, ◌%◌, ◌^◌, ◌<◌, ◌≤◌}
 use native.Mathlib.Omega.{arith}
-use borrow.Author.Tests.{eqb-true, eqb-false, ltb-true, ltb-false, leb-true, leb-false, eq-eqb, ne_eqb, le-ltb}
+use borrow.Author.Tests.{eqb-true, ltb-true, ltb-false, leb-true, leb-false, eq-eqb, ne_eqb}
 use lib.Dec.{eqb, ltb, leb}
 use lib.ListN.{length, get_or, take, drop, length-append, length-drop, take-append-drop}
 use lib.Seq.{length-take-le}
@@ -14,8 +14,8 @@ use Rattle.house.proofs.Lists.Bounded.{and_right, one_way}
 use Rattle.house.specs.House.{no_house}
 use Rattle.house.specs.Damage.{damaged}
 use Rattle.house.specs.Boot.{verdict, first_of}
-use Rattle.house.specs.Turns.{World, world}
-use Rattle.house.specs.Calls.{Answered, answered}
+use Rattle.house.specs.Turns.{world}
+use Rattle.house.specs.Calls.{answered}
 use Rattle.housefile.specs.Records.{words_of, size, kind}
 use Rattle.save.specs.Reading.{Progress, Reading, reading, begun, refused_by, may_come, content_right, behind, taken, settled, took, fed}
 use Rattle.save.specs.Calls.{read_verdict, finished}

@@ -1,5 +1,5 @@
 -- Saved files and what they are. proofs/Checked.antt checks them by a single claim.
-use Rattle.std.specs.Prelude.{Bool, true, false, not, ◌&&◌, ◌||◌, List, [], ◌∷◌, ◌++◌, ℕ, zero, suc, ◌+◌, ◌*◌, eqb, length, get_or, take, replicate}
+use Rattle.std.specs.Prelude.{Bool, true, false, not, ◌&&◌, ◌||◌, List, [], ◌∷◌, ◌++◌, ℕ, zero, suc, ◌+◌, ◌*◌, eqb, length, take, replicate}
 use Rattle.dlx.specs.declared.partition.Partition.{Partition}
 use Rattle.house.specs.Lists.{list_from}
 use Rattle.house.specs.House.{no_house, layout, guests, turn, with_layout, with_turn, with_guests, with_queues}
@@ -8,7 +8,7 @@ use Rattle.house.specs.Turns.{World, world}
 use Rattle.house.specs.Calls.{Answered}
 use Rattle.tickets.specs.Queues.{queues}
 use Rattle.save.specs.Saved.{little, record_of, file_of}
-use Rattle.save.specs.Reading.{Reading, begun, fed}
+use Rattle.save.specs.Reading.{begun, fed}
 use Rattle.save.specs.Calls.{piece_length, read_piece, finished}
 use Rattle.save.specs.Whole.{Says, other_size, wrong, right, says_of, answer_to}
 

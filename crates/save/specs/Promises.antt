@@ -7,7 +7,7 @@ use Rattle.house.specs.Boot.{verdict}
 use Rattle.house.specs.Turns.{World, world}
 use Rattle.house.specs.Calls.{answered}
 use Rattle.house.specs.Sound.{Typed}
-use Rattle.demands.specs.Histories.{Boot, booted, Call, empty, after, history, Grown, turns_made, steps_made, lone_of, Event, log_of}
+use Rattle.demands.specs.Histories.{Boot, booted, Call, empty, after, history, Grown, turns_made, steps_made, lone_of, log_of}
 use Rattle.save.specs.Saved.{record_of, records, turn_words, guest_words, ticket_words, frame_words, file_of}
 use Rattle.save.specs.Reading.{Progress, Reading, begun, fed}
 use Rattle.save.specs.Calls.{save_call, read_piece, finished}

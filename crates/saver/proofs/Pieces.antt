@@ -1,8 +1,8 @@
 -- The bytes of a file, by their places.
-use mathlib.Core.Path.{◌≡◌, refl, sym, ap, subst, ◌∙◌}
-use mathlib.Core.Bool.{Bool, true, false}
-use mathlib.Core.List.{List, [], ◌∷◌, ◌++◌, append_assoc, append-nil}
-use Prim.Native.Nat.{ℕ, zero, suc, ◌+◌, ◌-◌, ◌*◌, ◌/◌, ◌%◌, ◌^◌, ◌<◌, ◌≤◌, min}
+use mathlib.Core.Path.{◌≡◌, refl, sym, ap, ◌∙◌}
+use mathlib.Core.Bool.{true, false}
+use mathlib.Core.List.{List, [], ◌∷◌, ◌++◌, append_assoc}
+use Prim.Native.Nat.{ℕ, zero, suc, ◌+◌, ◌-◌, ◌*◌, ◌/◌, ◌%◌, ◌<◌, ◌≤◌, min}
 use native.Mathlib.Numerals.{add-one}
 use native.Mathlib.Omega.{arith}
 use borrow.Author.Tests.{ltb-true, ltb-false, eq-eqb, ne_eqb}
@@ -10,20 +10,19 @@ use lib.Dec.{ltb}
 use lib.ListN.{length, get_or, set, take, drop, length-append, length-drop, get_or-append}
 use lib.Seq.{get_or-append-add, get_or-take, get_or-drop, length-take-le, take_at}
 use Rattle.dlx.proofs.Tests.{by_test}
-use Rattle.dlx.specs.Parts.{inner}
 use Rattle.dlx.proofs.Parts.{inner_length, part_at}
 use Rattle.tickets.specs.Queues.{queue_of}
 use Rattle.house.specs.declared.House.{House}
 use Rattle.house.specs.Damage.{damaged}
 use Rattle.house.specs.Boot.{verdict, first_of}
-use Rattle.house.specs.Turns.{World, world}
+use Rattle.house.specs.Turns.{world}
 use Rattle.house.proofs.Damage.Undamaged.{undamaged_gives}
 use Rattle.save.specs.Calls.{written, piece_length, save_verdict, save_call}
 use Rattle.decimal.specs.Texts.{Puts, joined as parts}
 use Rattle.decimal.proofs.Texts.{whole, roomy, ◌then◌}
 use Rattle.save.specs.Saved.{little, all_bytes, record_of, records, turn_words, guest_words, ticket_words, frame_words, file_of}
-use Rattle.save.proofs.Bytes.{length_bytes, record_length}
-use Rattle.save.proofs.Joined.{joined, joined_set}
+use Rattle.save.proofs.Bytes.{record_length}
+use Rattle.save.proofs.Joined.{joined_set}
 use Rattle.saver.specs.Heads.{guest_at, guest_record, queue_at, queue_record, head_of, HeadFits, tail_of, PieceFits}
 
 -- ---- a word's bytes, and words' bytes
