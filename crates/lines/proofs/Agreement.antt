@@ -8,14 +8,17 @@ use native.Mathlib.Omega.{arith}
 use borrow.Author.Tests.{eqb-true, eqb-false, eq-eqb, le-leb, lt-leb, lt-ltb}
 use lib.Dec.{eqb, leb, ltb, leb-suc-suc}
 use Rattle.dlx.specs.Choice.{if◌then◌else◌}
-use Rattle.dlx.specs.Words.{opcode, function, sa, extended, extended_by}
+use Rattle.dlx.specs.Words.{opcode, function, sa, extended, extended_by, rd_immediate, rs1 as rs1_of}
 use Rattle.dlx.specs.Instructions.{instruction_of, register_type, part_type}
 use Rattle.dlx.specs.declared.instruction.Instruction.{Instruction}
+use Rattle.dlx.specs.declared.instruction.Instruction.TheVariants.{LoadBy, StoreBy, Immediate, Lhgi, Beqz, Bnez, Jr, Jalr, J, Jal, Trap, Rfe}
+use Rattle.dlx.specs.declared.instruction.Operation.{Operation}
+use Rattle.dlx.specs.declared.instruction.Operation.TheVariants.{Add, Sub, And, Or, Xor, Test}
 use Rattle.dlx.proofs.Tests.{by_test, and_left}
 use Rattle.decimal.specs.Decimals.{decimal}
 use Rattle.decimal.specs.Texts.{same, ascii}
 use Rattle.decimal.proofs.Same.{and_right, same_eq}
-use Rattle.lines.specs.Table.{operand_at, operands, special, Row, row, named, unnamed, row_at}
+use Rattle.lines.specs.Table.{operand_at, operands, special, Row, named, unnamed, row_at}
 use Rattle.lines.specs.Lines.{written, field_of, operand_text, text_by, code_of, bare_of, made, remade, within, fits, place_from, column, coded, place_of, line_of}
 use Rattle.lines.specs.Called.{legal, test_name, access_name, immediate_row, register_row, row_for, values_in, word_of, text_of}
 use Rattle.lines.proofs.Tables.{below, below_at}
@@ -245,27 +248,81 @@ module _ (w : ℕ) where
       (or_else (eqb o 40) (at _ (five (2 ^ 16)) (five (2 ^ 21)) sixteen)
       (or_else (eqb o 41) (at _ (five (2 ^ 16)) (five (2 ^ 21)) sixteen) (at _ gone gone gone))))))
 
+  -- by the shape of the instruction
+  of_load : (o : ℕ) → Fields w (LoadBy o (rs1_of w) (extended 16 w) (rd_immediate w))
+  unfolding row_for values_in operand_at operands
+  of_load o = at (LoadBy o (rs1_of w) (extended 16 w) (rd_immediate w)) (five (2 ^ 16)) (five (2 ^ 21)) sixteen
+
+  of_store : (o : ℕ) → Fields w (StoreBy o (rs1_of w) (extended 16 w) (rd_immediate w))
+  unfolding row_for values_in operand_at operands
+  of_store o = at (StoreBy o (rs1_of w) (extended 16 w) (rd_immediate w)) (five (2 ^ 16)) (five (2 ^ 21)) sixteen
+
+  of_immediate : (op : Operation) → Fields w (Immediate op (rd_immediate w) (rs1_of w) (extended 16 w))
+  unfolding row_for values_in immediate_row operand_at operands
+  of_immediate Add = at (Immediate Add (rd_immediate w) (rs1_of w) (extended 16 w)) (five (2 ^ 16)) (five (2 ^ 21)) sixteen
+  of_immediate Sub = at (Immediate Sub (rd_immediate w) (rs1_of w) (extended 16 w)) (five (2 ^ 16)) (five (2 ^ 21)) sixteen
+  of_immediate And = at (Immediate And (rd_immediate w) (rs1_of w) (extended 16 w)) (five (2 ^ 16)) (five (2 ^ 21)) sixteen
+  of_immediate Or = at (Immediate Or (rd_immediate w) (rs1_of w) (extended 16 w)) (five (2 ^ 16)) (five (2 ^ 21)) sixteen
+  of_immediate Xor = at (Immediate Xor (rd_immediate w) (rs1_of w) (extended 16 w)) (five (2 ^ 16)) (five (2 ^ 21)) sixteen
+  of_immediate (Test k) = at (Immediate (Test k) (rd_immediate w) (rs1_of w) (extended 16 w)) (five (2 ^ 16)) (five (2 ^ 21)) sixteen
+
+  of_lhgi : Fields w (Lhgi (rd_immediate w) (extended 16 w))
+  unfolding row_for values_in operand_at operands
+  of_lhgi = at (Lhgi (rd_immediate w) (extended 16 w)) gone (five (2 ^ 16)) sixteen
+
+  of_beqz : Fields w (Beqz (rs1_of w) (extended 16 w))
+  unfolding row_for values_in operand_at operands
+  of_beqz = at (Beqz (rs1_of w) (extended 16 w)) gone (five (2 ^ 21)) sixteen
+
+  of_bnez : Fields w (Bnez (rs1_of w) (extended 16 w))
+  unfolding row_for values_in operand_at operands
+  of_bnez = at (Bnez (rs1_of w) (extended 16 w)) gone (five (2 ^ 21)) sixteen
+
+  of_jr : Fields w (Jr (rs1_of w))
+  unfolding row_for values_in operand_at operands
+  of_jr = at (Jr (rs1_of w)) gone gone (five (2 ^ 21))
+
+  of_jalr : Fields w (Jalr (rs1_of w))
+  unfolding row_for values_in operand_at operands
+  of_jalr = at (Jalr (rs1_of w)) gone gone (five (2 ^ 21))
+
+  of_j : Fields w (J (extended 26 w))
+  unfolding row_for values_in operand_at operands
+  of_j = at (J (extended 26 w)) gone gone twenty_six
+
+  of_jal : Fields w (Jal (extended 26 w))
+  unfolding row_for values_in operand_at operands
+  of_jal = at (Jal (extended 26 w)) gone gone twenty_six
+
+  of_trap : Fields w (Trap (extended 26 w))
+  unfolding row_for values_in operand_at operands
+  of_trap = at (Trap (extended 26 w)) gone gone twenty_six
+
+  of_rfe : Fields w Rfe
+  unfolding row_for values_in operand_at operands
+  of_rfe = at Rfe gone gone gone
+
   fields : Fields w (instruction_of w)
-  unfolding instruction_of row_for values_in immediate_row operand_at operands
+  unfolding instruction_of
   fields =
       let o = opcode w in
-      or_else (eqb o 35) (at _ (five (2 ^ 16)) (five (2 ^ 21)) sixteen)
-      (or_else (eqb o 43) (at _ (five (2 ^ 16)) (five (2 ^ 21)) sixteen)
-      (or_else (eqb o 8) (at _ (five (2 ^ 16)) (five (2 ^ 21)) sixteen)
-      (or_else (eqb o 10) (at _ (five (2 ^ 16)) (five (2 ^ 21)) sixteen)
-      (or_else (eqb o 12) (at _ (five (2 ^ 16)) (five (2 ^ 21)) sixteen)
-      (or_else (eqb o 13) (at _ (five (2 ^ 16)) (five (2 ^ 21)) sixteen)
-      (or_else (eqb o 14) (at _ (five (2 ^ 16)) (five (2 ^ 21)) sixteen)
-      (or_else (eqb o 15) (at _ gone (five (2 ^ 16)) sixteen)
-      (or_else (leb 24 o && leb o 31) (at _ (five (2 ^ 16)) (five (2 ^ 21)) sixteen)
-      (or_else (eqb o 4) (at _ gone (five (2 ^ 21)) sixteen)
-      (or_else (eqb o 5) (at _ gone (five (2 ^ 21)) sixteen)
-      (or_else (eqb o 22) (at _ gone gone (five (2 ^ 21)))
-      (or_else (eqb o 23) (at _ gone gone (five (2 ^ 21)))
-      (or_else (eqb o 2) (at _ gone gone twenty_six)
-      (or_else (eqb o 3) (at _ gone gone twenty_six)
-      (or_else (eqb o 62) (at _ gone gone twenty_six)
-      (or_else (eqb o 63) (at _ gone gone gone)
+      or_else (eqb o 35) (of_load 35)
+      (or_else (eqb o 43) (of_store 43)
+      (or_else (eqb o 8) (of_immediate Add)
+      (or_else (eqb o 10) (of_immediate Sub)
+      (or_else (eqb o 12) (of_immediate And)
+      (or_else (eqb o 13) (of_immediate Or)
+      (or_else (eqb o 14) (of_immediate Xor)
+      (or_else (eqb o 15) of_lhgi
+      (or_else (leb 24 o && leb o 31) (of_immediate (Test (o - 24)))
+      (or_else (eqb o 4) of_beqz
+      (or_else (eqb o 5) of_bnez
+      (or_else (eqb o 22) of_jr
+      (or_else (eqb o 23) of_jalr
+      (or_else (eqb o 2) of_j
+      (or_else (eqb o 3) of_jal
+      (or_else (eqb o 62) of_trap
+      (or_else (eqb o 63) of_rfe
       (or_else (eqb o 0) registers_fields parts_fields)))))))))))))))))
 
 -- so its word is the row's with the fields of w, and its text the row's

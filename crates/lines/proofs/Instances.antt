@@ -4,7 +4,6 @@ use mathlib.Core.Bool.{Bool, true, false}
 use mathlib.Core.List.{List, [], ◌∷◌, ◌++◌}
 use Prim.Native.Nat.{ℕ, zero, suc, ◌^◌, ◌<◌}
 use native.Mathlib.Omega.{arith}
-use lib.ListN.{length, get_or}
 use Rattle.dlx.specs.Choice.{if◌then◌else◌}
 use Rattle.dlx.specs.Instructions.{instruction_of, register_type, part_type}
 use Rattle.decimal.specs.Decimals.{decimal, decimal_in, signed_text}
@@ -15,7 +14,7 @@ use Rattle.lines.specs.Listings.{listing, lines_behind, lines_of, words_of, ende
 use Rattle.lines.specs.Called.{legal, test_name, register_row, row_for, values_in, word_of, text_of}
 use Rattle.lines.proofs.Least.{zeroed_least, legal_line, other_line}
 use Rattle.lines.proofs.Lines.{right_exactly, line_injective}
-use Rattle.lines.proofs.Listings.{Words, listing_assembled, listing_short, listing_injective, taken_listing, FirstWrong, first_wrong, none_wrong}
+use Rattle.lines.proofs.Listings.{Words, listing_assembled, listing_short, taken_listing, FirstWrong, first_wrong}
 
 -- no word is written `word 536936453`: that word has a name
 pub nameless : (w : ℕ) → w < 2 ^ 32 → line_of w ≡ ascii "word 536936453" → ⊥

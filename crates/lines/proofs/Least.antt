@@ -17,7 +17,7 @@ use Rattle.decimal.specs.Decimals.{decimal}
 use Rattle.decimal.specs.Texts.{ascii}
 use Rattle.lines.specs.Table.{operand_at, operands}
 use Rattle.lines.specs.Lines.{bare_of, made, remade, line_of}
-use Rattle.lines.specs.Called.{legal, immediate_row, register_row, row_for, values_in, Least, word_of, text_of}
+use Rattle.lines.specs.Called.{legal, immediate_row, register_row, row_for, Least, word_of, text_of}
 use Rattle.lines.proofs.Agreement.{remade_is, named_line, word_line}
 
 -- ---- a word by its fields
