@@ -1,11 +1,11 @@
 -- The promise used on the closed file of three partitions: as a whole, and cut inside the head of a frame's record.
 use mathlib.Core.Path.{◌≡◌, refl}
-use mathlib.Core.List.{List, [], ◌∷◌, ◌++◌}
-use Prim.Native.Nat.{ℕ, zero, suc, ◌+◌, ◌*◌, ◌^◌, ◌<◌, ◌≤◌}
+use mathlib.Core.List.{[], ◌∷◌, ◌++◌}
+use Prim.Native.Nat.{ℕ, zero, suc, ◌^◌, ◌≤◌}
 use native.Mathlib.Omega.{arith}
-use lib.ListN.{length, get_or, take, drop, replicate, take-append-drop, length-append, length-replicate}
+use lib.ListN.{length, get_or, take, drop, replicate, take-append-drop}
 use Rattle.house.specs.Boot.{sum}
-use Rattle.housefile.specs.Records.{File, file, right, reading_of}
+use Rattle.housefile.specs.Records.{file, right, reading_of}
 use Rattle.housefile.specs.Reader.{no_read, fed, answer_of}
 use Rattle.save.proofs.Bytes.{Below, below_append}
 use Rattle.save.proofs.RoundTrip.{below_cons}

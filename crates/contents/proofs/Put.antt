@@ -1,7 +1,7 @@
 -- Records of the file put one behind the other.
-use mathlib.Core.Path.{◌≡◌, refl, sym, ap, subst, ◌∙◌}
-use mathlib.Core.List.{List, [], ◌∷◌, ◌++◌, append_assoc, append-nil}
-use Prim.Native.Nat.{ℕ, zero, suc, ◌+◌, ◌-◌, ◌*◌, ◌^◌, ◌<◌, ◌≤◌}
+use mathlib.Core.Path.{◌≡◌, refl, sym, ap, ◌∙◌}
+use mathlib.Core.List.{List, [], ◌∷◌, ◌++◌, append_assoc}
+use Prim.Native.Nat.{ℕ, ◌+◌, ◌-◌, ◌*◌, ◌<◌, ◌≤◌}
 use native.Mathlib.Omega.{arith}
 use lib.ListN.{length, get_or, take, drop, length-append, length-drop}
 use lib.Seq.{take_at}
@@ -11,7 +11,7 @@ use Rattle.decimal.specs.Texts.{Puts, joined}
 use Rattle.decimal.proofs.Texts.{roomy, ◌then◌, whole}
 use Rattle.house.specs.Boot.{sum, offset}
 use Rattle.house.proofs.Boot.Offsets.{offset_in}
-use Rattle.housefile.specs.Records.{File, file}
+use Rattle.housefile.specs.Records.{File}
 use Rattle.save.specs.Saved.{little, all_bytes, record_of, records, frame_words}
 use Rattle.saver.proofs.Heads.{record_put}
 use Rattle.saver.proofs.Pieces.{joined_records}

@@ -1,19 +1,18 @@
 -- What a reading of the file of contents gives: these contents.
 use mathlib.Core.Path.{◌≡◌, refl, sym, ap, subst, ◌∙◌}
-use mathlib.Core.Bool.{Bool, true, false, not, ◌&&◌, ◌||◌}
+use mathlib.Core.Bool.{true, false, not, ◌||◌}
 use mathlib.Core.List.{List, [], ◌∷◌, ◌++◌, append-nil, append_assoc}
 use Prim.Native.Nat.{ℕ, zero, suc, ◌+◌, ◌-◌, ◌*◌, ◌/◌, ◌%◌, ◌^◌, ◌<◌, ◌≤◌}
 use native.Mathlib.Omega.{arith}
-use borrow.Author.Tests.{lt-ltb, le-leb, eq-eqb, ne_eqb}
-use lib.Dec.{eqb, ltb, leb}
+use borrow.Author.Tests.{lt-ltb, le-leb, eq-eqb}
+use lib.Dec.{eqb, ltb}
 use lib.ListN.{length, get_or, take, drop, replicate, length-append, length-replicate, drop_of_length-le}
-use lib.Seq.{take_at, drop_at, take_all, take-suc, take-add, length-take-le, drop-append-le, drop-length}
-use Rattle.dlx.specs.Choice.{if◌then◌else◌}
+use lib.Seq.{take_at, drop_at, take_all, take-suc, take-add, length-take-le}
 use Rattle.dlx.specs.Parts.{inner, outer}
 use Rattle.dlx.proofs.Parts.{inner_length, part_each}
-use Rattle.house.specs.Boot.{sum, offset}
+use Rattle.house.specs.Boot.{offset}
 use Rattle.house.proofs.Boot.Offsets.{offset_sum, offset_in}
-use Rattle.housefile.specs.Records.{number, words_of, size, kind, body, may_come, record_right, File, file, no_file, with_record, Reading, right, read_from, reading_of}
+use Rattle.housefile.specs.Records.{number, words_of, size, kind, may_come, record_right, File, file, no_file, with_record, Reading, right, read_from, reading_of}
 use Rattle.housefile.specs.Reader.{no_read, fed, answer_of}
 use Rattle.housefile.proofs.WholeFile.{cut_anywhere}
 use Rattle.save.specs.Saved.{little, all_bytes, record_of, records, frame_words}

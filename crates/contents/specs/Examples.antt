@@ -1,5 +1,5 @@
 -- Worked examples: the file of three partitions, whose frames 0 and 2 hold words. proofs/Checked.antt checks them by a single claim.
-use Rattle.std.specs.Prelude.{Bool, true, ◌&&◌, List, [], ◌∷◌, ◌++◌, ℕ, ◌+◌, ◌*◌, eqb, length, take, drop, replicate}
+use Rattle.std.specs.Prelude.{Bool, true, ◌&&◌, List, [], ◌∷◌, ◌++◌, ℕ, ◌+◌, ◌*◌, take, drop, replicate}
 use Rattle.decimal.specs.Texts.{same}
 use Rattle.housefile.specs.Records.{File, file}
 use Rattle.contents.specs.Contents.{before_frames, contents_file}

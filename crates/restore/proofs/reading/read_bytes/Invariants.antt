@@ -1,0 +1,10 @@
+use Rattle.std.proofs.Common.{◌≡◌, ◌-◌, ◌≤◌, length, drop}
+use Rattle.save.specs.Reading.{fed}
+use Rattle.restore.specs.Standing.{reading_at, Standing}
+use Rattle.restore.proofs.reading.read_bytes.Given as goal
+
+abbrev pub invariant-loop-i : goal.invariant-loop-i
+invariant-loop-i l = (fed (reading_at l.reader l.house l.held l.memory) (drop l.i l.piece) ≡ fed (reading_at l.initial.reader l.initial.house l.initial.held l.initial.memory) l.piece) × (l.i ≤ length l.piece) × (length l.held ≡ 4106) × Standing l.reader l.house l.memory × (length l.memory ≡ length l.initial.memory)
+
+abbrev pub decreases-loop-i : goal.decreases-loop-i
+decreases-loop-i l = length l.piece - l.i
