@@ -2,9 +2,8 @@
 # emulator runs them.
 command -v rt >/dev/null || die "there is no rt on the path: install the kit first"
 guide=$(rt doc) || die "rt does not run on this computer"
-kit=${guide%/docs/*}
-own=$kit/on/$(uname -m)
-tools=$own/toolchain
+kit=${guide%/*}
+tools=$kit/toolchain
 loader=$tools/lib/ld-linux-x86-64.so.2
 emulator=$tools/bin/qemu-x86_64
 [ -x "$emulator" ] || emulator=''
