@@ -1,5 +1,5 @@
 /* The house's two functions for the office's C and C++ programs, on x86-64 Linux.
-   Link target/staticlib/libdisplay.a, which `rt staticlib display` writes. */
+   Link crates/display/out/libdisplay.a, which `rt lib` writes in crates/display. */
 #ifndef HOUSE_H
 #define HOUSE_H
 
