@@ -16,40 +16,35 @@ pub loop-made-init : goal.loop-made-init
 unfolding host_steps
 loop-made-init c = (refl, c.requires, zero-le, refl, alone_told _ _ _ _ c.next.ensures)
 
-{- LOOK: no goal of this name now
-inside : (c : tie.After-wide invariant-loop decreases-loop) → c.wide.result < 8
-inside c = current_few _ _ _ c.wide.ensures c.before.before.loop.invariant.1.here c.before.before.loop.invariant.1.few
--}
-
 pub offset_bounds-parts-i : goal.offset_bounds-parts-i
-offset_bounds-parts-i c = record { fits = fits _ 80 (inside c) (omega arith) }
+offset_bounds-parts-i c = record { fits = fits _ 80 ((let inside' : c.wide-i.result < 8 = current_few _ _ _ c.wide-i.ensures c.loop-made.invariant.1.here c.loop-made.invariant.1.few in inside')) (omega arith) }
 
 pub bounds-parts-i : goal.bounds-parts-i
-bounds-parts-i c = inside c
+bounds-parts-i c = (let inside' : c.wide-i.result < 8 = current_few _ _ _ c.wide-i.ensures c.loop-made.invariant.1.here c.loop-made.invariant.1.few in inside')
 
 pub overflow_mul-a : goal.overflow_mul-a
-overflow_mul-a c = record { fits = fits _ 32 (inside c (omega arith) }
+overflow_mul-a c = record { fits = fits _ 32 ((let inside' : c.wide-i.result < 8 = current_few _ _ _ c.wide-i.ensures c.loop-made.invariant.1.here c.loop-made.invariant.1.few in inside')) (omega arith) }
 
 pub overflow_add-b : goal.overflow_add-b
-overflow_add-b c = record { fits = fits_on _ 32 (inside c (omega arith) }
+overflow_add-b c = record { fits = fits_on _ 32 ((let inside' : c.wide-i.result < 8 = current_few _ _ _ c.wide-i.ensures c.loop-made.invariant.1.here c.loop-made.invariant.1.few in inside')) (omega arith) }
 
 pub overflow_mul-c : goal.overflow_mul-c
-overflow_mul-c c = record { fits = fits _ 256 (inside c (omega arith) }
+overflow_mul-c c = record { fits = fits _ 256 ((let inside' : c.wide-i.result < 8 = current_few _ _ _ c.wide-i.ensures c.loop-made.invariant.1.here c.loop-made.invariant.1.few in inside')) (omega arith) }
 
 pub overflow_add-d : goal.overflow_add-d
-overflow_add-d c = record { fits = fits_on _ 256 (inside c (omega arith) }
+overflow_add-d c = record { fits = fits_on _ 256 ((let inside' : c.wide-i.result < 8 = current_few _ _ _ c.wide-i.ensures c.loop-made.invariant.1.here c.loop-made.invariant.1.few in inside')) (omega arith) }
 
 pub overflow_mul-e : goal.overflow_mul-e
-overflow_mul-e c = record { fits = fits _ entries (inside c (omega arith) }
+overflow_mul-e c = record { fits = fits _ entries ((let inside' : c.wide-i.result < 8 = current_few _ _ _ c.wide-i.ensures c.loop-made.invariant.1.here c.loop-made.invariant.1.few in inside')) (omega arith) }
 
 pub overflow_add-f : goal.overflow_add-f
-overflow_add-f c = record { fits = fits_on _ entries (inside c (omega arith) }
+overflow_add-f c = record { fits = fits_on _ entries ((let inside' : c.wide-i.result < 8 = current_few _ _ _ c.wide-i.ensures c.loop-made.invariant.1.here c.loop-made.invariant.1.few in inside')) (omega arith) }
 
 pub overflow_sub-k : goal.overflow_sub-k
 overflow_sub-k c = omega (arith, c.loop-made-test.true)
 
 pub offset_bounds-regs-a : goal.offset_bounds-regs-a
-offset_bounds-regs-a c = record { fits = fits_words _ 32 (inside c (omega arith) }
+offset_bounds-regs-a c = record { fits = fits_words _ 32 ((let inside' : c.wide-i.result < 8 = current_few _ _ _ c.wide-i.ensures c.loop-made.invariant.1.here c.loop-made.invariant.1.few in inside')) (omega arith) }
 
 pub slice_bounds-stretch-count : goal.slice_bounds-stretch-count
 slice_bounds-stretch-count c = starts _ 32
@@ -58,10 +53,10 @@ pub slice_bounds-regs-start : goal.slice_bounds-regs-start
 slice_bounds-regs-start c = starts _ 32
 
 pub slice_bounds-regs-end : goal.slice_bounds-regs-end
-slice_bounds-regs-end c = ends _ 32 (inside c (omega arith) _ c.loop-made.invariant.1.shaped.regs
+slice_bounds-regs-end c = ends _ 32 ((let inside' : c.wide-i.result < 8 = current_few _ _ _ c.wide-i.ensures c.loop-made.invariant.1.here c.loop-made.invariant.1.few in inside')) (omega arith) _ c.loop-made.invariant.1.shaped.regs
 
 pub offset_bounds-frames-c : goal.offset_bounds-frames-c
-offset_bounds-frames-c c = record { fits = fits_words _ 256 (inside c (omega arith) }
+offset_bounds-frames-c c = record { fits = fits_words _ 256 ((let inside' : c.wide-i.result < 8 = current_few _ _ _ c.wide-i.ensures c.loop-made.invariant.1.here c.loop-made.invariant.1.few in inside')) (omega arith) }
 
 pub slice_bounds-stretch-count-in-loop-made : goal.slice_bounds-stretch-count-in-loop-made
 slice_bounds-stretch-count-in-loop-made c = starts _ 256
@@ -70,10 +65,10 @@ pub slice_bounds-stretch-start : goal.slice_bounds-stretch-start
 slice_bounds-stretch-start c = starts _ 256
 
 pub slice_bounds-stretch-end : goal.slice_bounds-stretch-end
-slice_bounds-stretch-end c = ends _ 256 (inside c (omega arith) _ c.loop-made.invariant.1.shaped.frames
+slice_bounds-stretch-end c = ends _ 256 ((let inside' : c.wide-i.result < 8 = current_few _ _ _ c.wide-i.ensures c.loop-made.invariant.1.here c.loop-made.invariant.1.few in inside')) (omega arith) _ c.loop-made.invariant.1.shaped.frames
 
 pub offset_bounds-shadows-e : goal.offset_bounds-shadows-e
-offset_bounds-shadows-e c = record { fits = fits_words _ entries (inside c (omega arith) }
+offset_bounds-shadows-e c = record { fits = fits_words _ entries ((let inside' : c.wide-i.result < 8 = current_few _ _ _ c.wide-i.ensures c.loop-made.invariant.1.here c.loop-made.invariant.1.few in inside')) (omega arith) }
 
 pub slice_bounds-stretch-count-in-loop-made-2 : goal.slice_bounds-stretch-count-in-loop-made-2
 slice_bounds-stretch-count-in-loop-made-2 c = starts _ entries
@@ -82,46 +77,39 @@ pub slice_bounds-shadows-start : goal.slice_bounds-shadows-start
 slice_bounds-shadows-start c = starts _ entries
 
 pub slice_bounds-shadows-end : goal.slice_bounds-shadows-end
-slice_bounds-shadows-end c = ends _ entries (inside c (omega arith) _ c.loop-made.invariant.1.shaped.shadows
+slice_bounds-shadows-end c = ends _ entries ((let inside' : c.wide-i.result < 8 = current_few _ _ _ c.wide-i.ensures c.loop-made.invariant.1.here c.loop-made.invariant.1.few in inside')) (omega arith) _ c.loop-made.invariant.1.shaped.shadows
 
 pub stretch-s-requires : goal.stretch-s-requires
 stretch-s-requires c = let q = asked_sound c.args.h _ _ _ _ _ _ _ _ _ c.wide-i.ensures c.loop-made.invariant.1 in record { fact_1 = q.0; fact_2 = q.1.0; fact_3 = q.1.1.0; fact_4 = q.1.1.1 }
 
-{- LOOK: no goal of this name now
-asked-for : (c : tie.After-stretch invariant-loop decreases-loop) → Within (eqb c.before.before.before.before.before.before.before.before.before.before.before.before.before.before.next.result c.before.before.before.before.before.before.before.before.before.before.before.before.before.before.before.before.before.before.before.before.before.before.before.before.args.h.current) c.before.before.before.before.before.before.before.before.before.before.before.before.before.loop.left (c.before.before.before.before.before.before.before.before.before.before.before.before.before.before.before.before.before.before.before.before.before.before.before.before.args.k - c.before.before.before.before.before.before.before.before.before.before.before.before.before.loop.made) c.before.before.before.before.before.before.before.before.before.span.result
-asked-for c = lent_for_lem _ _ _ _ c.before.before.before.before.before.before.before.before.before.span.ensures c.before.before.before.before.before.before.before.before.before.before.before.before.before.loop.invariant.1.left (still_some _ _ c.before.before.before.before.before.before.before.before.before.before.before.before.loop-test.true)
--}
-
-{- LOOK: no goal of this name now
-made_some : (c : tie.After-stretch invariant-loop decreases-loop) → Within (eqb c.before.before.before.before.before.before.before.before.before.before.before.before.before.before.next.result c.before.before.before.before.before.before.before.before.before.before.before.before.before.before.before.before.before.before.before.before.before.before.before.before.args.h.current) c.before.before.before.before.before.before.before.before.before.before.before.before.before.loop.left (c.before.before.before.before.before.before.before.before.before.before.before.before.before.before.before.before.before.before.before.before.before.before.before.before.args.k - c.before.before.before.before.before.before.before.before.before.before.before.before.before.loop.made) c.stretch.result.made
-made_some c =
-    let u = asked-for c in
-    let d = asked_turned c.before.before.before.before.before.before.before.before.before.before.before.before.before.before.before.before.before.before.before.before.before.before.before.before.args.h _ _ _ _ _ _ _ _ _ _ _ _ _ _ _ _ _ _ c.before.before.before.before.before.before.before.before.before.before.before.wide.ensures c.stretch.ensures c.before.before.before.before.before.before.before.before.before.before.before.before.before.loop.invariant.1 u.some c.before.before.before.before.before.before.before.before.before.before.before.before.before.loop.invariant.4 u.turn in
-    record { some = d.some; turn = λ e. le_trans d.most (u.turn e); most = le_trans d.most u.most }
--}
-
 pub overflow_cast-s : goal.overflow_cast-s
-overflow_cast-s c = omega (arith, c.struct_known-1.LOOKgiven)
+overflow_cast-s c = omega (arith, c.struct_known-1.given)
 
 pub offset_bounds-parts-i-in-loop-made : goal.offset_bounds-parts-i-in-loop-made
-offset_bounds-parts-i-in-loop-made c = record { fits = fits _ 80 (inside c (omega arith) }
+offset_bounds-parts-i-in-loop-made c = record { fits = fits _ 80 ((let inside' : c.wide-i.result < 8 = current_few _ _ _ c.wide-i.ensures c.loop-made.invariant.1.here c.loop-made.invariant.1.few in inside')) (omega arith) }
 
 pub bounds-parts-i-in-loop-made : goal.bounds-parts-i-in-loop-made
-bounds-parts-i-in-loop-made c = inside c
+bounds-parts-i-in-loop-made c = (let inside' : c.wide-i.result < 8 = current_few _ _ _ c.wide-i.ensures c.loop-made.invariant.1.here c.loop-made.invariant.1.few in inside')
 
 pub later-t-requires : goal.later-t-requires
-later-t-requires c = let o = c.loop-made.invariant.1 in let q = (o.few, (o.here, (o.turns, (made_some c in record { fact_1 = q.0; fact_2 = q.1.0; fact_3 = q.1.1.0; fact_4 = q.1.1.1 }
+later-t-requires c = let o = c.loop-made.invariant.1 in record { fact_1 = o.few; fact_2 = o.here; fact_3 = o.turns; fact_4 = ((let made_some' : Within (eqb c.next.result c.args.h.current) c.loop-made.left (c.args.k - c.loop-made.made) c.stretch-s.result.made = let u = (let asked_for' : Within (eqb c.next.result c.args.h.current) c.loop-made.left (c.args.k - c.loop-made.made) c.span-n.result = lent_for_lem _ _ _ _ c.span-n.ensures c.loop-made.invariant.1.left (still_some _ _ c.loop-made-test.true) in asked_for') in
+    let d = asked_turned c.args.h _ _ _ _ _ _ _ _ _ _ _ _ _ _ _ _ _ _ c.wide-i.ensures c.stretch-s.ensures c.loop-made.invariant.1 u.some c.loop-made.invariant.4 u.turn in
+    record { some = d.some; turn = λ e. le_trans d.most (u.turn e); most = le_trans d.most u.most } in made_some')).turn }
 
 pub overflow_add-made : goal.overflow_add-made
-overflow_add-made c = let d = made_some c in record { fits = omega (arith, d.most, c.loop-made-test.true, c.well_formed) }
+overflow_add-made c = let d = (let made_some' : Within (eqb c.next.result c.args.h.current) c.loop-made.left (c.args.k - c.loop-made.made) c.stretch-s.result.made = let u = (let asked_for' : Within (eqb c.next.result c.args.h.current) c.loop-made.left (c.args.k - c.loop-made.made) c.span-n.result = lent_for_lem _ _ _ _ c.span-n.ensures c.loop-made.invariant.1.left (still_some _ _ c.loop-made-test.true) in asked_for') in
+    let d = asked_turned c.args.h _ _ _ _ _ _ _ _ _ _ _ _ _ _ _ _ _ _ c.wide-i.ensures c.stretch-s.ensures c.loop-made.invariant.1 u.some c.loop-made.invariant.4 u.turn in
+    record { some = d.some; turn = λ e. le_trans d.most (u.turn e); most = le_trans d.most u.most } in made_some') in record { fits = omega (arith, d.most, c.loop-made-test.true, c.well_formed) }
 
 pub loop-made-smaller : goal.loop-made-smaller
-loop-made-smaller c = let d = made_some c in omega (arith, d.some, d.most, c.loop-made-test.true)
+loop-made-smaller c = let d = (let made_some' : Within (eqb c.next.result c.args.h.current) c.loop-made.left (c.args.k - c.loop-made.made) c.stretch-s.result.made = let u = (let asked_for' : Within (eqb c.next.result c.args.h.current) c.loop-made.left (c.args.k - c.loop-made.made) c.span-n.result = lent_for_lem _ _ _ _ c.span-n.ensures c.loop-made.invariant.1.left (still_some _ _ c.loop-made-test.true) in asked_for') in
+    let d = asked_turned c.args.h _ _ _ _ _ _ _ _ _ _ _ _ _ _ _ _ _ _ c.wide-i.ensures c.stretch-s.ensures c.loop-made.invariant.1 u.some c.loop-made.invariant.4 u.turn in
+    record { some = d.some; turn = λ e. le_trans d.most (u.turn e); most = le_trans d.most u.most } in made_some') in omega (arith, d.some, d.most, c.loop-made-test.true)
 
 pub loop-made-preserved : goal.loop-made-preserved
 loop-made-preserved c =
     let i = c.loop-made.invariant in
-    let u = asked-for c in
+    let u = (let asked_for' : Within (eqb c.next.result c.args.h.current) c.loop-made.left (c.args.k - c.loop-made.made) c.span-n.result = lent_for_lem _ _ _ _ c.span-n.ensures c.loop-made.invariant.1.left (still_some _ _ c.loop-made-test.true) in asked_for') in
     let d = asked_turned c.args.h _ _ _ _ _ _ _ _ _ _ _ _ _ _ _ _ _ _ c.wide-i.ensures c.stretch-s.ensures i.1 u.some i.4 u.turn in
     let w = after_turn c.args.h _ _ _ _ _ _ _ _ _ _ _ _ _ _ _ _ _ _ _ _ c.wide-i.ensures d c.later-t.ensures c.wrapping_add_u64.ensures.value in
     (w ∙ ap (host_steps _) i.0 ∙ steps_add _ _ _, subst Sound (sym w) (sound_steps _ _ i.1), omega (arith, d.most, u.most, c.loop-made-test.true), omega (arith, i.3), still_alone _ _ _ _ _ _ _ _ _ c.later-t.ensures i.4)
