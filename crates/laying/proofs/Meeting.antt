@@ -1,6 +1,5 @@
 -- Images that meet.
-use Rattle.std.proofs.Common.{◌≡◌, ℕ, suc, ◌+◌, ◌*◌, ◌/◌, ◌%◌, ◌<◌, ◌≤◌, min, max, Bool, true, false, ◌&&◌, ◌||◌, eqb, ltb, List, length, get_or, sym, refl, ap, ◌∙◌, add-one, arith, eq-eqb, ne_eqb}
-use Rattle.dlx.specs.Choice.{if◌then◌else◌}
+use Rattle.std.proofs.Common.{◌≡◌, ℕ, ◌+◌, ◌*◌, ◌/◌, ◌%◌, min, max, Bool, true, false, ◌||◌, eqb, ltb, List, get_or, ◌∙◌, add-one, eq-eqb, ne_eqb}
 use Rattle.house.specs.Lists.{any}
 use Rattle.laying.specs.Laid.{owner_of, meeting, fault_of}
 

@@ -1,6 +1,5 @@
 -- Words of raw bytes, and their places.
-use Rattle.std.proofs.Common.{◌≡◌, ℕ, zero, suc, ◌+◌, ◌-◌, ◌*◌, ◌/◌, ◌%◌, ◌<◌, ◌≤◌, List, [], ◌∷◌, length, get_or, take, drop, set, sym, refl, ap, ◌∙◌, add-one, arith, drop-cons}
-use lib.ListN.{get_or-eq_default}
+use Rattle.std.proofs.Common.{◌≡◌, ℕ, suc, ◌+◌, ◌-◌, ◌*◌, ◌/◌, ◌≤◌, List, [], ◌∷◌, length, get_or, take, drop, set, sym, ap, ◌∙◌, add-one, arith, drop-cons}
 use Rattle.dlx.specs.Words.{plus}
 use Rattle.addresses.specs.Memory.{place}
 use Rattle.housefile.specs.Records.{number}

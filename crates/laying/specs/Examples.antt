@@ -1,6 +1,5 @@
 -- Worked examples. proofs/Checked.antt checks them by a single claim.
-use Rattle.std.specs.Prelude.{ℕ, ◌+◌, ◌*◌, Bool, true, not, ◌&&◌, List, [], ◌∷◌, ◌++◌, replicate, ◌==◌, slice_index}
-use Prim.Native.String.{String}
+use Rattle.std.specs.Prelude.{ℕ, ◌+◌, ◌*◌, Bool, true, ◌&&◌, List, [], ◌∷◌, replicate, ◌==◌, slice_index}
 use Rattle.decimal.specs.Texts.{ascii, same}
 use Rattle.laying.specs.Laid.{laid_words, sum_words, count_of, fault_of, memory_of}
 use Rattle.laying.specs.Slip.{slip_text}
