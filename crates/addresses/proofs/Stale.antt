@@ -2,7 +2,7 @@
 use mathlib.Core.Path.{◌≡◌, refl, sym, ap, ◌∙◌}
 use mathlib.Core.Bool.{true, false, not, ◌&&◌, true≢false, false≢true}
 use mathlib.Core.List.{List}
-use Prim.Native.Nat.{ℕ, ◌+◌, ◌*◌, ◌/◌, ◌%◌, ◌^◌}
+use Prim.Native.Nat.{ℕ, ◌/◌, ◌%◌, ◌^◌}
 use native.Mathlib.Omega.{arith}
 use borrow.Author.Tests.{eqb-true, eq-eqb}
 use lib.Dec.{eqb}
@@ -12,7 +12,7 @@ use Rattle.dlx.proofs.Tests.{by_test, get_or_replicate_same}
 use Rattle.addresses.specs.Entries.{number, valid, protection, entry_of, Found, fault, found}
 use Rattle.addresses.specs.Walk.{entries, walked}
 use Rattle.addresses.specs.Memory.{host_word, hosted, given, stale, fresh_shadow}
-use Rattle.addresses.proofs.Entries.{number_entry, protection_entry, valid_entry, fault_invalid, Within, walked_within, empty_invalid}
+use Rattle.addresses.proofs.Entries.{number_entry, protection_entry, fault_invalid, Within, walked_within, empty_invalid}
 
 -- a valid entry with 0 in its unused bits is its frame and its protection
 entry_parts : (e : ℕ) → e / 2 ^ 11 % 2 ≡ 1 → e % 1024 ≡ 0 → e ≡ entry_of (number e) (protection e)

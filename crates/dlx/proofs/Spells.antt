@@ -1,7 +1,6 @@
 -- A stretch is its first spell, and what is behind it.
 use mathlib.Core.Path.{◌≡◌, refl, sym, ap, subst, ◌∙◌}
 use mathlib.Core.Bool.{Bool, true, false}
-use mathlib.Core.List.{List}
 use Prim.Native.Nat.{ℕ, zero, suc, ◌+◌, ◌-◌, ◌<◌, ◌≤◌}
 use native.Mathlib.Nat.{sub-zero}
 use native.Mathlib.Omega.{arith}
@@ -12,8 +11,8 @@ use Rattle.dlx.specs.Choice.{if◌then◌else◌}
 use Rattle.dlx.specs.Fields.{aligned, placed}
 use Rattle.dlx.specs.Processor.{user}
 use Rattle.dlx.specs.Timer.{ticked, raised}
-use Rattle.dlx.specs.Machine.{Ops, Core, core, Outcome, outcome, after_read, after_write, fetched, accessed, accessed_at, left, changed, settled, retabled, step, request_of, asked, Desk, step_at, Stretch, stretch_from, Places}
-use Rattle.dlx.specs.Spells.{sunk, timed, plainly, passed, ended, Spell, spell, passed_at, spell_from, Leg, leg_at}
+use Rattle.dlx.specs.Machine.{Ops, Core, Outcome, outcome, after_read, after_write, fetched, accessed, left, changed, settled, retabled, step, request_of, asked, Desk, Stretch, stretch_from, Places}
+use Rattle.dlx.specs.Spells.{sunk, timed, plainly, passed, ended, Spell, spell, passed_at, spell_from, leg_at}
 use Rattle.dlx.specs.declared.partition.Timer.{Timer}
 use Rattle.dlx.specs.declared.execute.Access.{Access}
 use Rattle.dlx.specs.declared.execute.Access.TheVariants.{Fault, Word}

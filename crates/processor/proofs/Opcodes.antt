@@ -1,5 +1,5 @@
 -- What the bits of a load's and of a store's opcode tell: how an address is aligned, the width, and what extends it.
-use Rattle.std.proofs.Common.{◌≡◌, ℕ, ◌*◌, ◌/◌, ◌%◌, ◌^◌, ◌<◌, ◌≤◌, Bool, true, false, ◌||◌, eqb, sym, refl, ap, ◌∙◌, subst, arith, ne_eqb, eqb-true}
+use Rattle.std.proofs.Common.{◌≡◌, ℕ, ◌/◌, ◌%◌, ◌^◌, ◌<◌, ◌≤◌, Bool, true, false, ◌||◌, eqb, sym, refl, ap, arith, ne_eqb, eqb-true}
 use lib.Bits.{bit_and, and_mask, and_zero_r}
 use Rattle.dlx.specs.Words.{opcode, rs1, rd_immediate, extended, extended_by}
 use Rattle.dlx.specs.Instructions.{part_type}

@@ -1,9 +1,5 @@
-use mathlib.Core.Path.{◌≡◌, refl, sym, ◌∙◌}
-use Prim.Native.Nat.{◌-◌, ◌≤◌}
+use mathlib.Core.Path.{refl, sym, ◌∙◌}
 use native.Mathlib.Omega.{arith}
-use borrow.Author.Rules.{rules}
-use lib.ListN.{length, drop}
-use Rattle.decimal.specs.Texts.{same}
 use Rattle.decimal.proofs.Same.{same_long, same_on, same_not, same_done}
 use Rattle.decimal.proofs.is.Goals as goal
 

@@ -1,10 +1,7 @@
-use mathlib.Core.Path.{◌≡◌, refl, sym, ◌∙◌}
+use mathlib.Core.Path.{◌≡◌}
 use Prim.Native.Nat.{◌-◌, ◌≤◌}
-use native.Mathlib.Omega.{arith}
-use borrow.Author.Rules.{rules}
 use lib.ListN.{length, drop}
 use Rattle.decimal.specs.Texts.{same}
-use Rattle.decimal.proofs.Same.{same_long, same_on, same_not, same_done}
 use Rattle.decimal.proofs.is.Given as goal
 
 abbrev pub invariant-loop-i : goal.invariant-loop-i

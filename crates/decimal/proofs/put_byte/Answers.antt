@@ -1,4 +1,3 @@
-use borrow.Author.Rules.{rules}
 use Rattle.decimal.proofs.Texts.{byte_in, byte_out}
 use Rattle.decimal.proofs.put_byte.Goals as goal
 

@@ -1,6 +1,5 @@
 use Rattle.decimal.proofs.Texts.{exactly, ◌then◌}
 use Rattle.decimal.specs.Raw.{low_first}
-use borrow.Author.Rules.{rules}
 use Rattle.decimal.proofs.put_raw.Goals as goal
 
 pub returns : goal.returns

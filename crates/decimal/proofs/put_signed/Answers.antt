@@ -1,7 +1,6 @@
 use native.Mathlib.Omega.{arith}
 use Rattle.decimal.proofs.Texts.{signed_low, signed_high}
 use Rattle.decimal.specs.Texts.{text}
-use borrow.Author.Rules.{rules}
 use Rattle.decimal.proofs.put_signed.Goals as goal
 
 pub returns-then-v-size : goal.returns-then-v-size

@@ -1,7 +1,5 @@
 use borrow.Author.Tests.{lt-ltb, le-ltb, lt-leb, le-leb}
 use Rattle.tickets.specs.Queues.{sending}
-use borrow.Author.Rules.{rules}
-use Rattle.dlx.proofs.words.wide.Reads as wide-reads
 use Rattle.tickets.proofs.send.Goals as goal
 
 -- src/lib.rt:30:9

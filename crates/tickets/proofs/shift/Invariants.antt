@@ -1,9 +1,7 @@
-use mathlib.Core.Path.{◌≡◌, subst}
-use Prim.Native.Nat.{◌-◌, ◌≤◌, zero-le}
-use native.Mathlib.Nat.{le_antisymm}
-use native.Mathlib.Omega.{arith}
-use lib.ListN.{length, length-set}
-use Rattle.tickets.proofs.Moves.{Moved, moved_none, moved_on, moved_all}
+use mathlib.Core.Path.{◌≡◌}
+use Prim.Native.Nat.{◌-◌, ◌≤◌}
+use lib.ListN.{length}
+use Rattle.tickets.proofs.Moves.{Moved}
 use Rattle.tickets.proofs.shift.Given as goal
 
 abbrev pub invariant-loop-k : goal.invariant-loop-k

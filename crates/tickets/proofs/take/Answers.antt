@@ -2,8 +2,6 @@ use native.Mathlib.Nat.{add-sub_cancel_left}
 use Rattle.dlx.specs.Parts.{inner, outer}
 use borrow.Author.Tests.{eq-eqb, ne_eqb}
 use Rattle.tickets.specs.Queues.{taking}
-use borrow.Author.Rules.{rules}
-use Rattle.dlx.proofs.words.wide.Reads as wide-reads
 use Rattle.tickets.proofs.take.Goals as goal
 
 -- src/lib.rt:50:9

@@ -1,4 +1,3 @@
-use Rattle.std.proofs.Common.{rules}
 use Rattle.processor.proofs.execute.branch.Goals as goal
 
 pub returns-then-taken : goal.returns-then-taken

@@ -1,5 +1,5 @@
 use Rattle.dlx.specs.Execute.{effect_of}
-use Rattle.std.proofs.Common.{arith, rules}
+use Rattle.std.proofs.Common.{arith}
 use Rattle.processor.proofs.execute.execute.Goals as goal
 
 pub offset_bounds-regs-rs1 : goal.offset_bounds-regs-rs1

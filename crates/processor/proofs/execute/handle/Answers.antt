@@ -1,6 +1,5 @@
 use Rattle.dlx.specs.Machine.{handled}
-use Rattle.std.proofs.Common.{rules, eq-eqb, ne_eqb}
-use Rattle.dlx.proofs.interrupt.level.Reads as level-reads
+use Rattle.std.proofs.Common.{eq-eqb, ne_eqb}
 use Rattle.processor.proofs.execute.handle.Goals as goal
 
 -- src/execute.rt:309:9

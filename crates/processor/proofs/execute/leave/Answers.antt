@@ -1,6 +1,6 @@
 use Rattle.dlx.specs.Machine.{left}
 use Rattle.dlx.proofs.Spells.{still_ticked, still_raised}
-use Rattle.std.proofs.Common.{rules, eq-eqb, ne_eqb}
+use Rattle.std.proofs.Common.{ne_eqb}
 use Rattle.processor.proofs.execute.leave.Goals as goal
 
 -- src/execute.rt:281:9

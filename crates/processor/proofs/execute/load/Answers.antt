@@ -1,6 +1,5 @@
 use Rattle.dlx.specs.Execute.{loads}
 use Rattle.processor.proofs.Opcodes.{or_left}
-use Rattle.std.proofs.Common.{rules}
 use Rattle.processor.proofs.execute.load.Goals as goal
 
 pub reach-requires : goal.reach-requires

@@ -1,5 +1,5 @@
 use Rattle.dlx.specs.Execute.{operated}
-use Rattle.std.proofs.Common.{rules, eq-eqb, ne_eqb}
+use Rattle.std.proofs.Common.{eq-eqb, ne_eqb}
 use Rattle.processor.proofs.execute.operate.Goals as goal
 
 pub returns-then-overflows : goal.returns-then-overflows

@@ -1,5 +1,4 @@
 use Rattle.dlx.specs.Execute.{overflows_of}
-use Rattle.std.proofs.Common.{rules}
 use Rattle.processor.proofs.execute.overflows.Goals as goal
 
 pub returns-in-Add : goal.returns-in-Add

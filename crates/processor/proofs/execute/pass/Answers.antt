@@ -1,5 +1,5 @@
 use Rattle.dlx.specs.Spells.{passed, plainly}
-use Rattle.std.proofs.Common.{arith, rules}
+use Rattle.std.proofs.Common.{arith}
 use Rattle.processor.proofs.execute.pass.Goals as goal
 
 -- src/execute.rt:225:13

@@ -1,6 +1,5 @@
-use Rattle.std.proofs.Common.{◌%◌, sym, ◌∙◌, eq-eqb, ne_eqb}
+use Rattle.std.proofs.Common.{sym, eq-eqb, ne_eqb}
 use Rattle.dlx.specs.Execute.{reached}
-use Rattle.dlx.specs.Fields.{aligned, width}
 use Rattle.processor.proofs.Opcodes.{masks}
 use Rattle.processor.proofs.execute.reach.Goals as goal
 

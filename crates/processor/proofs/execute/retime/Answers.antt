@@ -1,5 +1,4 @@
 use Rattle.dlx.specs.Spells.{retimed}
-use Rattle.std.proofs.Common.{rules}
 use Rattle.processor.proofs.execute.retime.Goals as goal
 
 -- src/execute.rt:264:1

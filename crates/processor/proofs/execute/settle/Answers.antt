@@ -1,7 +1,7 @@
 use Rattle.dlx.specs.Machine.{settled, changed}
 use Rattle.dlx.specs.Spells.{turned, retimed, ended}
 use Rattle.dlx.proofs.Kept.{raised_lt}
-use Rattle.std.proofs.Common.{◌∙◌, arith, rules}
+use Rattle.std.proofs.Common.{◌∙◌, arith}
 use Rattle.processor.proofs.execute.settle.Goals as goal
 
 -- src/execute.rt:331:60

@@ -1,7 +1,6 @@
 use Rattle.dlx.specs.Fields.{loading, storing}
 use Rattle.dlx.specs.Execute.{stores}
 use Rattle.processor.proofs.Opcodes.{or_right}
-use Rattle.std.proofs.Common.{rules}
 use Rattle.processor.proofs.execute.store.Goals as goal
 
 pub reach-requires : goal.reach-requires

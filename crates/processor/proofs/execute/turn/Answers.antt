@@ -1,6 +1,4 @@
 use Rattle.dlx.specs.Spells.{turned}
-use Rattle.std.proofs.Common.{rules}
-use Rattle.std.proofs.num.wrapping_add_u32.Reads as wrapping-add-u32-reads
 use Rattle.processor.proofs.execute.turn.Goals as goal
 
 -- src/execute.rt:251:1

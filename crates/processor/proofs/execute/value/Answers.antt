@@ -1,4 +1,4 @@
-use Rattle.std.proofs.Common.{arith, rules}
+use Rattle.std.proofs.Common.{arith}
 use Rattle.dlx.specs.Execute.{value_of}
 use Rattle.processor.proofs.execute.value.Goals as goal
 

@@ -1,5 +1,5 @@
 use Rattle.dlx.specs.Execute.{written}
-use Rattle.std.proofs.Common.{rules, eq-eqb, ne_eqb}
+use Rattle.std.proofs.Common.{eq-eqb, ne_eqb}
 use Rattle.processor.proofs.execute.write.Goals as goal
 
 pub returns-then-rd-ne0 : goal.returns-then-rd-ne0

@@ -1,4 +1,4 @@
-use Rattle.std.proofs.Common.{◌*◌, ◌%◌, refl, ◌∙◌, arith, rules}
+use Rattle.std.proofs.Common.{◌*◌, ◌%◌, refl, ◌∙◌, arith}
 use Rattle.processor.proofs.Opcodes.{brings_word, brings_half_signed, brings_half, brings_byte_signed, brings_byte}
 use Rattle.processor.proofs.fields.bring.Goals as goal
 

@@ -1,5 +1,5 @@
 use Rattle.dlx.specs.Instructions.{instruction_of}
-use Rattle.std.proofs.Common.{◌≡◌, ℕ, ◌/◌, ◌<◌, ◌≤◌, false, ◌&&◌, leb, ◌⊎◌, refl, inl, inr, arith, rules, ne_eqb, le-leb}
+use Rattle.std.proofs.Common.{◌≡◌, ℕ, ◌/◌, ◌<◌, ◌≤◌, false, ◌&&◌, leb, ◌⊎◌, refl, inl, inr, arith, ne_eqb, le-leb}
 use borrow.Author.Tests.{lt-leb}
 use Rattle.processor.proofs.instruction.read_instruction.Goals as goal
 

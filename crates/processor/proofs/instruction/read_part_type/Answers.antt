@@ -1,4 +1,4 @@
-use Rattle.std.proofs.Common.{refl, arith, rules}
+use Rattle.std.proofs.Common.{refl, arith}
 use Rattle.processor.proofs.Opcodes.{part_below, part_32, part_34, part_36, part_38, part_40, part_above}
 use Rattle.processor.proofs.instruction.read_part_type.Goals as goal
 

@@ -1,4 +1,4 @@
-use Rattle.std.proofs.Common.{◌%◌, arith, rules, ne_eqb, le-leb}
+use Rattle.std.proofs.Common.{◌%◌, arith, ne_eqb, le-leb}
 use Rattle.dlx.specs.Instructions.{register_type}
 use borrow.Author.Tests.{lt-leb}
 use Rattle.processor.proofs.instruction.read_register_type.Goals as goal

@@ -1,7 +1,5 @@
 use Rattle.dlx.specs.Interrupts.{interrupted}
-use Rattle.std.proofs.Common.{rules, ne_eqb}
-use Rattle.dlx.proofs.interrupt.level.Reads as level-reads
-use Rattle.std.proofs.num.wrapping_add_u32.Reads as wrapping-add-u32-reads
+use Rattle.std.proofs.Common.{ne_eqb}
 use Rattle.processor.proofs.interrupt.interrupt.Goals as goal
 
 -- src/interrupt.rt:26:1

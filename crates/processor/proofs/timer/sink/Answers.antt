@@ -1,4 +1,4 @@
-use Rattle.std.proofs.Common.{◌≡◌, ◌-◌, arith, rules}
+use Rattle.std.proofs.Common.{◌≡◌, ◌-◌, arith}
 use Rattle.processor.proofs.timer.sink.Goals as goal
 
 -- src/timer.rt:54:9

@@ -1,5 +1,5 @@
 use Rattle.dlx.proofs.Spells.{still_ticked}
-use Rattle.std.proofs.Common.{sym, rules, ne_eqb}
+use Rattle.std.proofs.Common.{sym, ne_eqb}
 use Rattle.dlx.specs.Timer.{ticked}
 use Rattle.processor.proofs.timer.tick.Goals as goal
 

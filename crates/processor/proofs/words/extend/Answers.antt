@@ -1,8 +1,7 @@
 use Rattle.processor.proofs.Xor.{flip_extends, half_small}
 use Rattle.dlx.specs.Words.{extended_by}
 use lib.Bits.{bit_xor}
-use Rattle.std.proofs.Common.{◌≡◌, ℕ, ◌+◌, ◌*◌, ◌%◌, ◌^◌, sym, subst, arith, rules}
-use Rattle.std.proofs.num.wrapping_sub_u32.Reads as wrapping-sub-u32-reads
+use Rattle.std.proofs.Common.{◌≡◌, ℕ, ◌+◌, ◌*◌, ◌%◌, ◌^◌, sym, subst, arith}
 use Rattle.processor.proofs.words.extend.Goals as goal
 
 -- src/words.rt:66:22

@@ -1,4 +1,4 @@
-use Rattle.std.proofs.Common.{◌∙◌, arith, w64, rules, le-ltb, lt-ltb}
+use Rattle.std.proofs.Common.{◌∙◌, arith, w64, le-ltb, lt-ltb}
 use mir.ValLaws.{to_z_pos, to_z-of_z}
 use Rattle.dlx.specs.Words.{read_in}
 use Rattle.processor.proofs.words.reading.Goals as goal

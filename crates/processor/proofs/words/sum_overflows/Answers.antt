@@ -1,4 +1,4 @@
-use Rattle.std.proofs.Common.{◌+ℤ◌, rules}
+use Rattle.std.proofs.Common.{◌+ℤ◌}
 use Rattle.dlx.proofs.Signed.{sum_fits, result_fits, result_outside}
 use Rattle.processor.proofs.words.sum_overflows.Goals as goal
 

@@ -1,5 +1,4 @@
 use Rattle.dlx.proofs.Signed.{kept}
-use Rattle.std.proofs.Common.{rules}
 use Rattle.processor.proofs.words.test.Goals as goal
 
 pub returns : goal.returns

@@ -1,0 +1,17 @@
+use lib.ListN.{get_or}
+use Rattle.addresses.specs.Memory.{stale}
+use Rattle.staleness.proofs.Counting.{one_most, count_more}
+use mathlib.Core.Path.{◌≡◌, refl, sym, ap, ◌∙◌}
+use Prim.Native.Nat.{ℕ, ◌+◌, ◌-◌, ◌≤◌, zero-le}
+use native.Mathlib.Nat.{le_antisymm}
+use native.Mathlib.Omega.{arith}
+use borrow.Author.Rules.{rules}
+use Rattle.addresses.specs.Walk.{entries}
+use Rattle.staleness.specs.Audit.{stale_in, count_of}
+use Rattle.staleness.proofs.count_stale.Given as goal
+
+abbrev pub invariant-loop-px : goal.invariant-loop-px
+invariant-loop-px l = (l.n ≡ count_of (stale_in l.frames l.pages l.t l.words l.shadow) l.px) × (l.n ≤ l.px) × (l.px ≤ entries)
+
+abbrev pub decreases-loop-px : goal.decreases-loop-px
+decreases-loop-px l = entries - l.px
