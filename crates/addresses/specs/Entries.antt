@@ -1,7 +1,7 @@
 -- Entries of the guest's table: the page number in bits 31..12, bit 11 valid, bit 10 protected. A shadow entry is a word of the same format, with
 -- a host frame in the page number's place and all else 0; the empty one is 0.
 use Rattle.std.specs.Prelude.{Bool, not, ◌&&◌, ℕ, ◌+◌, ◌-◌, ◌*◌, ◌/◌, ◌%◌, ◌^◌, leb, eqb}
-use Rattle.dlx.specs.Choice.{if◌then◌else◌}
+use Rattle.dlx.specs.Choice.{when◌then◌else◌}
 
 abbrev pub number : ℕ → ℕ
 number e = e / 2 ^ 12
@@ -26,8 +26,8 @@ pub data Found : Type 0 where
 -- an entry by itself, in a guest of n pages: its bit 11 is 0, or its page number isn't below the page count
 unfoldable pub judged : ℕ → ℕ → Found
 judged n e =
-    if not (valid e) then fault 4 else
-    if leb n (number e) then fault 5 else
+    when not (valid e) then fault 4 else
+    when leb n (number e) then fault 5 else
     found (number e) (protection e)
 
 -- the sixth fault: a store, to a page that is protected
@@ -44,7 +44,7 @@ fault_word = 2 ^ 32 - 1
 
 unfoldable pub composed : Bool → Found → ℕ
 composed store (fault x) = fault_word
-composed store (found k p) = if refused store p then fault_word else k
+composed store (found k p) = when refused store p then fault_word else k
 
 abbrev pub composition_of : ℕ → ℕ → ℕ → ℕ
 composition_of e n access = composed (not (eqb access 0)) (judged n e)

@@ -1,6 +1,6 @@
 -- The lone memory and the shadowed memory, as two instances of `dlx`'s memory.
 use Rattle.std.specs.Prelude.{Bool, not, ◌&&◌, List, ℕ, ◌+◌, ◌*◌, ◌/◌, ◌%◌, ltb, eqb, get_or, set, replicate}
-use Rattle.dlx.specs.Choice.{if◌then◌else◌}
+use Rattle.dlx.specs.Choice.{when◌then◌else◌}
 use Rattle.dlx.specs.Machine.{Ops}
 use Rattle.dlx.specs.declared.partition.Table.{Table}
 use Rattle.dlx.specs.declared.execute.Access.{Access}
@@ -28,7 +28,7 @@ abbrev pub lone_word : Lone → ℕ → ℕ
 lone_word s i = get_or s.words i 0
 
 unfoldable pub lone_found : ℕ → Lone → Bool → ℕ → Found
-lone_found n s user a = if user then walked (lone_word s) n s.table (a / 4096) else direct n a
+lone_found n s user a = when user then walked (lone_word s) n s.table (a / 4096) else direct n a
 
 unfoldable pub lone_read : Lone → ℕ → Found → Access
 lone_read s a (fault x) = Fault x
@@ -37,7 +37,7 @@ lone_read s a (found k p) = Word (lone_word s (word_in k a))
 unfoldable pub lone_written : Lone → ℕ → (ℕ → ℕ) → Found → ℕ × Lone
 lone_written s a f (fault x) = (x, s)
 lone_written s a f (found k p) =
-    if eqb p 1 then (protected_page, s) else (0, lone s.table (updated s.words (word_in k a) f))
+    when eqb p 1 then (protected_page, s) else (0, lone s.table (updated s.words (word_in k a) f))
 
 abbrev pub lone_memory : ℕ → Ops Lone
 lone_memory n = record {
@@ -78,31 +78,31 @@ unfoldable pub stale : List ℕ → ℕ → Table → List ℕ → ℕ → ℕ �
 stale fr n t ws px e = valid e && not (eqb e (given fr n t ws px))
 
 unfoldable pub filled : Host → ℕ → ℕ → Host
-filled s px e = if valid e then host s.table s.words (set s.shadow px e) else s
+filled s px e = when valid e then host s.table s.words (set s.shadow px e) else s
 
 -- a valid entry serves as it stands; otherwise the guest's table decides, and the entry is filled
 unfoldable pub looked : List ℕ → ℕ → Host → ℕ → ℕ × Host
 looked fr n s px =
-    if valid (get_or s.shadow px 0) then (get_or s.shadow px 0, s) else
+    when valid (get_or s.shadow px 0) then (get_or s.shadow px 0, s) else
     (given fr n s.table s.words px, filled s px (given fr n s.table s.words px))
 
 -- the entry that serves an access at the byte address a, or the fault
 unfoldable pub served : List ℕ → ℕ → Host → Bool → ℕ → ℕ × Host
-served fr n s user a = if user then looked fr n s (a / 4096) else (hosted fr (direct n a), s)
+served fr n s user a = when user then looked fr n s (a / 4096) else (hosted fr (direct n a), s)
 
 unfoldable pub host_read : Host → ℕ → ℕ → Access
-host_read s a e = if valid e then Word (get_or s.words (word_in (number e) a) 0) else Fault e
+host_read s a e = when valid e then Word (get_or s.words (word_in (number e) a) 0) else Fault e
 
 -- A store into word `off` of the frame f hits entry `off` of the table where f holds page PTO: the 1,024 entries fill exactly that one page.
 unfoldable pub emptied : List ℕ → ℕ → Table → ℕ → ℕ → List ℕ → List ℕ
 emptied fr n t f off sh =
-    if ltb t.pto n && eqb (get_or fr t.pto 0) f && ltb off t.ptl && ltb off entries then set sh off 0 else sh
+    when ltb t.pto n && eqb (get_or fr t.pto 0) f && ltb off t.ptl && ltb off entries then set sh off 0 else sh
 
 -- the data access, then emptying
 unfoldable pub host_written : List ℕ → ℕ → Host → ℕ → (ℕ → ℕ) → ℕ → ℕ × Host
 host_written fr n s a f e =
-    if not (valid e) then (e, s) else
-    if eqb (protection e) 1 then (protected_page, s) else
+    when not (valid e) then (e, s) else
+    when eqb (protection e) 1 then (protected_page, s) else
     (0, host s.table (updated s.words (word_in (number e) a) f) (emptied fr n s.table (number e) (a / 4 % 1024) s.shadow))
 
 unfoldable pub host_reads : List ℕ → ℕ → Host → Bool → ℕ → Access × Host

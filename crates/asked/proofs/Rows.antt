@@ -1,6 +1,6 @@
 -- A frame list read byte by byte, and the last @ of a word.
 use Rattle.std.proofs.Common.{◌≡◌, ℕ, zero, suc, ◌+◌, ◌-◌, ◌<◌, ◌≤◌, List, [], ◌∷◌, length, get_or, drop, sym, refl, ap, ◌∙◌, add-one, arith, drop_of_length-le, drop-cons, eq-eqb, ne_eqb}
-use Rattle.dlx.specs.Choice.{if◌then◌else◌}
+use Rattle.dlx.specs.Choice.{when◌then◌else◌}
 use Rattle.asked.specs.Words.{Rowed, rowed, no_row, row_ended, row_took, row_fed, row_of, last_at}
 
 pub fed_on : (at : ℕ) (g : Rowed) {g' x : Rowed} (word : List ℕ) (i : ℕ) → i < length word → row_fed at g (drop i word) ≡ x → g' ≡ row_took at g (get_or word i 0) → row_fed at g' (drop (i + 1) word) ≡ x
@@ -43,7 +43,7 @@ unfolding row_of
 row_empty at frames [] e = refl
 row_empty at frames (b ∷ bs) e = absurd (omega arith)
 
-pub row_whole : (at : ℕ) (frames word : List ℕ) (g : Rowed) → (length word ≡ 0 → ⊥) → g ≡ row_fed at (rowed no_row frames) word → row_of at frames word ≡ (if g.row.right then row_ended at g else g)
+pub row_whole : (at : ℕ) (frames word : List ℕ) (g : Rowed) → (length word ≡ 0 → ⊥) → g ≡ row_fed at (rowed no_row frames) word → row_of at frames word ≡ (when g.row.right then row_ended at g else g)
 unfolding row_of
 row_whole at frames [] g n e = absurd (n refl)
 row_whole at frames (b ∷ bs) g n e = rw e

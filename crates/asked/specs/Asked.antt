@@ -1,6 +1,6 @@
 -- What noon's words from the first `partition` on ask for: page counts, frame lists and images.
 use Rattle.std.specs.Prelude.{ℕ, ◌+◌, ◌*◌, ◌%◌, true, false, not, ◌&&◌, List, [], ◌∷◌, replicate, ◌==◌, nat_lt, slice_set}
-use Rattle.dlx.specs.Choice.{if◌then◌else◌}
+use Rattle.dlx.specs.Choice.{when◌then◌else◌}
 use Rattle.dlx.specs.Words.{plus}
 use Rattle.decimal.specs.Texts.{ascii, same}
 use Rattle.asked.specs.Words.{row_of, address_of}
@@ -34,7 +34,7 @@ unfoldable pub framed : Going → List ℕ → Going
 framed g word =
     let a = g.asked in
     let r = row_of a.total g.frames word in
-    if r.row.right then
+    when r.row.right then
     going
     (record { right = true; awaits = 2; owner = a.owner; total = plus a.total r.row.count; images = a.images })
     (slice_set g.pages a.owner r.row.count)
@@ -48,7 +48,7 @@ imaged g n word =
     let a = g.asked in
     let x = address_of word in
     let k = 3 * a.images in
-    if x.said && x.value % 4 == 0 && nat_lt a.images 64 then
+    when x.said && x.value % 4 == 0 && nat_lt a.images 64 then
     going
     (record { right = true; awaits = 3; owner = a.owner; total = a.total; images = a.images + 1 })
     g.pages
@@ -61,11 +61,11 @@ unfoldable pub took_word : Going → ℕ → List ℕ → Going
 took_word g n word =
     let a = g.asked in
     let named = same word (ascii "partition") in
-    if not a.right then g else
-    if a.awaits == 0 then going (if named then awaiting a 1 0 else wrong_word a) g.pages g.frames g.table else
-    if a.awaits == 1 then framed g word else
-    if a.awaits == 3 && named then going (awaiting a 1 (plus a.owner 1)) g.pages g.frames g.table else
-    if named then going (wrong_word a) g.pages g.frames g.table else
+    when not a.right then g else
+    when a.awaits == 0 then going (when named then awaiting a 1 0 else wrong_word a) g.pages g.frames g.table else
+    when a.awaits == 1 then framed g word else
+    when a.awaits == 3 && named then going (awaiting a 1 (plus a.owner 1)) g.pages g.frames g.table else
+    when named then going (wrong_word a) g.pages g.frames g.table else
     imaged g n word
 
 -- ---- all of them, the first of which is word n

@@ -1,6 +1,6 @@
 -- Two of noon's words: a frame list, decimals with commas between, and an image with its address.
 use Rattle.std.specs.Prelude.{ℕ, zero, suc, ◌+◌, ◌%◌, ◌^◌, true, false, not, List, [], ◌∷◌, length, drop, ◌==◌, slice_index, slice_set}
-use Rattle.dlx.specs.Choice.{if◌then◌else◌}
+use Rattle.dlx.specs.Choice.{when◌then◌else◌}
 use Rattle.dlx.specs.Words.{plus}
 use Rattle.command.specs.Words.{number, number_of, with_digit}
 use Rattle.command.specs.declared.Number.{Number}
@@ -26,7 +26,7 @@ wrong_row = record { right = false; begun = false; value = 0; count = 0 }
 unfoldable pub row_ended : ℕ → Rowed → Rowed
 row_ended at g =
     let r = g.row in
-    if r.begun
+    when r.begun
     then rowed (record { right = r.right; begun = false; value = 0; count = plus r.count 1 }) (slice_set g.frames (at + r.count) (r.value % 2 ^ 32))
     else rowed wrong_row g.frames
 
@@ -34,8 +34,8 @@ row_ended at g =
 unfoldable pub row_took : ℕ → Rowed → ℕ → Rowed
 row_took at g b =
     let r = g.row in
-    if not r.right then g else
-    if b == 44 then row_ended at g else
+    when not r.right then g else
+    when b == 44 then row_ended at g else
     let n = with_digit 4294967295 (number r.value) b in
     rowed (record { right = n.said; begun = true; value = n.value; count = r.count }) g.frames
 
@@ -48,14 +48,14 @@ unfoldable pub row_of : ℕ → List ℕ → List ℕ → Rowed
 row_of at frames [] = rowed no_row frames
 row_of at frames (b ∷ bs) =
     let g = row_fed at (rowed no_row frames) (b ∷ bs) in
-    if g.row.right then row_ended at g else g
+    when g.row.right then row_ended at g else g
 
 -- ---- an image: its name, and behind the last @ its address, 0 where there is none
 
 -- where the last @ of the first n bytes stands, or the word's length
 unfoldable pub last_at : List ℕ → ℕ → ℕ
 last_at word zero = length word
-last_at word (suc n) = if slice_index word n == 64 then n else last_at word n
+last_at word (suc n) = when slice_index word n == 64 then n else last_at word n
 
 abbrev pub name_length : List ℕ → ℕ
 name_length word = last_at word (length word)
@@ -63,4 +63,4 @@ name_length word = last_at word (length word)
 unfoldable pub address_of : List ℕ → Number
 address_of word =
     let n = name_length word in
-    if n == length word then number 0 else number_of 4294967295 (drop (n + 1) word)
+    when n == length word then number 0 else number_of 4294967295 (drop (n + 1) word)

@@ -7,7 +7,7 @@ use native.Mathlib.Omega.{arith}
 use borrow.Author.Tests.{lt-ltb, le-ltb, ltb-true, ltb-false, leb-true, leb-false}
 use lib.Dec.{ltb, leb, eqb}
 use lib.ListN.{length, get_or, set, replicate, get_or-eq_default}
-use Rattle.dlx.specs.Choice.{if◌then◌else◌}
+use Rattle.dlx.specs.Choice.{when◌then◌else◌}
 use Rattle.dlx.proofs.Tests.{by_test}
 use Rattle.house.specs.Lists.{list_from, any, first_from, between}
 use Rattle.house.specs.Damage.{whole_frames}
@@ -24,13 +24,13 @@ module _ {A : Type 0} (f : ℕ → A) (d : A) (n : ℕ) where
   pub filled_none : replicate n d ≡ filled f d n 0
   filled_none =
       sym (list_from_replicate d 0 n)
-      ∙ list_from_same (λ _. d) (λ j. if ltb j 0 then f j else d) 0 n (λ j _. rw (le-ltb j 0 (omega arith)))
+      ∙ list_from_same (λ _. d) (λ j. when ltb j 0 then f j else d) 0 n (λ j _. rw (le-ltb j 0 (omega arith)))
 
   pub filled_more : (i : ℕ) → i < n → set (filled f d n i) i (f i) ≡ filled f d n (i + 1)
   filled_more i l =
-      let q : (if ltb i (i + 1) then f i else d) ≡ f i = rw (lt-ltb i (i + 1) (omega arith)) in
+      let q : (when ltb i (i + 1) then f i else d) ≡ f i = rw (lt-ltb i (i + 1) (omega arith)) in
       subst (λ (v : A). set (filled f d n i) i v ≡ filled f d n (i + 1)) q
-      (set_list_from (λ j. if ltb j i then f j else d) (λ j. if ltb j (i + 1) then f j else d) n i
+      (set_list_from (λ j. when ltb j i then f j else d) (λ j. when ltb j (i + 1) then f j else d) n i
       (λ j e. by_test (ltb j i)
       (λ t. rw (t, lt-ltb j (i + 1) (omega (arith, ltb-true j i t))))
       (λ t. rw (t, le-ltb j (i + 1) (omega (arith, ltb-false j i t)))))
@@ -39,7 +39,7 @@ module _ {A : Type 0} (f : ℕ → A) (d : A) (n : ℕ) where
   -- places that the rule gives d need no turn
   pub filled_rest : (i k : ℕ) → i ≤ k → ((j : ℕ) → i ≤ j → j < k → f j ≡ d) → filled f d n i ≡ filled f d n k
   filled_rest i k l h =
-      list_from_same (λ j. if ltb j i then f j else d) (λ j. if ltb j k then f j else d) 0 n λ j _.
+      list_from_same (λ j. when ltb j i then f j else d) (λ j. when ltb j k then f j else d) 0 n λ j _.
       by_test (ltb j i)
       (λ t. rw (t, lt-ltb j k (omega (arith, ltb-true j i t))))
       (λ t. by_test (ltb j k)
@@ -48,14 +48,14 @@ module _ {A : Type 0} (f : ℕ → A) (d : A) (n : ℕ) where
 
   pub filled_whole : (i : ℕ) → ((j : ℕ) → i ≤ j → f j ≡ d) → filled f d n i ≡ list_from f 0 n
   filled_whole i h =
-      list_from_same (λ j. if ltb j i then f j else d) f 0 n λ j _.
+      list_from_same (λ j. when ltb j i then f j else d) f 0 n λ j _.
       by_test (ltb j i)
       (λ t. rw t)
       (λ t. rw t (sym (h j (ltb-false j i t))))
 
 pub filled_flags : (n i : ℕ) → filled (λ _. true) false n i ≡ list_from (λ j. ltb j i) 0 n
 filled_flags n i =
-    list_from_same (λ j. if ltb j i then true else false) (λ j. ltb j i) 0 n λ j _. by_test (ltb j i) (λ t. rw t) (λ t. rw t)
+    list_from_same (λ j. when ltb j i then true else false) (λ j. ltb j i) 0 n λ j _. by_test (ltb j i) (λ t. rw t) (λ t. rw t)
 
 -- ---- what a boot has that nothing refuses
 

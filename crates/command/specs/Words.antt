@@ -1,6 +1,6 @@
 -- The words of a command.
 use Rattle.std.specs.Prelude.{Bool, true, false, ◌&&◌, ◌||◌, List, [], ◌∷◌, ℕ, ◌+◌, ◌-◌, ◌*◌, leb}
-use Rattle.dlx.specs.Choice.{if◌then◌else◌}
+use Rattle.dlx.specs.Choice.{when◌then◌else◌}
 use Rattle.decimal.specs.Texts.{ascii, same}
 use Rattle.command.specs.declared.Number.{Number}
 
@@ -19,7 +19,7 @@ no_number = record { said = false; value = 0 }
 unfoldable pub with_digit : ℕ → Number → ℕ → Number
 with_digit most n b =
     let v = n.value * 10 + (b - 48) in
-    if n.said && leb 48 b && leb b 57 && leb v most then number v else no_number
+    when n.said && leb 48 b && leb b 57 && leb v most then number v else no_number
 
 unfoldable pub with_digits : ℕ → Number → List ℕ → Number
 with_digits most n [] = n

@@ -10,7 +10,7 @@ use borrow.Author.Tests.{not-false, eqb-true, eq-eqb, ne_eqb, ltb-true, ltb-fals
 use lib.Bits.{bit_or, or_zero_r, or_add_and, and_le_l}
 use lib.Dec.{eqb, ltb, leb}
 use lib.ListN.{length, get_or, take, drop, length-replicate, get_or-replicate, get_or-eq_default}
-use Rattle.dlx.specs.Choice.{if◌then◌else◌}
+use Rattle.dlx.specs.Choice.{when◌then◌else◌}
 use Rattle.dlx.specs.declared.partition.Partition.{Partition}
 use Rattle.dlx.proofs.Tests.{by_test, by_eq}
 use Rattle.addresses.specs.Entries.{number}
@@ -72,7 +72,7 @@ module _ (ps : List Partition) (fr : List ℕ) where
   owners_length zero = length-replicate {A = ℕ} 1024 0
   owners_length (suc n) = marked_length (part_at fr n) (suc n) (owners_of ps fr n) (pages_at ps n) ∙ owners_length n
 
-  owners_suc : (n f : ℕ) → f < 1024 → get_or (owners_of ps fr (suc n)) f 0 ≡ (if has f n then suc n else get_or (owners_of ps fr n) f 0)
+  owners_suc : (n f : ℕ) → f < 1024 → get_or (owners_of ps fr (suc n)) f 0 ≡ (when has f n then suc n else get_or (owners_of ps fr n) f 0)
   unfolding owners_of
   owners_suc n f l = marked_at (part_at fr n) (suc n) (owners_of ps fr n) (pages_at ps n) f (omega (arith, owners_length n))
 

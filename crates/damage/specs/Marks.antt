@@ -1,6 +1,6 @@
 -- What the parts of the damage check find, over the house's parts; and the marks, by which each frame names its owner.
 use Rattle.std.specs.Prelude.{Bool, false, not, ◌&&◌, ◌||◌, List, ℕ, zero, suc, ◌+◌, ◌*◌, ◌/◌, ◌%◌, ◌<◌, ◌≤◌, ltb, leb, eqb, get_or, replicate}
-use Rattle.dlx.specs.Choice.{if◌then◌else◌}
+use Rattle.dlx.specs.Choice.{when◌then◌else◌}
 use Rattle.dlx.specs.declared.partition.Partition.{Partition}
 use Rattle.dlx.specs.declared.partition.Processor.{Processor}
 use Rattle.addresses.specs.Entries.{number, valid}
@@ -65,7 +65,7 @@ twice_in ps fr i = any (twice_at ps fr i) (pages_at ps i)
 -- a shadow entry that is wrong by the marks
 abbrev pub entry_marked : List ℕ → ℕ → ℕ → Bool
 entry_marked o tag e =
-    if valid e then not (eqb (get_or o (number e) 0) tag) || not (eqb (e % 1024) 0) else not (eqb e 0)
+    when valid e then not (eqb (get_or o (number e) 0) tag) || not (eqb (e % 1024) 0) else not (eqb e 0)
 
 -- one of 32 entries from base on
 abbrev pub group_marked : List ℕ → ℕ → List ℕ → ℕ → Bool
@@ -78,7 +78,7 @@ shadow_marked o sh i = any (λ px. entry_marked o (i + 1) (get_or (entries_at sh
 
 abbrev pub turn_outside : ℕ → ℕ → ℕ → ℕ → List Bool → Bool
 turn_outside count q current left running =
-    if eqb left 0 then not (eqb current 0) || any (λ i. get_or running i false) 8
+    when eqb left 0 then not (eqb current 0) || any (λ i. get_or running i false) 8
     else leb count current || not (get_or running current false) || ltb q left
 
 abbrev pub processor_wrong : Processor → ℕ → ℕ → Bool
@@ -93,7 +93,7 @@ behind fr n k = leb n k && not (eqb (get_or fr k 0) 0)
 -- the room of a partition of the count or beyond it
 abbrev pub room_wrong : ℕ → ℕ → Bool → Partition → List ℕ → List ℕ → List ℕ → Bool
 room_wrong count i run p rs fr sh =
-    if ltb i count then any (behind (part_at fr i) p.pages) 256
+    when ltb i count then any (behind (part_at fr i) p.pages) 256
     else run
     || partition_used p
     || not_zero rs (i * 32) 32

@@ -7,7 +7,7 @@ use native.Mathlib.Omega.{arith}
 use borrow.Author.Tests.{eq-eqb, ne_eqb}
 use lib.Dec.{eqb}
 use lib.ListN.{length, get_or, length-append}
-use Rattle.dlx.specs.Choice.{if◌then◌else◌}
+use Rattle.dlx.specs.Choice.{when◌then◌else◌}
 use Rattle.dlx.specs.Machine.{steps}
 use Rattle.dlx.proofs.Feeds.{steps_same}
 use Rattle.addresses.specs.Memory.{lone_memory}
@@ -42,7 +42,7 @@ use Rattle.demands.proofs.Shares.{shares_most}
 
 -- ---- demand 1
 
-refused_given : {A : Type 0} (n : ℕ) (done given : A) → (n ≡ 0 → ⊥) → (if eqb n 0 then done else given) ≡ given
+refused_given : {A : Type 0} (n : ℕ) (done given : A) → (n ≡ 0 → ⊥) → (when eqb n 0 then done else given) ≡ given
 refused_given n done given r = rw (ne_eqb n 0 r)
 
 pub refused_means_untouched : RefusedMeansUntouched

@@ -8,7 +8,7 @@ use native.Mathlib.Omega.{arith}
 use borrow.Author.Tests.{eqb-true, eqb-false, ne_eqb}
 use lib.Dec.{eqb}
 use lib.ListN.{get_or, set}
-use Rattle.dlx.specs.Choice.{if◌then◌else◌}
+use Rattle.dlx.specs.Choice.{when◌then◌else◌}
 use Rattle.dlx.proofs.Kept.{either}
 use Rattle.dlx.proofs.Tests.{either_both, by_eq, get_or_set_default}
 use Rattle.house.specs.Lists.{any}
@@ -30,7 +30,7 @@ use Rattle.house.proofs.Calls.Verdicts.{run_done, one_done}
 
 -- the host steps before i's turn, at most
 wait : ℕ → ℕ → ℕ → ℕ → ℕ → ℕ
-wait n q i c l = if eqb c i then 0 else l + (distance n c i - 1) * q
+wait n q i c l = when eqb c i then 0 else l + (distance n c i - 1) * q
 
 abbrev waiting : House → ℕ → ℕ
 waiting h i = wait h.count h.q i h.current h.left
@@ -140,7 +140,7 @@ stopped_waits h p i s m e =
 module _ (w : World) (i : ℕ) (m : i < w.house.count) (e : runs w.house i ≡ true) where
   one_waits : (p : ℕ) (h : House)
       → (Turning w.house → runs h i ≡ true → waiting h i ≤ waiting w.house i)
-      → let x = (if eqb (one_verdict w.house p).number 0 then world h w.memory else w) in runs x.house i ≡ true → 0 + waiting x.house i ≤ waiting w.house i
+      → let x = (when eqb (one_verdict w.house p).number 0 then world h w.memory else w) in runs x.house i ≡ true → 0 + waiting x.house i ≤ waiting w.house i
   one_waits p h f =
       either (λ (x : World). runs x.house i ≡ true → 0 + waiting x.house i ≤ waiting w.house i) (eqb (one_verdict w.house p).number 0)
       (λ t r. omega (arith, f (turning w.house i (one_done w.house p (eqb-true (one_verdict w.house p).number 0 t)).whole m e) r))

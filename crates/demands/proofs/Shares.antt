@@ -8,7 +8,7 @@ use native.Mathlib.Omega.{arith}
 use borrow.Author.Tests.{eqb-true}
 use lib.Dec.{eqb}
 use lib.ListN.{get_or}
-use Rattle.dlx.specs.Choice.{if◌then◌else◌}
+use Rattle.dlx.specs.Choice.{when◌then◌else◌}
 use Rattle.dlx.proofs.Kept.{either}
 use Rattle.dlx.proofs.Tests.{either_both, by_test, by_eq}
 use Rattle.house.specs.House.{runs}
@@ -71,7 +71,7 @@ module _ (i j : ℕ) (d : i ≡ j → ⊥) where
 
 -- ---- calls
 
-not_counted : (done b : Bool) → ◌≡◌ {A = ℕ} (if done && b then 1 else 0) 0 → done ≡ true → b ≡ false
+not_counted : (done b : Bool) → ◌≡◌ {A = ℕ} (when done && b then 1 else 0) 0 → done ≡ true → b ≡ false
 not_counted true true z e = absurd (omega arith)
 not_counted true false z e = refl
 not_counted false b z e = one_way false e refl

@@ -1,6 +1,6 @@
 -- The three demands, as statements about the definitions that the calls' contracts cite. proofs/Demands.antt proves each.
 use Rattle.std.specs.Prelude.{◌≡◌, Bool, true, false, not, List, ◌++◌, ℕ, ◌+◌, ◌-◌, ◌*◌, ◌/◌, ◌%◌, ◌^◌, ◌<◌, ◌≤◌, eqb, length, get_or, drop}
-use Rattle.dlx.specs.Choice.{if◌then◌else◌}
+use Rattle.dlx.specs.Choice.{when◌then◌else◌}
 use Rattle.dlx.specs.Machine.{step, steps}
 use Rattle.addresses.specs.Entries.{number, valid, protection, refused, protected_page, Found, fault, found}
 use Rattle.addresses.specs.Memory.{word_in, lone_found, lone_memory, served}
@@ -146,7 +146,7 @@ pub record StepOf (w w' : World) (i : ℕ) : Type 0 where
   pub own : lone_of w' i ≡ (let o = step (lone_memory (pages_of w.house i)) (lone_answer w i) (lone_of w i) in (o.0.core, o.1))
   pub others : (j : ℕ) → j < w.house.count → (j ≡ i → ⊥) → lone_of w' j ≡ lone_of w j
   pub counters : (j : ℕ) → j < w.house.count → (partition w'.house j).counter ≡
-      (if eqb j i then ((partition w.house j).counter + 1) % 2 ^ 64 else (partition w.house j).counter)
+      (when eqb j i then ((partition w.house j).counter + 1) % 2 ^ 64 else (partition w.house j).counter)
   pub turns : turn w'.house.current w'.house.left ≡
       turn_of w.house.running w.house.count w.house.q i w.house.left 1 (step (lone_memory (pages_of w.house i)) (lone_answer w i) (lone_of w i)).0.calls
   pub running : w'.house.running ≡ w.house.running
@@ -169,14 +169,14 @@ pub data Landing : Type 0 where
 abbrev pub by_shadow : World → ℕ → Bool → Bool → ℕ → Landing
 by_shadow w i store user a =
     let e = (served (frames_of w.house i) (pages_of w.house i) (guest w i).1 user a).0 in
-    if not (valid e) then fails e else
-    if refused store (protection e) then fails protected_page else
+    when not (valid e) then fails e else
+    when refused store (protection e) then fails protected_page else
     word (word_in (number e) a)
 
 -- by the guest's own table, followed by the host's list
 unfoldable pub listed : List ℕ → Bool → ℕ → Found → Landing
 listed fr store a (fault x) = fails x
-listed fr store a (found k p) = if refused store p then fails protected_page else word (word_in (get_or fr k 0) a)
+listed fr store a (found k p) = when refused store p then fails protected_page else word (word_in (get_or fr k 0) a)
 
 abbrev pub by_table : World → ℕ → Bool → Bool → ℕ → Landing
 by_table w i store user a = listed (frames_of w.house i) store a (lone_found (pages_of w.house i) (lone_of w i).1 user a)

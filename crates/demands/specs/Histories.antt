@@ -1,6 +1,6 @@
 -- Histories: a boot that is done, then any calls, house and memory handed on untouched; and the lone machine of each partition.
 use Rattle.std.specs.Prelude.{◌≡◌, Bool, true, not, ◌&&◌, List, [], ◌∷◌, ◌++◌, ℕ, zero, suc, ◌+◌, ◌*◌, ◌/◌, ◌%◌, eqb, ltb, length, get_or, replicate}
-use Rattle.dlx.specs.Choice.{if◌then◌else◌}
+use Rattle.dlx.specs.Choice.{when◌then◌else◌}
 use Rattle.dlx.specs.Processor.{fresh_processor, no_timer}
 use Rattle.dlx.specs.Machine.{Core, core, Request, asked, reply}
 use Rattle.dlx.specs.declared.execute.Reply.{Reply}
@@ -54,11 +54,11 @@ Grown b w = (cs : List Call) × (w ≡ history cs (booted b))
 -- of k host steps, those of partition i
 unfoldable pub turns_in : ℕ → World → ℕ → ℕ
 turns_in zero w i = 0
-turns_in (suc k) w i = (if eqb (host_steps k w).house.current i then 1 else 0) + turns_in k w i
+turns_in (suc k) w i = (when eqb (host_steps k w).house.current i then 1 else 0) + turns_in k w i
 
 -- the host steps of a call, and those of partition i among them: a done run's
 unfoldable pub steps_of : Call → World → ℕ
-steps_of (run k) w = if eqb (run_call w k).verdict.number 0 then k else 0
+steps_of (run k) w = when eqb (run_call w k).verdict.number 0 then k else 0
 steps_of (start i) w = 0
 steps_of (stop i) w = 0
 steps_of (empty i) w = 0
@@ -86,7 +86,7 @@ ends_early w = ltb 1 w.house.left && (guest_step w w.house.current).0.calls
 -- of k host steps, those that do
 unfoldable pub early_ends_in : ℕ → World → ℕ
 early_ends_in zero w = 0
-early_ends_in (suc k) w = (if ends_early (host_steps k w) then 1 else 0) + early_ends_in k w
+early_ends_in (suc k) w = (when ends_early (host_steps k w) then 1 else 0) + early_ends_in k w
 
 unfoldable pub early_ends : List Call → World → ℕ
 early_ends [] w = 0
@@ -95,8 +95,8 @@ early_ends (c ∷ cs) w = early_ends_in (steps_of c w) w + early_ends cs (after 
 -- a start of a stopped partition or a stop of a running one, that is done: any other start or stop changes nothing
 unfoldable pub start_or_stop : Call → World → ℕ
 start_or_stop (run k) w = 0
-start_or_stop (start i) w = if eqb (start_call w i).verdict.number 0 && not (runs w.house i) then 1 else 0
-start_or_stop (stop i) w = if eqb (stop_call w i).verdict.number 0 && runs w.house i then 1 else 0
+start_or_stop (start i) w = when eqb (start_call w i).verdict.number 0 && not (runs w.house i) then 1 else 0
+start_or_stop (stop i) w = when eqb (stop_call w i).verdict.number 0 && runs w.house i then 1 else 0
 start_or_stop (empty i) w = 0
 start_or_stop (read_out i a n out) w = 0
 
@@ -159,7 +159,7 @@ each f (e ∷ es) = f e ++ each f es
 
 -- the answers at partition i's own steps; the tickets sent done to j; the tickets taken by j
 abbrev pub answers_to : ℕ → List Event → List Reply
-answers_to i = each (λ e. if eqb e.who i then e.answer ∷ [] else [])
+answers_to i = each (λ e. when eqb e.who i then e.answer ∷ [] else [])
 
 abbrev pub tickets_to : ℕ → List Event → List ℕ
 tickets_to j = each (λ e. sent_to e.asks e.answer j)

@@ -9,7 +9,7 @@ use lib.Arith.{digits_lt}
 use lib.Dec.{eqb}
 use lib.Pow as pow
 use lib.Pow.{pow_pos, pow_mono, pow-add, shr_lt, shr-shr, split, high, low, mod-mod-pow}
-use Rattle.dlx.specs.Choice.{if◌then◌else◌}
+use Rattle.dlx.specs.Choice.{when◌then◌else◌}
 use Rattle.dlx.specs.Fields.{field, put, place, aligned, loading, storing, width, placed}
 
 cancel : (p q r l : ℕ) → p + q + l - q + r ≡ p + r + l
@@ -152,7 +152,7 @@ pub either_width : (P : ℕ → Type 0) (o : ℕ) → P 8 → P 16 → P 32 → 
 unfolding width
 either_width P o a b c = pick P (eqb o 32 || eqb o 36 || eqb o 40) a (pick P (eqb o 33 || eqb o 37 || eqb o 41) b c)
   where
-    pick : (P : ℕ → Type 0) (t : Bool) {x y : ℕ} → P x → P y → P (if t then x else y)
+    pick : (P : ℕ → Type 0) (t : Bool) {x y : ℕ} → P x → P y → P (when t then x else y)
     pick P true p q = p
     pick P false p q = q
 

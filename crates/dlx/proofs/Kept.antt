@@ -11,7 +11,7 @@ use lib.Bits.{and_lt, or_lt, xor_lt}
 use lib.Dec.{eqb, ltb, leb}
 use lib.ListN.{length, get_or, set, length-set}
 use mir.Val.{bool_byte}
-use Rattle.dlx.specs.Choice.{if◌then◌else◌}
+use Rattle.dlx.specs.Choice.{when◌then◌else◌}
 use Rattle.dlx.specs.Words.{holds, reading_of, opcode, sa, function, extended_by, extended}
 use Rattle.dlx.specs.Fields.{place, field, aligned, width, signed, brought, placed}
 use Rattle.dlx.specs.Processor.{user, special_of, with_special, with_count, went_to}
@@ -43,7 +43,7 @@ W x = x < 2 ^ 32
 -- ---- cases on tests, and lists
 
 -- a property of both branches, each under its test
-pub either : {A : Type 0} (P : A → Type 0) (b : Bool) {x y : A} → (b ≡ true → P x) → (b ≡ false → P y) → P (if b then x else y)
+pub either : {A : Type 0} (P : A → Type 0) (b : Bool) {x y : A} → (b ≡ true → P x) → (b ≡ false → P y) → P (when b then x else y)
 either P true f g = f refl
 either P false f g = g refl
 
@@ -69,7 +69,7 @@ near w = extended_lt (2 ^ 15) w (omega arith) (omega arith)
 far : (w : ℕ) → extended 26 w < 2 ^ 32
 far w = extended_lt (2 ^ 25) w (omega arith) (omega arith)
 
-special_formed : (w : ℕ) (i : Instruction) → (sa w ≤ 11 → Formed i) → Formed (if leb (sa w) 11 then i else Ill)
+special_formed : (w : ℕ) (i : Instruction) → (sa w ≤ 11 → Formed i) → Formed (when leb (sa w) 11 then i else Ill)
 special_formed w i f = either Formed (leb (sa w) 11) (λ e. f (leb-true (sa w) 11 e)) (λ _. tt)
 
 register_formed : (w : ℕ) → Formed (register_type w)

@@ -2,7 +2,7 @@
 use mathlib.Core.Path.{◌≡◌, refl, ap, subst}
 use mathlib.Core.Bool.{Bool, true, false}
 use Prim.Native.Nat.{ℕ, zero, suc}
-use Rattle.dlx.specs.Choice.{if◌then◌else◌}
+use Rattle.dlx.specs.Choice.{when◌then◌else◌}
 use Rattle.dlx.specs.Fields.{aligned, placed}
 use Rattle.dlx.specs.Processor.{user}
 use Rattle.dlx.specs.Machine.{Ops, Core, fetched, accessed, settled, retabled, step, steps, request_of, asked}
@@ -27,7 +27,7 @@ module _ {S S' : Type 0} (R : S → S' → Type 0) where
     pub retables : (s : S) (s' : S') → R s s' → (t : Table) → R (O.retable s t) (O'.retable s' t)
 
 module _ {S S' : Type 0} (R : S → S' → Type 0) (O : Ops S) (O' : Ops S') (L : Like R O O') where
-  either_like : {A : Type 0} (b : Bool) {g h : A × S} {g' h' : A × S'} → Both R g g' → Both R h h' → Both R (if b then g else h) (if b then g' else h')
+  either_like : {A : Type 0} (b : Bool) {g h : A × S} {g' h' : A × S'} → Both R g g' → Both R h h' → Both R (when b then g else h) (when b then g' else h')
   either_like true k l = k
   either_like false k l = l
 

@@ -11,10 +11,10 @@ use lib.Signed.{mag}
 use mir.Syntax.{w64}
 use mir.Val.{SFits, of_z, to_z}
 use mir.ValLaws.{to_z-of_z}
-use Rattle.dlx.specs.Choice.{if◌then◌else◌}
+use Rattle.dlx.specs.Choice.{when◌then◌else◌}
 use Rattle.dlx.specs.Words.{read_in, reading_of, eq_z, outside_of, extended_by}
 
-cut : (t : Bool) (x : ℕ) → ltb x (2 ^ 31) ≡ t → x < 2 ^ 32 → mag (if t then pos x else sub_ℕ x (2 ^ 32)) < 2 ^ 31
+cut : (t : Bool) (x : ℕ) → ltb x (2 ^ 31) ≡ t → x < 2 ^ 32 → mag (when t then pos x else sub_ℕ x (2 ^ 32)) < 2 ^ 31
 cut true x e h = omega (arith, ltb-true x (2 ^ 31) e)
 cut false x e h = simp (lt-ltb x (2 ^ 32) h) (omega (arith, ltb-false x (2 ^ 31) e))
 
@@ -80,7 +80,7 @@ same_bits (negsuc a) (negsuc b) f g = flip a b (eqb a b) f.sfits g.sfits refl
 
 -- the word that a field is extended to reads as the field does: sign extension, once over the width
 module _ (h f : ℕ) (small : h ≤ 2 ^ 30) (below : f < h * 2) where
-  reads : (t : Bool) → ltb f h ≡ t → reading_of (if t then f else f + (2 ^ 32 - h * 2)) ≡ (if t then pos f else sub_ℕ f (h * 2))
+  reads : (t : Bool) → ltb f h ≡ t → reading_of (when t then f else f + (2 ^ 32 - h * 2)) ≡ (when t then pos f else sub_ℕ f (h * 2))
   unfolding read_in
   reads true e = simp (lt-ltb f (2 ^ 31) (omega (arith, ltb-true f h e)))
   reads false e =

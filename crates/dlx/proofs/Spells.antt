@@ -7,7 +7,7 @@ use native.Mathlib.Omega.{arith}
 use borrow.Author.Tests.{ne_eqb}
 use lib.Dec.{eqb}
 use lib.ListN.{length}
-use Rattle.dlx.specs.Choice.{if◌then◌else◌}
+use Rattle.dlx.specs.Choice.{when◌then◌else◌}
 use Rattle.dlx.specs.Fields.{aligned, placed}
 use Rattle.dlx.specs.Processor.{user}
 use Rattle.dlx.specs.Timer.{ticked, raised}
@@ -54,7 +54,7 @@ module _ {S : Type 0} (O : Ops S) where
 pub still_ticked : (k : Timer) → k.tcount ≡ 0 → ticked k ≡ k
 unfolding ticked
 still_ticked k e =
-    let f : (if eqb k.tcount 1 then k.tload else k.tcount - 1) ≡ k.tcount = simp e in
+    let f : (when eqb k.tcount 1 then k.tload else k.tcount - 1) ≡ k.tcount = simp e in
     ap (λ (n : ℕ). record { tcount = n; tload = k.tload }) f
 
 pub still_raised : (k : Timer) (sr : ℕ) → k.tcount ≡ 0 → raised k sr ≡ 0
@@ -134,7 +134,7 @@ module _ {S T : Type 0} (O : Ops S) (D : Desk T) where
   -- what a step comes to, within a stretch of which n steps more are to make
   abbrev on : ℕ → ℕ → Outcome → S → T → Stretch S T
   on n made o s t =
-      if o.calls then record { made = made; called = true; core = o.core; memory = s; desk = t } else stretch_from O D n made (o.core, s) t
+      when o.calls then record { made = made; called = true; core = o.core; memory = s; desk = t } else stretch_from O D n made (o.core, s) t
 
   -- behind a spell that began after so many steps with the timer k
   abbrev resumed : ℕ → ℕ → Timer → Spell S T → Stretch S T
@@ -165,7 +165,7 @@ module _ {S T : Type 0} (O : Ops S) (D : Desk T) where
     abbrev behind : ℕ → Change → Spell S T
     behind k x =
         let b = passed c x in
-        if plainly x then spell_from O D k (suc made) (timed b (sunk b.timer 1), s) t else spell (suc made) x b s t
+        when plainly x then spell_from O D k (suc made) (timed b (sunk b.timer 1), s) t else spell (suc made) x b s t
 
     ending : (k : ℕ) (x : Change) → resumed (suc k + r + made) made k₀ (spell (suc made) x c s t) ≡ on (k + r) (suc made) (ended c x) (retabled O x s) t
     ending k x = resumed_as _ _ _ _ (spell (suc made) x c s t) c (ap (λ (j : Timer). timed c j) (first made k₀ ∙ sym same)) (omega arith)
@@ -221,7 +221,7 @@ module _ {S T : Type 0} (O : Ops S) (D : Desk T) where
   abbrev shift : ℕ → Spell S T → Spell S T
   shift b p = spell (b + p.made) p.change p.core p.memory p.desk
 
-  branch : (b : ℕ) (q : Bool) {x y : Spell S T} (x' y' : Spell S T) → x ≡ shift b x' → y ≡ shift b y' → (if q then x else y) ≡ shift b (if q then x' else y')
+  branch : (b : ℕ) (q : Bool) {x y : Spell S T} (x' y' : Spell S T) → x ≡ shift b x' → y ≡ shift b y' → (when q then x else y) ≡ shift b (when q then x' else y')
   branch b true x' y' e f = e
   branch b false x' y' e f = f
 

@@ -1,7 +1,7 @@
 -- An instruction executed, with no memory in it: from the processor, the table, the timer and the registers to an effect.
 use Rattle.std.specs.Prelude.{Bool, false, ◌&&◌, List, ℕ, ◌*◌, ◌%◌, ◌^◌, eqb, get_or, set}
 use Rattle.std.specs.Int.Bits.{bit_and, bit_or, bit_xor}
-use Rattle.dlx.specs.Choice.{if◌then◌else◌}
+use Rattle.dlx.specs.Choice.{when◌then◌else◌}
 use Rattle.dlx.specs.Words.{plus, minus, test_of, sum_overflows, difference_overflows}
 use Rattle.dlx.specs.Fields.{aligned, width}
 use Rattle.dlx.specs.Processor.{user, special_of, behind}
@@ -25,7 +25,7 @@ reg r k = get_or r k 0
 
 -- a write to register 0 vanishes
 unfoldable pub written : List ℕ → ℕ → ℕ → List ℕ
-written r k v = if eqb k 0 then r else set r k v
+written r k v = when eqb k 0 then r else set r k v
 
 -- ---- RD from two words
 
@@ -48,13 +48,13 @@ overflows_of (Test k) x y = false
 -- masked, the wrapped result is written
 unfoldable pub operated : Operation → ℕ → ℕ → ℕ → ℕ → ℕ → Effect
 operated op d x y sr next =
-    if unmasked 6 sr && overflows_of op x y then Done (Cause ovf 0) else Done (Plain d (value_of op x y) next)
+    when unmasked 6 sr && overflows_of op x y then Done (Cause ovf 0) else Done (Plain d (value_of op x y) next)
 
 -- ---- the table's lines
 
 -- a data address misaligned for its width is mal
 unfoldable pub reached : ℕ → ℕ → Effect → Effect
-reached o address e = if aligned (width o) address then e else Done (Cause mal 0)
+reached o address e = when aligned (width o) address then e else Done (Cause mal 0)
 
 -- a load or a store at the sum of a register and an immediate
 unfoldable pub loads : ℕ → ℕ → ℕ → ℕ → Effect
@@ -72,21 +72,21 @@ linked p target = Done (Plain 31 (behind p) target)
 
 -- ill in user mode
 abbrev pub in_system : Processor → Effect → Effect
-in_system p e = if user p then Done (Cause ill 0) else e
+in_system p e = when user p then Done (Cause ill 0) else e
 
 -- special n becomes v: 7 is PTO, 8 PTL
 unfoldable pub moved_to : Table → ℕ → ℕ → Change
 moved_to t n v =
-    if eqb n 7 then Retable (record { pto = v; ptl = t.ptl }) else
-    if eqb n 8 then Retable (record { pto = t.pto; ptl = v }) else
+    when eqb n 7 then Retable (record { pto = v; ptl = t.ptl }) else
+    when eqb n 8 then Retable (record { pto = t.pto; ptl = v }) else
     Special n v
 
 -- trap 256 in system mode sends v, register 1, to the partition numbered in register 2, trap 257 takes a ticket; any other is cause 5
 unfoldable pub trap_of : Processor → ℕ → ℕ → ℕ → Effect
 trap_of p v to i =
-    if user p then Done (Cause trap i) else
-    if eqb i 256 then Send v to else
-    if eqb i 257 then Take else
+    when user p then Done (Cause trap i) else
+    when eqb i 256 then Send v to else
+    when eqb i 257 then Take else
     Done (Cause trap i)
 
 unfoldable pub effect_of : Processor → Table → Timer → List ℕ → Instruction → Effect
@@ -94,8 +94,8 @@ effect_of p t k r (LoadBy o s i d) = loads o d (reg r s) i
 effect_of p t k r (StoreBy o s i d) = stores o (reg r d) (reg r s) i
 effect_of p t k r (Immediate op d s i) = operated op d (reg r s) i p.sr (behind p)
 effect_of p t k r (Lhgi d i) = Done (Plain d (i % 2 ^ 16 * 2 ^ 16) (behind p))
-effect_of p t k r (Beqz s i) = jumped (if eqb (reg r s) 0 then plus p.pc i else behind p)
-effect_of p t k r (Bnez s i) = jumped (if eqb (reg r s) 0 then behind p else plus p.pc i)
+effect_of p t k r (Beqz s i) = jumped (when eqb (reg r s) 0 then plus p.pc i else behind p)
+effect_of p t k r (Bnez s i) = jumped (when eqb (reg r s) 0 then behind p else plus p.pc i)
 effect_of p t k r (Jr s) = jumped (reg r s)
 effect_of p t k r (Jalr s) = linked p (reg r s)
 effect_of p t k r (J i) = jumped (plus p.pc i)

@@ -1,6 +1,6 @@
 -- Fields of a word, once over the width: a byte, a half word and a word are its fields of 8, 16 and 32 bits. Bytes stand little-endian.
 use Rattle.std.specs.Prelude.{Bool, ◌||◌, ℕ, ◌+◌, ◌-◌, ◌*◌, ◌/◌, ◌%◌, ◌^◌, eqb}
-use Rattle.dlx.specs.Choice.{if◌then◌else◌}
+use Rattle.dlx.specs.Choice.{when◌then◌else◌}
 use Rattle.dlx.specs.Words.{extended}
 
 -- ---- placement
@@ -32,8 +32,8 @@ storing o = eqb o 40 || eqb o 41 || eqb o 43
 -- how many bits one reaches
 unfoldable pub width : ℕ → ℕ
 width o =
-    if eqb o 32 || eqb o 36 || eqb o 40 then 8 else
-    if eqb o 33 || eqb o 37 || eqb o 41 then 16 else
+    when eqb o 32 || eqb o 36 || eqb o 40 then 8 else
+    when eqb o 33 || eqb o 37 || eqb o 41 then 16 else
     32
 
 -- lb and lh extend the sign, all others zeros
@@ -42,7 +42,7 @@ signed o = eqb o 32 || eqb o 33
 
 -- what a load at the address a makes of the word x there
 unfoldable pub brought : ℕ → ℕ → ℕ → ℕ
-brought o a x = let f = field (width o) (place a) x in if signed o then extended (width o) f else f
+brought o a x = let f = field (width o) (place a) x in when signed o then extended (width o) f else f
 
 -- what a store of v at the address a makes of it
 unfoldable pub placed : ℕ → ℕ → ℕ → ℕ → ℕ

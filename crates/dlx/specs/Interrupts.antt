@@ -1,7 +1,7 @@
 -- Interrupts. A cause word has the bit of each cause: 1 ill, 2 mal, 3 pff, 4 pfls, 5 trap, 6 ovf, 13 the timer's.
 use Rattle.std.specs.Prelude.{Bool, ◌||◌, ℕ, ◌/◌, ◌%◌, ◌^◌, eqb}
 use Rattle.std.specs.Int.Count.{count_trailing_zeros}
-use Rattle.dlx.specs.Choice.{if◌then◌else◌}
+use Rattle.dlx.specs.Choice.{when◌then◌else◌}
 use Rattle.dlx.specs.Processor.{behind}
 use Rattle.dlx.specs.declared.partition.Processor.{Processor}
 
@@ -61,9 +61,9 @@ unfoldable pub interrupted : Processor → ℕ → ℕ → Processor
 interrupted p causes datum =
     let l = level_of causes in
     entered p causes
-    (if saves_old l then p.dpc else p.pc)
-    (if saves_old l then p.pc else behind p)
-    (if brings_datum l then datum else p.edata)
+    (when saves_old l then p.dpc else p.pc)
+    (when saves_old l then p.pc else behind p)
+    (when brings_datum l then datum else p.edata)
 
 -- rfe
 abbrev pub returned : Processor → Processor

@@ -1,7 +1,7 @@
 -- The memory that a guest sees, and one step over any such memory: fetch, execute, data access, then emptying.
 use Rattle.std.specs.Prelude.{◌≡◌, Bool, true, false, not, ◌&&◌, List, ℕ, zero, suc, ◌+◌, ◌^◌, ◌<◌, eqb}
 use Prim.{Unit}
-use Rattle.dlx.specs.Choice.{if◌then◌else◌}
+use Rattle.dlx.specs.Choice.{when◌then◌else◌}
 use Rattle.dlx.specs.Fields.{aligned, loading, storing, width, brought, placed}
 use Rattle.dlx.specs.Processor.{user, behind, with_special, with_count, went_to}
 use Rattle.dlx.specs.Interrupts.{mal, pff, pfls, level_of, interrupted, returned}
@@ -65,25 +65,25 @@ after_read c (Fault n) = failing c n
 after_read c (Word w) = c
 
 unfoldable pub after_write : Core → ℕ → Core
-after_write c n = if eqb n 0 then c else failing c n
+after_write c n = when eqb n 0 then c else failing c n
 
 -- the fetch at DPC, and what its word asks for
 unfoldable pub fetched : {S : Type 0} → Ops S → Core × S → (Effect × Core) × S
 fetched O m =
     let p = m.0.processor in
     let g = O.read m.1 (user p) p.dpc in
-    if aligned 32 p.dpc then ((executed m.0 (O.table m.1) g.0, after_read m.0 g.0), g.1) else ((Done (Cause mal 0), m.0), m.1)
+    when aligned 32 p.dpc then ((executed m.0 (O.table m.1) g.0, after_read m.0 g.0), g.1) else ((Done (Cause mal 0), m.0), m.1)
 
 unfoldable pub loaded : Processor → ℕ → ℕ → ℕ → Access → Change
 loaded p d a o (Fault n) = Cause pfls a
 loaded p d a o (Word w) = Plain d (brought o a w) (behind p)
 
 unfoldable pub stored : Processor → ℕ → ℕ → Change
-stored p a n = if eqb n 0 then Plain 0 0 (behind p) else Cause pfls a
+stored p a n = when eqb n 0 then Plain 0 0 (behind p) else Cause pfls a
 
 -- a ticket taken goes to register 1; on any other answer register 1 stays
 unfoldable pub received : List ℕ → Reply → List ℕ
-received r a = if eqb a.code 0 then written r 1 a.ticket else r
+received r a = when eqb a.code 0 then written r 1 a.ticket else r
 
 -- the data access: the change, and the core with what else it brings, a fault or a take's ticket; a, the answer, is used where a ticket is sent or taken, and
 -- nowhere else: register 3 becomes its code
@@ -96,7 +96,7 @@ accessed O a c Take s = ((Plain 3 a.code (behind c.processor), core c.processor 
 
 -- the core that an instruction left which raised no cause; where the timer's is there, it is the level, and the handler is entered from that core
 unfoldable pub left : ℕ → Core → Outcome
-left raise c = outcome (if eqb raise 0 then c else core (interrupted c.processor raise 0) c.registers c.fault c.timer) false
+left raise c = outcome (when eqb raise 0 then c else core (interrupted c.processor raise 0) c.registers c.fault c.timer) false
 
 -- a cause entered; a trap in system mode calls
 unfoldable pub handled : Core → ℕ → ℕ → Outcome
@@ -184,7 +184,7 @@ unfoldable pub stretch_from : {S T : Type 0} → Ops S → Desk T → ℕ → �
 stretch_from O D zero made m t = record { made = made; called = false; core = m.0; memory = m.1; desk = t }
 stretch_from O D (suc k) made m t =
     let o = step_at O D m t in
-    if o.0.0.calls then record { made = suc made; called = true; core = o.0.0.core; memory = o.0.1; desk = o.1 }
+    when o.0.0.calls then record { made = suc made; called = true; core = o.0.0.core; memory = o.0.1; desk = o.1 }
     else stretch_from O D k (suc made) (o.0.0.core, o.0.1) o.1
 
 -- the register that a change names exists; its causes are below the timer's

@@ -1,6 +1,6 @@
 -- The processor: DPC, PC and the special registers. PTO and PTL stand apart, in the table, TCOUNT and TLOAD in the timer. And the partition around them.
 use Rattle.std.specs.Prelude.{Bool, ℕ, ◌%◌, eqb}
-use Rattle.dlx.specs.Choice.{if◌then◌else◌}
+use Rattle.dlx.specs.Choice.{when◌then◌else◌}
 use Rattle.dlx.specs.Words.{plus}
 use Rattle.dlx.specs.declared.partition.Table.{Table}
 use Rattle.dlx.specs.declared.partition.Processor.{Processor}
@@ -46,17 +46,17 @@ with_fault p v = record { pages = p.pages; processor = p.processor; table = p.ta
 -- the special register of number n, at most 11
 unfoldable pub special_of : Processor → Table → Timer → ℕ → ℕ
 special_of p t k n =
-    if eqb n 0 then p.sr else
-    if eqb n 1 then p.esr else
-    if eqb n 2 then p.eca else
-    if eqb n 3 then p.epc else
-    if eqb n 4 then p.edpc else
-    if eqb n 5 then p.edata else
-    if eqb n 6 then p.mode else
-    if eqb n 7 then t.pto else
-    if eqb n 8 then t.ptl else
-    if eqb n 9 then p.emode else
-    if eqb n 10 then k.tcount else
+    when eqb n 0 then p.sr else
+    when eqb n 1 then p.esr else
+    when eqb n 2 then p.eca else
+    when eqb n 3 then p.epc else
+    when eqb n 4 then p.edpc else
+    when eqb n 5 then p.edata else
+    when eqb n 6 then p.mode else
+    when eqb n 7 then t.pto else
+    when eqb n 8 then t.ptl else
+    when eqb n 9 then p.emode else
+    when eqb n 10 then k.tcount else
     k.tload
 
 -- special n of the processor becomes v; MODE and EMODE take a value modulo 2
@@ -64,19 +64,19 @@ unfoldable pub with_special : Processor → ℕ → ℕ → Processor
 with_special p n v = record {
   dpc = p.dpc;
   pc = p.pc;
-  sr = if eqb n 0 then v else p.sr;
-  esr = if eqb n 1 then v else p.esr;
-  eca = if eqb n 2 then v else p.eca;
-  epc = if eqb n 3 then v else p.epc;
-  edpc = if eqb n 4 then v else p.edpc;
-  edata = if eqb n 5 then v else p.edata;
-  mode = if eqb n 6 then v % 2 else p.mode;
-  emode = if eqb n 9 then v % 2 else p.emode;
+  sr = when eqb n 0 then v else p.sr;
+  esr = when eqb n 1 then v else p.esr;
+  eca = when eqb n 2 then v else p.eca;
+  epc = when eqb n 3 then v else p.epc;
+  edpc = when eqb n 4 then v else p.edpc;
+  edata = when eqb n 5 then v else p.edata;
+  mode = when eqb n 6 then v % 2 else p.mode;
+  emode = when eqb n 9 then v % 2 else p.emode;
 }
 
 -- special n of the timer becomes v
 unfoldable pub with_count : Timer → ℕ → ℕ → Timer
-with_count k n v = record { tcount = if eqb n 10 then v else k.tcount; tload = if eqb n 11 then v else k.tload }
+with_count k n v = record { tcount = when eqb n 10 then v else k.tcount; tload = when eqb n 11 then v else k.tload }
 
 -- DPC' = PC, and PC' = a target
 abbrev pub went_to : Processor → ℕ → Processor

@@ -2,7 +2,7 @@
 -- behind the desk, and TCOUNT, which falls. A spell ends with a step that is not plain, or with the one in which the timer reaches 0. proofs/Spells.antt shows
 -- that the stretch is the same.
 use Rattle.std.specs.Prelude.{Bool, true, false, ℕ, zero, suc, ◌-◌}
-use Rattle.dlx.specs.Choice.{if◌then◌else◌}
+use Rattle.dlx.specs.Choice.{when◌then◌else◌}
 use Rattle.dlx.specs.Processor.{behind, with_special, with_count, went_to}
 use Rattle.dlx.specs.Interrupts.{returned}
 use Rattle.dlx.specs.Timer.{ticked, raised}
@@ -86,7 +86,7 @@ spell_from O D zero made m t = spell made (Plain 0 0 0) m.0 m.1 t
 spell_from O D (suc k) made m t =
     let g = passed_at O D m t in
     let c = g.0.0.1 in
-    if plainly g.0.0.0 then spell_from O D k (suc made) (timed c (sunk c.timer 1), g.0.1) g.1
+    when plainly g.0.0.0 then spell_from O D k (suc made) (timed c (sunk c.timer 1), g.0.1) g.1
     else spell (suc made) g.0.0.0 c g.0.1 g.1
 
 -- ---- a spell and its end

@@ -3,7 +3,7 @@ use Rattle.std.specs.Prelude.{Bool, true, false, not, ◌||◌, ℕ, ◌+◌, �
 use Rattle.std.proofs.Math.IntN.{sub_ℕ}
 use Rattle.std.specs.Int.Signed.{lt_z, le_z}
 use mir.Val.{bool_byte}
-use Rattle.dlx.specs.Choice.{if◌then◌else◌}
+use Rattle.dlx.specs.Choice.{when◌then◌else◌}
 
 -- ---- all sums are modulo 2^32
 
@@ -41,7 +41,7 @@ function w = w % 64
 -- the low field of x with 2 * half values, sign-extended to a word
 unfoldable pub extended_by : ℕ → ℕ → ℕ
 extended_by half x =
-    if ltb (x % (half * 2)) half then x % (half * 2) else x % (half * 2) + (2 ^ 32 - half * 2)
+    when ltb (x % (half * 2)) half then x % (half * 2) else x % (half * 2) + (2 ^ 32 - half * 2)
 
 -- the low n bits of x, extended from bit n - 1
 abbrev pub extended : ℕ → ℕ → ℕ
@@ -51,7 +51,7 @@ extended n x = extended_by (2 ^ (n - 1)) x
 
 -- a field f with 2 * half values
 unfoldable pub read_in : ℕ → ℕ → ℤ
-read_in half f = if ltb f half then pos f else sub_ℕ f (half * 2)
+read_in half f = when ltb f half then pos f else sub_ℕ f (half * 2)
 
 abbrev pub reading_of : ℕ → ℤ
 reading_of x = read_in (2 ^ 31) x
@@ -66,13 +66,13 @@ eq_z (negsuc a) (negsuc b) = eqb a b
 
 unfoldable pub holds : ℕ → ℤ → ℤ → Bool
 holds k x y =
-    if eqb k 0 then false else
-    if eqb k 1 then lt_z y x else
-    if eqb k 2 then eq_z x y else
-    if eqb k 3 then le_z y x else
-    if eqb k 4 then lt_z x y else
-    if eqb k 5 then not (eq_z x y) else
-    if eqb k 6 then le_z x y else
+    when eqb k 0 then false else
+    when eqb k 1 then lt_z y x else
+    when eqb k 2 then eq_z x y else
+    when eqb k 3 then le_z y x else
+    when eqb k 4 then lt_z x y else
+    when eqb k 5 then not (eq_z x y) else
+    when eqb k 6 then le_z x y else
     true
 
 -- of two words, as 0 or 1

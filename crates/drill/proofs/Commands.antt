@@ -1,6 +1,6 @@
 -- What a command that was read says of itself.
 use Rattle.std.proofs.Common.{◌≡◌, ℕ, ◌+◌, ◌-◌, ◌*◌, ◌<◌, ◌≤◌, Bool, true, false, eqb, ltb, List, ◌++◌, length, take, drop, refl, ap, ◌∙◌, arith, length-drop, take-append-drop, length-take-le, ltb-false}
-use Rattle.dlx.specs.Choice.{if◌then◌else◌}
+use Rattle.dlx.specs.Choice.{when◌then◌else◌}
 use Rattle.dlx.proofs.Kept.{either}
 use Rattle.house.specs.declared.House.{House}
 use Rattle.house.specs.Turns.{World, world}
@@ -140,8 +140,8 @@ pub played_within : (c : Command) (more : List ℕ) (p q : Player) (words : ℕ)
 played_within c more p q words e l = omega (arith, ap (λ (x : Player). x.lent) e, played_lent c more p)
 
 -- a call changes the lent words alone
-pub made_played : (b : Bool) (h g : House) (m k : List ℕ) (n : ℕ) (w : World) → world g k ≡ (if b then world h (take n m) else w)
-    → player g (k ++ drop n m) n ≡ (if b then player h m n else player w.house (w.memory ++ drop n m) n)
+pub made_played : (b : Bool) (h g : House) (m k : List ℕ) (n : ℕ) (w : World) → world g k ≡ (when b then world h (take n m) else w)
+    → player g (k ++ drop n m) n ≡ (when b then player h m n else player w.house (w.memory ++ drop n m) n)
 made_played true h g m k n w e =
     ap (λ (x : World). player x.house (x.memory ++ drop n m) n) e ∙ ap (λ (x : List ℕ). player h x n) (take-append-drop n m)
 made_played false h g m k n w e = ap (λ (x : World). player x.house (x.memory ++ drop n m) n) e

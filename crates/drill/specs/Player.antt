@@ -1,6 +1,6 @@
 -- What the player keeps, and what each command does to it and tells of it.
 use Rattle.std.specs.Prelude.{ℕ, ◌+◌, ◌-◌, ◌*◌, min, Bool, ◌||◌, List, [], ◌++◌, take, drop, ◌==◌, nat_eq}
-use Rattle.dlx.specs.Choice.{if◌then◌else◌}
+use Rattle.dlx.specs.Choice.{when◌then◌else◌}
 use Rattle.house.specs.declared.House.{House}
 use Rattle.house.specs.Lists.{list_from}
 use Rattle.house.specs.House.{no_house}
@@ -31,12 +31,12 @@ more_of r input = take (r.at + r.command.size - (r.at + 16)) (drop (r.at + 16) i
 -- ---- commands of the memory
 
 unfoldable pub lent_of : Command → ℕ → ℕ → ℕ
-lent_of c lent words = if c.op == 8 then min c.a words else lent
+lent_of c lent words = when c.op == 8 then min c.a words else lent
 
 unfoldable pub changed_of : Command → ℕ → List ℕ → List ℕ
 changed_of c lent m =
-    if c.op == 8 then m
-    else if c.op == 7 then filled_of (take lent m) c.a 1 c.b ++ drop lent m
+    when c.op == 8 then m
+    else when c.op == 7 then filled_of (take lent m) c.a 1 c.b ++ drop lent m
     else filled_of (take lent m) c.a c.b c.c ++ drop lent m
 
 -- ---- calls, over the lent memory
@@ -51,12 +51,12 @@ boot_of c more m =
 
 unfoldable pub called_of : Command → List ℕ → House → List ℕ → Answered
 called_of c more h m =
-    if c.op == 1 then boot_of c more m
-    else if c.op == 2 then run_call (world h m) c.a
-    else if c.op == 3 then start_call (world h m) c.a
-    else if c.op == 4 then stop_call (world h m) c.a
-    else if c.op == 13 then mend_call (world h m)
-    else if c.op == 17 then unshadowed_call (world h m) c.a
+    when c.op == 1 then boot_of c more m
+    else when c.op == 2 then run_call (world h m) c.a
+    else when c.op == 3 then start_call (world h m) c.a
+    else when c.op == 4 then stop_call (world h m) c.a
+    else when c.op == 13 then mend_call (world h m)
+    else when c.op == 17 then unshadowed_call (world h m) c.a
     else empty_call (world h m) c.a
 
 -- into an output of so many words
@@ -79,19 +79,19 @@ read_text_of c more h m words =
 unfoldable pub audit_text_of : Command → House → List ℕ → List ℕ
 audit_text_of c h m =
     let f = audit_call (world h m) in
-    told_of c.op f.number 0 h m ++ (if nat_eq f.number 0 then stale_of f.stale f.partition f.page else [])
+    told_of c.op f.number 0 h m ++ (when nat_eq f.number 0 then stale_of f.stale f.partition f.page else [])
 
 -- any call; a read-out and an audit change nothing
 abbrev pub changes_nothing : Command → Bool
 changes_nothing c = c.op == 6 || c.op == 12
 
 unfoldable pub made_of : Command → List ℕ → House → List ℕ → World
-made_of c more h m = if changes_nothing c then world h m else (called_of c more h m).world
+made_of c more h m = when changes_nothing c then world h m else (called_of c more h m).world
 
 unfoldable pub made_text_of : Command → List ℕ → House → List ℕ → List ℕ
 made_text_of c more h m =
-    if c.op == 6 then read_text_of c more h m c.c
-    else if c.op == 12 then audit_text_of c h m
+    when c.op == 6 then read_text_of c more h m c.c
+    else when c.op == 12 then audit_text_of c h m
     else call_text_of c more h m
 
 -- ---- commands of the house
@@ -99,14 +99,14 @@ made_text_of c more h m =
 unfoldable pub played_of : Command → List ℕ → Player → Player
 played_of c more p =
     let w = (called_of c more p.house (take p.lent p.memory)).world in
-    if c.op == 9 then player (poked p.house c.a c.b) p.memory p.lent
-    else if c.op == 11 then player no_house (filled_of p.memory 0 4294967295 0) 0
-    else if changes_nothing c then p
+    when c.op == 9 then player (poked p.house c.a c.b) p.memory p.lent
+    else when c.op == 11 then player no_house (filled_of p.memory 0 4294967295 0) 0
+    else when changes_nothing c then p
     else player w.house (w.memory ++ drop p.lent p.memory) p.lent
 
 unfoldable pub text_of : Command → List ℕ → Player → List ℕ
 text_of c more p =
     let lent = take p.lent p.memory in
-    if c.op == 9 then []
-    else if c.op == 11 then []
+    when c.op == 9 then []
+    else when c.op == 11 then []
     else made_text_of c more p.house lent

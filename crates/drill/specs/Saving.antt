@@ -1,6 +1,6 @@
 -- Saving and reading back, as the player does them. Of a reading it keeps all but the memory, which is lent anew with each piece.
 use Rattle.std.specs.Prelude.{ℕ, ◌+◌, ◌*◌, ◌%◌, List, [], ◌++◌, take, drop, ◌==◌}
-use Rattle.dlx.specs.Choice.{if◌then◌else◌}
+use Rattle.dlx.specs.Choice.{when◌then◌else◌}
 use Rattle.house.specs.declared.House.{House}
 use Rattle.house.specs.Lists.{list_from}
 use Rattle.house.specs.Turns.{world}
@@ -27,13 +27,13 @@ save_text_of c h m bytes =
 
 -- 1 begins a new reading
 unfoldable pub begun_by : ℕ → Reading → Reading
-begun_by b s = if b == 1 then begun [] else s
+begun_by b s = when b == 1 then begun [] else s
 
 unfoldable pub piece_of : Command → List ℕ → Reading → List ℕ → Reading
 piece_of c more s m = read_piece (begun_by c.b s) m (take c.a more)
 
 unfoldable pub detail_of : Progress → ℕ
-detail_of p = if p.refusal == 17 then p.start else 0
+detail_of p = when p.refusal == 17 then p.start else 0
 
 unfoldable pub piece_text_of : Command → List ℕ → House → Reading → List ℕ → List ℕ
 piece_text_of c more h s m =
@@ -49,7 +49,7 @@ finish_text_of c s m =
 
 -- after another command of the house: clear makes everything as at first
 unfoldable pub cleared_by : ℕ → Reading → Reading
-cleared_by op s = if op == 11 then begun [] else s
+cleared_by op s = when op == 11 then begun [] else s
 
 -- ---- all three
 
@@ -68,13 +68,13 @@ keeps h m s = record { house = h; memory = m; reading = s }
 unfoldable pub kept_of : Command → List ℕ → ℕ → Keeps → Keeps
 kept_of c more lent k =
     let s = piece_of c more k.reading (take lent k.memory) in
-    if c.op == 14 then k
-    else if c.op == 15 then keeps k.house (s.progress.memory ++ drop lent k.memory) (apart s)
+    when c.op == 14 then k
+    else when c.op == 15 then keeps k.house (s.progress.memory ++ drop lent k.memory) (apart s)
     else keeps (finished k.reading).world.house k.memory (begun [])
 
 unfoldable pub saving_text_of : Command → List ℕ → ℕ → Keeps → List ℕ
 saving_text_of c more lent k =
     let m = take lent k.memory in
-    if c.op == 14 then save_text_of c k.house m c.c
-    else if c.op == 15 then piece_text_of c more k.house k.reading m
+    when c.op == 14 then save_text_of c k.house m c.c
+    else when c.op == 15 then piece_text_of c more k.house k.reading m
     else finish_text_of c k.reading m

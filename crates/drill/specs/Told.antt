@@ -1,6 +1,6 @@
 -- The text of a call.
 use Rattle.std.specs.Prelude.{ℕ, ◌+◌, ◌*◌, List, ◌++◌, ◌==◌, nat_le}
-use Rattle.dlx.specs.Choice.{if◌then◌else◌}
+use Rattle.dlx.specs.Choice.{when◌then◌else◌}
 use Rattle.house.specs.declared.House.{House}
 use Rattle.drill_text.specs.Lines.{call_of, house_of, memory_of}
 use Rattle.drill_text.specs.Partitions.{longest, partitions_of}
@@ -19,4 +19,4 @@ told_of op number detail h memory =
 
 -- how many words are shown of a read-out's output: those read, if the call was done and they are at most 8
 unfoldable pub shown_of : ℕ → ℕ → ℕ
-shown_of number detail = if number == 0 then (if nat_le detail 8 then detail else 0) else 0
+shown_of number detail = when number == 0 then (when nat_le detail 8 then detail else 0) else 0

@@ -9,7 +9,7 @@ use lib.Dec.{leb, ltb}
 use lib.ListN.{length, get_or}
 use lib.ListN.{set}
 use lib.Seq.{ext_get_or}
-use Rattle.dlx.specs.Choice.{if◌then◌else◌}
+use Rattle.dlx.specs.Choice.{when◌then◌else◌}
 use Rattle.dlx.proofs.Tests.{by_test}
 use Rattle.house.specs.Lists.{list_from}
 use Rattle.house.proofs.Lists.ByRule.{length_list_from, get_or_list_from, list_from_same, set_list_from}
@@ -17,7 +17,7 @@ use Rattle.house.proofs.Lists.ByRule.{length_list_from, get_or_list_from, list_f
 module _ (f : ℕ → ℕ) (m : List ℕ) (from : ℕ) where
   -- word j where the words from `from` up to i are set
   abbrev pub rule : ℕ → ℕ → ℕ
-  rule i j = if leb from j && ltb j i then f j else get_or m j 0
+  rule i j = when leb from j && ltb j i then f j else get_or m j 0
 
   abbrev pub set_to : ℕ → List ℕ
   set_to i = list_from (rule i) 0 (length m)

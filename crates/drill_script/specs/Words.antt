@@ -1,6 +1,6 @@
 -- Words of a script's bytes, and words of the memory.
 use Rattle.std.specs.Prelude.{◌&&◌, List, ℕ, ◌+◌, ◌*◌, leb, ltb, length, get_or}
-use Rattle.dlx.specs.Choice.{if◌then◌else◌}
+use Rattle.dlx.specs.Choice.{when◌then◌else◌}
 use Rattle.house.specs.Lists.{list_from}
 
 -- the word of the four bytes at a place, the lowest first
@@ -15,4 +15,4 @@ marked_of i = 3405691582 + i
 -- so many words from a place on, as far as there are any
 unfoldable pub filled_of : List ℕ → ℕ → ℕ → ℕ → List ℕ
 filled_of words from count value =
-    list_from (λ j. if leb from j && ltb j (from + count) then value else get_or words j 0) 0 (length words)
+    list_from (λ j. when leb from j && ltb j (from + count) then value else get_or words j 0) 0 (length words)

@@ -1,6 +1,6 @@
 -- The lines that tell of the answer, the house's own numbers, the memory, the outputs of a read-out and a save, and what an audit found.
 use Rattle.std.specs.Prelude.{ℕ, Bool, false, List, [], ◌∷◌, ◌++◌, length, take, ◌==◌, slice_index_or}
-use Rattle.dlx.specs.Choice.{if◌then◌else◌}
+use Rattle.dlx.specs.Choice.{when◌then◌else◌}
 use Rattle.house.specs.declared.House.{House}
 use Rattle.decimal.specs.Texts.{ascii, joined}
 use Rattle.drill_text.specs.Digest.{digest_of}
@@ -12,7 +12,7 @@ row_of name words = name ++ (numbers_of words ++ ascii "\n")
 
 -- each flag as 0 or 1
 unfoldable pub flags_of : List Bool → List ℕ
-flags_of running = joined (λ i. number_of (if slice_index_or running i false then 1 else 0)) 8
+flags_of running = joined (λ i. number_of (when slice_index_or running i false then 1 else 0)) 8
 
 unfoldable pub house_of : House → List ℕ
 house_of h =
@@ -24,17 +24,17 @@ house_of h =
 -- the name of a call, by its command's number
 unfoldable pub name_of : ℕ → List ℕ
 name_of op =
-    if op == 1 then ascii "boot"
-    else if op == 2 then ascii "run"
-    else if op == 3 then ascii "start"
-    else if op == 4 then ascii "stop"
-    else if op == 5 then ascii "empty"
-    else if op == 12 then ascii "audit"
-    else if op == 13 then ascii "mend"
-    else if op == 14 then ascii "save"
-    else if op == 15 then ascii "piece"
-    else if op == 16 then ascii "finish"
-    else if op == 17 then ascii "unshadowed"
+    when op == 1 then ascii "boot"
+    else when op == 2 then ascii "run"
+    else when op == 3 then ascii "start"
+    else when op == 4 then ascii "stop"
+    else when op == 5 then ascii "empty"
+    else when op == 12 then ascii "audit"
+    else when op == 13 then ascii "mend"
+    else when op == 14 then ascii "save"
+    else when op == 15 then ascii "piece"
+    else when op == 16 then ascii "finish"
+    else when op == 17 then ascii "unshadowed"
     else ascii "read"
 
 unfoldable pub call_of : ℕ → ℕ → ℕ → List ℕ
@@ -53,4 +53,4 @@ written_of count bytes = ascii "written" ++ (number_of count ++ (number_of (dige
 
 -- the first stale entry, by partition and page, where there is one
 unfoldable pub stale_of : Bool → ℕ → ℕ → List ℕ
-stale_of found i px = if found then ascii "stale" ++ (number_of i ++ (number_of px ++ ascii "\n")) else ascii "stale none\n"
+stale_of found i px = when found then ascii "stale" ++ (number_of i ++ (number_of px ++ ascii "\n")) else ascii "stale none\n"

@@ -1,6 +1,6 @@
 -- The lines that tell of the partitions.
 use Rattle.std.specs.Prelude.{ℕ, zero, suc, ◌+◌, ◌*◌, Bool, ◌&&◌, List, [], ◌∷◌, ◌++◌, length, take, ◌==◌, nat_eq, slice_index}
-use Rattle.dlx.specs.Choice.{if◌then◌else◌}
+use Rattle.dlx.specs.Choice.{when◌then◌else◌}
 use Rattle.dlx.specs.declared.partition.Partition.{Partition}
 use Rattle.dlx.specs.declared.partition.Processor.{Processor}
 use Rattle.dlx.specs.declared.partition.Table.{Table}
@@ -42,7 +42,7 @@ blank_of p registers frames shadow =
 -- how many of the first n words there are up to the last that is not 0
 unfoldable pub listed_to : List ℕ → ℕ → ℕ
 listed_to words zero = 0
-listed_to words (suc n) = if slice_index words n == 0 then listed_to words n else suc n
+listed_to words (suc n) = when slice_index words n == 0 then listed_to words n else suc n
 
 unfoldable pub listed_of : List ℕ → ℕ
 listed_of words = listed_to words (length words)
@@ -54,7 +54,7 @@ own_of i p =
 
 -- a shadow entry that is not 0, behind its number
 unfoldable pub entry_of : ℕ → ℕ → List ℕ
-entry_of px e = if e == 0 then [] else number_of px ++ (ascii ":" ++ decimal e)
+entry_of px e = when e == 0 then [] else number_of px ++ (ascii ":" ++ decimal e)
 
 unfoldable pub entries_of : List ℕ → List ℕ
 entries_of shadow = joined (λ px. entry_of px (slice_index shadow px)) (length shadow)
@@ -64,7 +64,7 @@ shadow_of shadow = ascii "shadow" ++ (entries_of shadow ++ ascii "\n")
 
 unfoldable pub partition_of : ℕ → Partition → List ℕ → List ℕ → List ℕ → List ℕ
 partition_of i p registers frames shadow =
-    if blank_of p registers frames shadow then []
+    when blank_of p registers frames shadow then []
     else own_of i p
     ++ (row_of (ascii "registers") registers ++ (row_of (ascii "frames") (take (listed_of frames) frames) ++ shadow_of shadow))
 

@@ -1,6 +1,6 @@
 -- The lines that tell of the queues.
 use Rattle.std.specs.Prelude.{ℕ, Bool, ◌&&◌, List, [], ◌++◌, take, ◌==◌}
-use Rattle.dlx.specs.Choice.{if◌then◌else◌}
+use Rattle.dlx.specs.Choice.{when◌then◌else◌}
 use Rattle.tickets.specs.Queues.{places_of, waiting_of}
 use Rattle.house.specs.declared.House.{House}
 use Rattle.house.specs.House.{queues_of}
@@ -16,7 +16,7 @@ idle_of waiting places = waiting == 0 && zeros_of places
 -- how many tickets wait for partition i, and its places up to the last that is not 0
 unfoldable pub queue_line_of : ℕ → ℕ → List ℕ → List ℕ
 queue_line_of i waiting places =
-    if idle_of waiting places then []
+    when idle_of waiting places then []
     else ascii "queue" ++ (number_of i ++ (number_of waiting ++ row_of [] (take (listed_of places) places)))
 
 unfoldable pub queue_lines_of : House → List ℕ

@@ -1,6 +1,6 @@
 -- Steps ahead of the general one: plain ones within a stretch, a leg's end, rfe and a trap.
 use Rattle.std.proofs.Common.{◌≡◌, ℕ, zero, suc, ◌+◌, ◌-◌, ◌/◌, ◌%◌, ◌^◌, ◌<◌, ◌≤◌, Bool, true, false, not, ◌&&◌, eqb, List, [], ◌∷◌, length, get_or, set, sym, refl, ap, ◌∙◌, subst, add-zero, arith, eq-eqb, ne_eqb}
-use Rattle.dlx.specs.Choice.{if◌then◌else◌}
+use Rattle.dlx.specs.Choice.{when◌then◌else◌}
 use Rattle.dlx.specs.Words.{opcode, extended}
 use Rattle.dlx.specs.Processor.{user, no_timer, special_of}
 use Rattle.dlx.specs.Interrupts.{level_of, interrupted, returned, unmasked}
@@ -79,7 +79,7 @@ between made d m l = omega (arith, l)
 module _ {S T : Type 0} (O : Ops S) (D : Desk T) where
   abbrev on : ℕ → ℕ → Outcome → S → T → Stretch S T
   on n made o s t =
-      if o.calls then record { made = made; called = true; core = o.core; memory = s; desk = t } else stretch_from O D n made (o.core, s) t
+      when o.calls then record { made = made; called = true; core = o.core; memory = s; desk = t } else stretch_from O D n made (o.core, s) t
 
   abbrev resumed : ℕ → ℕ → Timer → Spell S T → Stretch S T
   resumed total before k p =

@@ -3,7 +3,7 @@
 use Rattle.std.proofs.Common.{◌≡◌, ℕ, zero, suc, ◌+◌, ◌-◌, ◌<◌, ◌≤◌, Bool, true, false, not, eqb, ltb, List, length, sym, refl, ap, ◌∙◌, subst, arith, ltb-false, ltb-true, eqb-true}
 use native.Mathlib.Nat.{sub-zero, sub_self}
 use borrow.Author.Tests.{eqb-false}
-use Rattle.dlx.specs.Choice.{if◌then◌else◌}
+use Rattle.dlx.specs.Choice.{when◌then◌else◌}
 use Rattle.dlx.specs.Fields.{brought}
 use Rattle.dlx.specs.Processor.{user, behind}
 use Rattle.dlx.specs.Machine.{Ops, Core, core, Outcome, outcome, step, asked, step_at, settled, changed, fetched, after_read, accessed, loaded, retabled, request_of, nothing, Desk, accessed_at, Stretch, stretch_from, Places, Asks}
@@ -63,12 +63,12 @@ module _ {S T : Type 0} (O : Ops S) (D : Desk T) where
       ∙ ap (λ (y : Outcome). ((y, retabled O g.0.0.0 g.0.1), g.1)) (sym (settled_passed g.0.0.1 g.0.0.0))
 
   -- the first step of a stretch
-  pub stretch_step : (rest made : ℕ) (c : Core) (s s' : S) (q q' : T) (o : Outcome) → 0 < rest → ((o, s'), q') ≡ step_at O D (c, s) q → stretch_from O D rest made (c, s) q ≡ (if o.calls then record { made = suc made; called = true; core = o.core; memory = s'; desk = q' } else stretch_from O D (rest - 1) (suc made) (o.core, s') q')
+  pub stretch_step : (rest made : ℕ) (c : Core) (s s' : S) (q q' : T) (o : Outcome) → 0 < rest → ((o, s'), q') ≡ step_at O D (c, s) q → stretch_from O D rest made (c, s) q ≡ (when o.calls then record { made = suc made; called = true; core = o.core; memory = s'; desk = q' } else stretch_from O D (rest - 1) (suc made) (o.core, s') q')
   unfolding stretch_from
   stretch_step rest made c s s' q q' o l w =
       let e : rest ≡ suc (rest - 1) = omega arith in
       ap (λ (j : ℕ). stretch_from O D j made (c, s) q) e
-      ∙ ap (λ (z : (Outcome × S) × T). if z.0.0.calls then record { made = suc made; called = true; core = z.0.0.core; memory = z.0.1; desk = z.1 } else stretch_from O D (rest - 1) (suc made) (z.0.0.core, z.0.1) z.1) (sym w)
+      ∙ ap (λ (z : (Outcome × S) × T). when z.0.0.calls then record { made = suc made; called = true; core = z.0.0.core; memory = z.0.1; desk = z.1 } else stretch_from O D (rest - 1) (suc made) (z.0.0.core, z.0.1) z.1) (sym w)
 
   -- a step that asks for nothing
   pub step_done : (c : Core) (s : S) (q : T) (x : Change) (o : Outcome) → fetched O (c, s) ≡ ((Done x, c), s) → settled c x ≡ o → retabled O x s ≡ s → ((y : T) → (D y nothing).1 ≡ y) → ((o, s), q) ≡ step_at O D (c, s) q
@@ -150,7 +150,7 @@ module _ {S T : Type 0} (O : Ops S) (D : Desk T) (n rest : ℕ) (c : Core) (s : 
 
     abbrev next : Stretch S T
     next =
-        if b then record { made = n - (rest - made); called = true; core = c'; memory = s'; desk = q' }
+        when b then record { made = n - (rest - made); called = true; core = c'; memory = s'; desk = q' }
         else stretch_from O D (rest - made) (n - (rest - made)) (c', s') q'
 
     ahead : stretch_from O D rest (n - rest) (c, s) q ≡ next
@@ -161,7 +161,7 @@ module _ {S T : Type 0} (O : Ops S) (D : Desk T) (n rest : ℕ) (c : Core) (s : 
         let h = leg_stretch O D k (rest - k) (n - rest) c s q room.0 room.2 in
         ap (λ (j : ℕ). stretch_from O D j (n - rest) (c, s) q) e
         ∙ h
-        ∙ ap (λ (l : Leg S T). if l.outcome.calls then record { made = n - rest + l.made; called = true; core = l.outcome.core; memory = l.memory; desk = l.desk } else stretch_from O D (k + (rest - k) - l.made) (n - rest + l.made) (l.outcome.core, l.memory) l.desk) (sym walked)
+        ∙ ap (λ (l : Leg S T). when l.outcome.calls then record { made = n - rest + l.made; called = true; core = l.outcome.core; memory = l.memory; desk = l.desk } else stretch_from O D (k + (rest - k) - l.made) (n - rest + l.made) (l.outcome.core, l.memory) l.desk) (sym walked)
         ∙ simp (f, g)
 
     pub stretch_called : b ≡ true → record { made = n - (rest - made); called = true; core = c'; memory = s'; desk = q' } ≡ stretch_from O D rest (n - rest) (c, s) q

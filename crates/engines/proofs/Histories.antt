@@ -6,7 +6,7 @@ use native.Mathlib.Omega.{arith}
 use borrow.Author.Tests.{eq-eqb, ne_eqb}
 use lib.Dec.{eqb}
 use lib.ListN.{length, get_or}
-use Rattle.dlx.specs.Choice.{if◌then◌else◌}
+use Rattle.dlx.specs.Choice.{when◌then◌else◌}
 use Rattle.dlx.specs.Machine.{steps, reply}
 use Rattle.dlx.proofs.Tests.{by_eq}
 use Rattle.addresses.specs.Memory.{lone_memory}
@@ -111,8 +111,8 @@ module _ (w : World) (k : ℕ) (same : (n : ℕ) → all_empty (host_steps n w) 
   unfolding either_turns_in turns_in after_steps
   turns_alike i zero = refl
   turns_alike i (suc n) =
-      ap (λ (v : World). (if eqb v.house.current i then 1 else 0) + either_turns_in (unshadowed_run k) n w i) (sym (same n))
-      ∙ ap (λ (m : ℕ). (if eqb (host_steps n w).house.current i then 1 else 0) + m) (turns_alike i n)
+      ap (λ (v : World). (when eqb v.house.current i then 1 else 0) + either_turns_in (unshadowed_run k) n w i) (sym (same n))
+      ∙ ap (λ (m : ℕ). (when eqb (host_steps n w).house.current i then 1 else 0) + m) (turns_alike i n)
 
   log_alike : (n : ℕ) → either_log_in (unshadowed_run k) n w ≡ log_in n w
   unfolding either_log_in log_in after_steps
@@ -125,7 +125,7 @@ module _ (w : World) (k : ℕ) (same : (n : ℕ) → all_empty (host_steps n w) 
 turns_call : (c : Call) (w : World) (i n : ℕ) → either_turns_in (call c) n w i ≡ turns_in n w i
 unfolding either_turns_in turns_in after_steps
 turns_call c w i zero = refl
-turns_call c w i (suc n) = ap (λ (m : ℕ). (if eqb (host_steps n w).house.current i then 1 else 0) + m) (turns_call c w i n)
+turns_call c w i (suc n) = ap (λ (m : ℕ). (when eqb (host_steps n w).house.current i then 1 else 0) + m) (turns_call c w i n)
 
 log_call : (c : Call) (w : World) (n : ℕ) → either_log_in (call c) n w ≡ log_in n w
 unfolding either_log_in log_in after_steps

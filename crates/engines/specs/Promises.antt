@@ -1,6 +1,6 @@
 -- The two engines compared, as statements about the definitions that the run calls' contracts cite. proofs/Promises.antt proves each.
 use Rattle.std.specs.Prelude.{◌≡◌, Bool, List, [], ◌∷◌, ◌++◌, ℕ, zero, suc, ◌+◌, ◌%◌, ◌^◌, ◌<◌, eqb, length, get_or}
-use Rattle.dlx.specs.Choice.{if◌then◌else◌}
+use Rattle.dlx.specs.Choice.{when◌then◌else◌}
 use Rattle.dlx.specs.Machine.{steps, reply}
 use Rattle.dlx.specs.declared.execute.Reply.{Reply}
 use Rattle.addresses.specs.Memory.{lone_memory}
@@ -35,7 +35,7 @@ SameRuns = (w : World) → Shaped w.house → Passes w → (k : ℕ) →
 -- So a run of a house as boot leaves it, by the engine that is asked for, answers as the first engine's, with every shadow emptied where it is the second: a
 -- night's report is the same by both.
 unfoldable pub emptied_by : Bool → Answered → Answered
-emptied_by unshadowed a = if unshadowed then answered a.verdict (all_empty a.world) else a
+emptied_by unshadowed a = when unshadowed then answered a.verdict (all_empty a.world) else a
 
 abbrev pub BootedRuns : Type 0
 BootedRuns = (unshadowed : Bool) (b : Boot) (k : ℕ) → run_by unshadowed (booted b) k ≡ emptied_by unshadowed (run_call (booted b) k)
@@ -45,7 +45,7 @@ abbrev pub empty_each : ℕ → List Call
 empty_each n = list_from empty 0 n
 
 unfoldable pub instead : ℕ → World → List Call
-instead k w = run k ∷ (if eqb (run_call w k).verdict.number 0 then empty_each w.house.count else [])
+instead k w = run k ∷ (when eqb (run_call w k).verdict.number 0 then empty_each w.house.count else [])
 
 abbrev pub RunThenEmpty : Type 0
 RunThenEmpty = (w : World) → Typed w → Passes w → (k : ℕ) → (unshadowed_call w k).world ≡ history (instead k w) w
@@ -66,7 +66,7 @@ either_history (e ∷ es) w = either_history es (after_either e w)
 -- the host steps of a call, by the engine that makes them: how many, the world after n of them, and those of partition i among them
 unfoldable pub either_steps_of : EitherCall → World → ℕ
 either_steps_of (call c) w = steps_of c w
-either_steps_of (unshadowed_run k) w = if eqb (unshadowed_call w k).verdict.number 0 then k else 0
+either_steps_of (unshadowed_run k) w = when eqb (unshadowed_call w k).verdict.number 0 then k else 0
 
 unfoldable pub after_steps : EitherCall → ℕ → World → World
 after_steps (call c) n w = host_steps n w
@@ -74,7 +74,7 @@ after_steps (unshadowed_run k) n w = unshadowed_steps n w
 
 unfoldable pub either_turns_in : EitherCall → ℕ → World → ℕ → ℕ
 either_turns_in e zero w i = 0
-either_turns_in e (suc n) w i = (if eqb (after_steps e n w).house.current i then 1 else 0) + either_turns_in e n w i
+either_turns_in e (suc n) w i = (when eqb (after_steps e n w).house.current i then 1 else 0) + either_turns_in e n w i
 
 -- what they asked and were answered
 unfoldable pub either_log_in : EitherCall → ℕ → World → List Event

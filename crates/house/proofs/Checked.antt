@@ -9,7 +9,7 @@ use lib.Count.{count_trailing_zeros}
 use lib.Dec.{ltb, eqb}
 use lib.ListN.{length, get_or, set, take, drop, length-take, length-set, get_or-eq_default}
 use lib.Seq.{get_or-take, get_or-drop, get_or-set_same, get_or-set_other}
-use Rattle.dlx.specs.Choice.{if◌then◌else◌}
+use Rattle.dlx.specs.Choice.{when◌then◌else◌}
 use Rattle.dlx.specs.Words.{extended_by, read_in, holds}
 use Rattle.dlx.specs.Instructions.{register_type, part_type, instruction_of}
 use Rattle.dlx.specs.Fields.{field, put, width, brought, placed}
@@ -38,20 +38,20 @@ use Rattle.house.proofs.Lists.ByRule.{get_or_list_from, length_list_from}
 
 -- ---- what stands at a place of a list, without walking there
 
-rule_at : (f : ℕ → ℕ) (n i : ℕ) → get_or (list_from f 0 n) i 0 ≡ (if ltb i n then f i else 0)
+rule_at : (f : ℕ → ℕ) (n i : ℕ) → get_or (list_from f 0 n) i 0 ≡ (when ltb i n then f i else 0)
 rule_at f n i =
     by_test (ltb i n)
     (λ e. let z : 0 + i ≡ i = omega arith in rw (e, get_or_list_from f 0 0 n i (ltb-true i n e), z))
     (λ e. rw (e, get_or-eq_default (list_from f 0 n) 0 {n = i} (omega (arith, ltb-false i n e, length_list_from f 0 n))))
 
-part_at : (a s : ℕ) (m : List ℕ) (i : ℕ) → get_or (inner a s m) i 0 ≡ (if ltb i s then get_or m (a + i) 0 else 0)
+part_at : (a s : ℕ) (m : List ℕ) (i : ℕ) → get_or (inner a s m) i 0 ≡ (when ltb i s then get_or m (a + i) 0 else 0)
 unfolding inner
 part_at a s m i =
     by_test (ltb i s)
     (λ e. rw (e, get_or-take s (drop a m) i 0 (ltb-true i s e), get_or-drop a m i 0))
     (λ e. rw (e, get_or-eq_default (take s (drop a m)) 0 {n = i} (omega (arith, ltb-false i s e, length-take s (drop a m)))))
 
-set_at : (l : List ℕ) (i x j : ℕ) → get_or (set l i x) j 0 ≡ (if eqb j i && ltb j (length l) then x else get_or l j 0)
+set_at : (l : List ℕ) (i x j : ℕ) → get_or (set l i x) j 0 ≡ (when eqb j i && ltb j (length l) then x else get_or l j 0)
 set_at l i x j =
     by_eq j i
     (λ e. by_test (ltb j (length l))

@@ -1,6 +1,6 @@
 -- Boot: its refusals in their order, and the house that it makes.
 use Rattle.std.specs.Prelude.{Bool, not, List, [], ◌∷◌, ℕ, zero, suc, ◌+◌, ◌/◌, ◌%◌, ltb, leb, eqb, length, get_or, replicate}
-use Rattle.dlx.specs.Choice.{if◌then◌else◌}
+use Rattle.dlx.specs.Choice.{when◌then◌else◌}
 use Rattle.dlx.specs.Processor.{fresh_of}
 use Rattle.house.specs.Lists.{list_from, any, first_from, between}
 use Rattle.house.specs.House.{fresh_shadows, no_partition, no_house, layout, guests, turn, with_layout, with_turn, with_guests}
@@ -25,7 +25,7 @@ case b n d = record { applies = b; gives = verdict n d }
 
 unfoldable pub first_of : List Case → Verdict → Verdict
 first_of [] done = done
-first_of (c ∷ cs) done = if c.applies then c.gives else first_of cs done
+first_of (c ∷ cs) done = when c.applies then c.gives else first_of cs done
 
 -- ---- boot of partitions with so many pages each, turns of q steps, a frame list, and a memory of so many words
 
@@ -71,7 +71,7 @@ unfoldable pub laid : List ℕ → List ℕ → ℕ → ℕ
 laid ps fr j =
     let i = j / 256 in
     let k = j % 256 in
-    if ltb k (get_or ps i 0) then get_or fr (offset ps i + k) 0 else 0
+    when ltb k (get_or ps i 0) then get_or fr (offset ps i + k) 0 else 0
 
 -- all registers zero but PC = 4, every shadow empty, all running, partition 0 current with q steps left; unused places 0
 unfoldable pub booted_house : List ℕ → ℕ → List ℕ → ℕ → House
@@ -80,7 +80,7 @@ booted_house ps q fr words =
     (with_guests
     (with_turn no_house (list_from (λ i. ltb i (length ps)) 0 8) (turn 0 q))
     (guests
-    (list_from (λ i. if ltb i (length ps) then fresh_of (get_or ps i 0) else no_partition) 0 8)
+    (list_from (λ i. when ltb i (length ps) then fresh_of (get_or ps i 0) else no_partition) 0 8)
     (replicate 256 0)
     fresh_shadows))
     (layout (length ps) q words (list_from (laid ps fr) 0 2048))

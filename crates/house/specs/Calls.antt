@@ -1,6 +1,6 @@
 -- The calls: each lists its refusals in their order, and says what a done call leaves. A refusal leaves house, memory and output as they were.
 use Rattle.std.specs.Prelude.{Bool, true, false, not, ◌&&◌, ◌||◌, List, [], ◌∷◌, ◌++◌, ℕ, ◌+◌, ◌*◌, ◌/◌, ◌%◌, ltb, leb, eqb, length, get_or, set, drop, replicate}
-use Rattle.dlx.specs.Choice.{if◌then◌else◌}
+use Rattle.dlx.specs.Choice.{when◌then◌else◌}
 use Rattle.addresses.specs.Walk.{entries}
 use Rattle.addresses.specs.Memory.{host_word}
 use Rattle.dlx.specs.Parts.{outer}
@@ -21,7 +21,7 @@ answered v w = record { verdict = v; world = w }
 
 -- what a call leaves: `done` where nothing refuses it, else what was given
 abbrev pub unless_refused : Verdict → World → World → Answered
-unless_refused v given done = answered v (if eqb v.number 0 then done else given)
+unless_refused v given done = answered v (when eqb v.number 0 then done else given)
 
 -- ---- boot
 
@@ -58,15 +58,15 @@ one_verdict h i =
 unfoldable pub started : House → ℕ → House
 started h i =
     with_turn h (set h.running i true)
-    (if eqb h.left 0 then turn i h.q else turn h.current h.left)
+    (when eqb h.left 0 then turn i h.q else turn h.current h.left)
 
 -- stopping the current one passes the turn, or leaves none current with 0 left
 unfoldable pub stopped : House → ℕ → House
 stopped h i =
     let r = set h.running i false in
     with_turn h r
-    (if not (eqb h.left 0) && eqb h.current i then
-    (if any (λ j. get_or r j false) h.count then turn (next_of r h.count i) h.q else turn 0 0)
+    (when not (eqb h.left 0) && eqb h.current i then
+    (when any (λ j. get_or r j false) h.count then turn (next_of r h.count i) h.q else turn 0 0)
     else turn h.current h.left)
 
 unfoldable pub emptied_house : House → ℕ → House
@@ -116,4 +116,4 @@ read v h out = record { verdict = v; house = h; output = out }
 unfoldable pub read_call : World → ℕ → ℕ → ℕ → List ℕ → Read
 read_call w i a count out =
     let v = read_verdict w i a count out in
-    read v w.house (if eqb v.number 0 then read_out w i a count out else out)
+    read v w.house (when eqb v.number 0 then read_out w i a count out else out)

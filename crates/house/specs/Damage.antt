@@ -1,6 +1,6 @@
 -- Damage, condition by condition as docs/RULES.md#damage lists them.
 use Rattle.std.specs.Prelude.{Bool, not, ◌&&◌, ◌||◌, List, ℕ, ◌+◌, ◌*◌, ◌/◌, ◌%◌, ltb, leb, eqb, get_or}
-use Rattle.dlx.specs.Choice.{if◌then◌else◌}
+use Rattle.dlx.specs.Choice.{when◌then◌else◌}
 use Rattle.dlx.specs.declared.partition.Partition.{Partition}
 use Rattle.addresses.specs.Entries.{number, valid}
 use Rattle.addresses.specs.Walk.{entries}
@@ -38,7 +38,7 @@ frame_twice h =
 -- the current partition isn't running, or its steps left are not 1..q; none is current while one runs
 unfoldable pub turn_wrong : House → Bool
 turn_wrong h =
-    if eqb h.left 0 then not (eqb h.current 0) || any (runs h) 8
+    when eqb h.left 0 then not (eqb h.current 0) || any (runs h) 8
     else leb h.count h.current || not (runs h h.current) || ltb h.q h.left
 
 -- register 0 is not zero, MODE or EMODE is above 1, or the latest fault above 7
@@ -52,7 +52,7 @@ registers_wrong h =
 -- a shadow entry that is valid, and whose frame isn't its partition's; or anything but 0 in one that is empty, or in a valid one's unused bits
 abbrev pub entry_wrong : List ℕ → ℕ → ℕ → Bool
 entry_wrong fr n e =
-    if valid e then not (stands fr n (number e)) || not (eqb (e % 1024) 0) else not (eqb e 0)
+    when valid e then not (stands fr n (number e)) || not (eqb (e % 1024) 0) else not (eqb e 0)
 
 unfoldable pub shadow_wrong : House → Bool
 shadow_wrong h = any (λ i. any (λ px. entry_wrong (frames_of h i) (pages_of h i) (get_or (shadow_of h i) px 0)) entries) h.count
@@ -84,7 +84,7 @@ partition_used p =
 unfoldable pub unused_wrong : House → Bool
 unused_wrong h =
     any (λ i.
-    if ltb i h.count then any (λ k. leb (pages_of h i) k && not (eqb (get_or (frames_of h i) k 0) 0)) 256
+    when ltb i h.count then any (λ k. leb (pages_of h i) k && not (eqb (get_or (frames_of h i) k 0) 0)) 256
     else runs h i
     || partition_used (partition h i)
     || not_zero h.regs (i * 32) 32

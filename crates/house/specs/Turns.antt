@@ -1,6 +1,6 @@
 -- Turns, and the host step.
 use Rattle.std.specs.Prelude.{Bool, false, ◌||◌, List, ℕ, zero, suc, ◌+◌, ◌-◌, ◌*◌, ◌%◌, ◌^◌, eqb, ltb, leb, get_or, set}
-use Rattle.dlx.specs.Choice.{if◌then◌else◌}
+use Rattle.dlx.specs.Choice.{when◌then◌else◌}
 use Rattle.dlx.specs.Machine.{Ops, Core, core, Outcome, Request, asked, step, Stretch}
 use Rattle.dlx.specs.Processor.{with_processor, with_table, with_timer, with_counter, with_fault}
 use Rattle.dlx.specs.declared.execute.Reply.{Reply}
@@ -25,19 +25,19 @@ world h m = record { house = h; memory = m }
 -- ---- the next running partition in cyclic order, itself if alone
 
 abbrev pub following : ℕ → ℕ → ℕ
-following n i = if eqb (i + 1) n then 0 else i + 1
+following n i = when eqb (i + 1) n then 0 else i + 1
 
 -- of the k partitions after i
 unfoldable pub next_from : List Bool → ℕ → ℕ → ℕ → ℕ
 next_from r n i zero = i
-next_from r n i (suc k) = if get_or r (following n i) false then following n i else next_from r n (following n i) k
+next_from r n i (suc k) = when get_or r (following n i) false then following n i else next_from r n (following n i) k
 
 abbrev pub next_of : List Bool → ℕ → ℕ → ℕ
 next_of r n i = next_from r n i n
 
 -- The turn of c, who had l left, after so many steps of it: at 0 left, or after a trap taken in system mode, it passes, with q left.
 unfoldable pub turn_of : List Bool → ℕ → ℕ → ℕ → ℕ → ℕ → Bool → Turn
-turn_of r n q c l made calls = if eqb l made || calls then turn (next_of r n c) q else turn c (l - made)
+turn_of r n q c l made calls = when eqb l made || calls then turn (next_of r n c) q else turn c (l - made)
 
 abbrev pub turn_after : House → ℕ → Bool → Turn
 turn_after h made calls = turn_of h.running h.count h.q h.current h.left made calls
@@ -124,15 +124,15 @@ stretched_house h i r t =
 
 -- how many of the steps to make it may have: all where it is alone, else those left of its turn
 unfoldable pub span_of : Bool → ℕ → ℕ → ℕ
-span_of alone l rest = if alone then rest else if leb l rest then l else rest
+span_of alone l rest = when alone then rest else when leb l rest then l else rest
 
 -- what is left of its turn after so many steps of it, where l was
 unfoldable pub left_alone : ℕ → ℕ → ℕ → Bool → ℕ
-left_alone q l made calls = if calls then q else if ltb made l then l - made else q - (made - l) % q
+left_alone q l made calls = when calls then q else when ltb made l then l - made else q - (made - l) % q
 
 -- the turn then
 unfoldable pub later_of : Bool → List Bool → ℕ → ℕ → ℕ → ℕ → ℕ → Bool → Turn
-later_of alone r n q c l made calls = if alone then turn c (left_alone q l made calls) else turn_of r n q c l made calls
+later_of alone r n q c l made calls = when alone then turn c (left_alone q l made calls) else turn_of r n q c l made calls
 
 -- the house h with what a host step may change
 abbrev pub house_at : House → ℕ → ℕ → List Partition → List ℕ → List ℕ → House

@@ -1,7 +1,7 @@
 -- The words of a body, each at its place, and a body cut short.
 use Rattle.std.proofs.Common.{◌≡◌, ℕ, zero, suc, ◌+◌, ◌*◌, ◌%◌, ◌^◌, ◌<◌, ◌≤◌, true, false, not, ◌||◌, eqb, ltb, List, [], ◌∷◌, length, take, drop, set, ap, ◌∙◌, arith, length-drop, drop-drop, le-ltb, eq-eqb, ne_eqb}
 use lib.Seq.{sets}
-use Rattle.dlx.specs.Choice.{if◌then◌else◌}
+use Rattle.dlx.specs.Choice.{when◌then◌else◌}
 use Rattle.dlx.proofs.Tests.{by_test}
 use Rattle.housefile.specs.Records.{wrong, number, words_of}
 use Rattle.housefile.specs.Reader.{Read, read, within, spoils, placed, further, completed, settled, fed, answer_of}
@@ -63,7 +63,7 @@ module _ (r : Reader) (o : Open r) where
 
 module _ (r : Reader) (o : Open r) (size kind : ℕ) (into : List ℕ → Read) (place : ℕ → ℕ) (first : ℕ) (P : ℕ → Type 0)
     (next : (j : ℕ) → first ≤ j → place (suc j) ≡ suc (place j))
-    (keeps : (j frame w : ℕ) → first ≤ j → P frame → P (if eqb (9 + 4 * j) 9 then w else frame))
+    (keeps : (j frame w : ℕ) → first ≤ j → P frame → P (when eqb (9 + 4 * j) 9 then w else frame))
     (fine : (n : Record) (j frame w : ℕ) → first ≤ j → P frame → spoils (within r n) (of (10 + 4 * j) size kind frame w) ≡ false)
     (puts : (n : Record) (j frame w : ℕ) (l : List ℕ) → first ≤ j → P frame
     → placed (within r n) (of (10 + 4 * j) size kind frame w) (beside (within r n) (into l)) ≡ beside (within r n) (into (set l (place j) w)))
@@ -92,13 +92,13 @@ module _ (r : Reader) (o : Open r) (size kind : ℕ) (into : List ℕ → Read) 
   unfolding words_of
   body_fed zero j frame word l bs f e w p h g =
       let v = number (take 4 bs) in
-      let a = if eqb (9 + 4 * j) 9 then v else frame in
+      let a = when eqb (9 + 4 * j) 9 then v else frame in
       through (beside r (into l)) (behind r size kind (into (set l (place j) v))) _ (of (10 + 4 * j) size kind a v) (drop 4 bs)
       (four (beside r (into l)) o size kind j frame word bs (omega arith) (omega arith) whole w (omega arith) g)
       (λ n. word_last j a v l f (keeps j frame v f p) n (omega arith))
   body_fed (suc k) j frame word l bs f e w p h g =
       let v = number (take 4 bs) in
-      let a = if eqb (9 + 4 * j) 9 then v else frame in
+      let a = when eqb (9 + 4 * j) 9 then v else frame in
       let p' = keeps j frame v f p in
       let l' = set l (place j) v in
       let far : 4 + 4 * suc k ≡ 4 * suc (suc k) = omega arith in

@@ -2,7 +2,7 @@
 use Rattle.std.proofs.Common.{◌≡◌, ℕ, zero, suc, ◌+◌, ◌*◌, ◌/◌, ◌%◌, ◌^◌, ◌<◌, ◌≤◌, true, false, not, ◌&&◌, ◌||◌, eqb, ltb, leb, List, [], ◌∷◌, ◌++◌, length, get_or, take, drop, set, replicate, sym, refl, ap, ◌∙◌, subst, arith, length-append, length-drop, length-set, take-take, drop-drop, take-suc-set, take_at, ltb-false, ltb-true, eq-eqb, ne_eqb, eqb-true, leb-false, leb-true}
 use lib.ListN.{length-replicate}
 use lib.Seq.{sets, sets-eq, length-sets}
-use Rattle.dlx.specs.Choice.{if◌then◌else◌}
+use Rattle.dlx.specs.Choice.{when◌then◌else◌}
 use Rattle.dlx.proofs.Tests.{by_test, and_left}
 use Rattle.house.proofs.Lists.Bounded.{and_right, one_way}
 use Rattle.housefile.specs.Records.{number, words_of, size, kind, body, may_come, record_right, File, no_file, with_record, wrong, right, read_from, reading_of}
@@ -34,7 +34,7 @@ stands f last start pages frames =
 -- ---- at the end, and behind it
 
 ended : (f : File) (last start : ℕ) (pages frames bs : List ℕ) → Holds f pages frames → eqb last 4 ≡ true
-    → answer_of (fed (stands f last start pages frames) bs) ≡ (if eqb (length bs) 0 then right f else wrong start)
+    → answer_of (fed (stands f last start pages frames) bs) ≡ (when eqb (length bs) 0 then right f else wrong start)
 unfolding fed took answer_of
 ended f last start pages frames [] h e = simp (e, h.counts, h.numbers)
 ended f last start pages frames (b ∷ bs) h e =

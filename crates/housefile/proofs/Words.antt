@@ -1,7 +1,7 @@
 -- Six bytes are a header, four a word.
 use Rattle.std.proofs.Common.{◌≡◌, ℕ, ◌+◌, ◌*◌, ◌/◌, ◌%◌, ◌^◌, ◌<◌, ◌≤◌, not, eqb, ltb, List, [], ◌∷◌, length, take, drop, ap, ◌∙◌, arith, lt-ltb, ne_eqb}
 use mathlib.Core.Bool.{or-true}
-use Rattle.dlx.specs.Choice.{if◌then◌else◌}
+use Rattle.dlx.specs.Choice.{when◌then◌else◌}
 use Rattle.housefile.specs.Records.{wrong, number, size, kind}
 use Rattle.housefile.specs.Reader.{Read, no_record, shifted, further, settled, took, fed, answer_of}
 use Rattle.housefile.specs.declared.Record.{Record}
@@ -18,7 +18,7 @@ module _ (a b c d : ℕ) (la : a < 256) (lb : b < 256) (lc : c < 256) (ld : d < 
 
 module _ (s : Read) (o : Open s.reader) (size kind : ℕ) where
   further_is : (p q frame word b : ℕ) → q ≡ p + 1 → 6 ≤ p → p < 2 ^ 31
-      → further (of p size kind frame word) b ≡ of q size kind (if eqb p 9 then shifted word b else frame) (shifted word b)
+      → further (of p size kind frame word) b ≡ of q size kind (when eqb p 9 then shifted word b else frame) (shifted word b)
   unfolding further
   further_is p q frame word b e l h =
       let z : (p + 1) % 2 ^ 32 ≡ q = omega arith in
@@ -38,7 +38,7 @@ module _ (s : Read) (o : Open s.reader) (size kind : ℕ) where
   -- four bytes of a body
   pub four : (j frame word : ℕ) (bs : List ℕ) → j < 2 ^ 20 → 4 * j < size → size % 4 ≡ 0 → word < 2 ^ 32 → 4 ≤ length bs → Bytes bs
       → (n : Record) × (fed (on s (of (6 + 4 * j) size kind frame word)) bs
-      ≡ fed (settled (on s n) (of (10 + 4 * j) size kind (if eqb (9 + 4 * j) 9 then number (take 4 bs) else frame) (number (take 4 bs)))) (drop 4 bs))
+      ≡ fed (settled (on s n) (of (10 + 4 * j) size kind (when eqb (9 + 4 * j) 9 then number (take 4 bs) else frame) (number (take 4 bs)))) (drop 4 bs))
   unfolding fed
   four j frame word [] l m z w h g = absurd (omega arith)
   four j frame word (a ∷ []) l m z w h g = absurd (omega arith)
@@ -59,7 +59,7 @@ module _ (s : Read) (o : Open s.reader) (size kind : ℕ) where
             (took_on s o n d
             ∙ ap (settled (on s n))
             (further_is (9 + 4 * j) (10 + 4 * j) frame w₃ d (omega arith) (omega arith) (omega arith)
-            ∙ ap (λ (x : ℕ). of (10 + 4 * j) size kind (if eqb (9 + 4 * j) 9 then x else frame) x) e)),
+            ∙ ap (λ (x : ℕ). of (10 + 4 * j) size kind (when eqb (9 + 4 * j) 9 then x else frame) x) e)),
       )
 
 -- ---- the header

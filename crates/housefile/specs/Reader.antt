@@ -1,6 +1,6 @@
 -- The file read byte by byte, whatever pieces the bytes come in: where the reading stands after each of them.
 use Rattle.std.specs.Prelude.{ℕ, ◌+◌, ◌-◌, ◌*◌, ◌/◌, ◌%◌, ◌^◌, Bool, true, false, not, ◌&&◌, ◌||◌, List, [], ◌∷◌, take, replicate, ◌==◌, nat_eq, nat_le, nat_lt, slice_index, slice_set}
-use Rattle.dlx.specs.Choice.{if◌then◌else◌}
+use Rattle.dlx.specs.Choice.{when◌then◌else◌}
 use Rattle.dlx.specs.Words.{plus}
 use Rattle.housefile.specs.Records.{may_come, file, Reading, wrong, right}
 use Rattle.housefile.specs.declared.Record.{Record}
@@ -39,9 +39,9 @@ further n b =
     let w = shifted n.word b in
     record {
       bytes = plus n.bytes 1;
-      size = if n.bytes == 3 then w else n.size;
-      kind = if n.bytes == 5 then w / 2 ^ 16 else n.kind;
-      frame = if n.bytes == 9 then w else n.frame;
+      size = when n.bytes == 3 then w else n.size;
+      kind = when n.bytes == 5 then w / 2 ^ 16 else n.kind;
+      frame = when n.bytes == 9 then w else n.frame;
       word = w;
     }
 
@@ -55,10 +55,10 @@ spoils r n =
 unfoldable pub placed : Reader → Record → Read → Read
 placed r n s =
     let j = n.bytes / 4 - 2 in
-    if nat_lt n.bytes 10 || not (n.bytes % 4 == 2) then s else
-    if n.kind == 1 then read s.reader (slice_set s.turns j n.word) s.pages s.frames s.memory else
-    if n.kind == 2 then read s.reader s.turns s.pages (slice_set s.frames (r.total + j) n.word) s.memory else
-    if n.kind == 3 && not (j == 0) then
+    when nat_lt n.bytes 10 || not (n.bytes % 4 == 2) then s else
+    when n.kind == 1 then read s.reader (slice_set s.turns j n.word) s.pages s.frames s.memory else
+    when n.kind == 2 then read s.reader s.turns s.pages (slice_set s.frames (r.total + j) n.word) s.memory else
+    when n.kind == 3 && not (j == 0) then
     read s.reader s.turns s.pages s.frames (slice_set s.memory (n.frame * 1024 + (j - 1)) n.word)
     else s
 
@@ -66,7 +66,7 @@ placed r n s =
 unfoldable pub completed : Reader → Record → List ℕ → Reader × List ℕ
 completed r n pages =
     let next = (r.start + (6 + n.size)) % 2 ^ 64 in
-    if n.kind == 2 then (
+    when n.kind == 2 then (
       record { wrong = false; start = next; last = 2; lists = plus r.lists 1; total = plus r.total (n.size / 4); at = no_record },
       slice_set pages r.lists (n.size / 4),
     ) else
@@ -83,17 +83,17 @@ spoiled r = record { wrong = true; start = r.start; last = r.last; lists = r.lis
 unfoldable pub settled : Read → Record → Read
 settled s n =
     let r = s.reader in
-    if spoils r n then read (spoiled r) s.turns s.pages s.frames s.memory else
+    when spoils r n then read (spoiled r) s.turns s.pages s.frames s.memory else
     let p = placed r n s in
-    if not (n.bytes == 6 + n.size) || nat_lt n.bytes 6 then read (within r n) p.turns p.pages p.frames p.memory else
+    when not (n.bytes == 6 + n.size) || nat_lt n.bytes 6 then read (within r n) p.turns p.pages p.frames p.memory else
     read (completed r n p.pages).0 p.turns (completed r n p.pages).1 p.frames p.memory
 
 -- after kind 4 comes no byte
 unfoldable pub took : Read → ℕ → Read
 took s b =
     let r = s.reader in
-    if r.wrong then s else
-    if r.last == 4 then read (spoiled r) s.turns s.pages s.frames s.memory else
+    when r.wrong then s else
+    when r.last == 4 then read (spoiled r) s.turns s.pages s.frames s.memory else
     settled s (further r.at b)
 
 unfoldable pub fed : Read → List ℕ → Read
@@ -105,6 +105,6 @@ fed s (b ∷ bs) = fed (took s b) bs
 unfoldable pub answer_of : Read → Reading
 answer_of s =
     let r = s.reader in
-    if not r.wrong && nat_eq r.last 4 then
+    when not r.wrong && nat_eq r.last 4 then
     right (file (slice_index s.turns 0) (slice_index s.turns 1) (take r.lists s.pages) (take r.total s.frames) s.memory)
     else wrong r.start

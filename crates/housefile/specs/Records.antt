@@ -1,6 +1,6 @@
 -- The house file on the whole list of its bytes: records one after the other, each of a body length (4 bytes), a kind (2 bytes) and a body.
 use Rattle.std.specs.Prelude.{ℕ, zero, suc, ◌+◌, ◌*◌, ◌/◌, ◌%◌, Bool, false, not, ◌&&◌, ◌||◌, leb, List, [], ◌∷◌, ◌++◌, length, take, drop, replicate, ◌==◌, nat_eq, nat_le, nat_lt}
-use Rattle.dlx.specs.Choice.{if◌then◌else◌}
+use Rattle.dlx.specs.Choice.{when◌then◌else◌}
 use Rattle.dlx.specs.Parts.{outer}
 use Rattle.house.specs.Boot.{Verdict, verdict}
 
@@ -30,10 +30,10 @@ body bs = take (size bs) (drop 6 bs)
 -- kind 2, any of kind 3, one kind 4.
 unfoldable pub may_come : ℕ → ℕ → ℕ → ℕ → Bool
 may_come last lists kind size =
-    if kind == 1 then (last == 0) && nat_eq size 8 else
-    if kind == 2 then (last == 1 || last == 2) && nat_lt lists 8 && size % 4 == 0 && leb size 1024 else
-    if kind == 3 then (last == 2 || last == 3) && nat_eq size 4100 else
-    if kind == 4 then (last == 2 || last == 3) && nat_eq size 0 else
+    when kind == 1 then (last == 0) && nat_eq size 8 else
+    when kind == 2 then (last == 1 || last == 2) && nat_lt lists 8 && size % 4 == 0 && leb size 1024 else
+    when kind == 3 then (last == 2 || last == 3) && nat_eq size 4100 else
+    when kind == 4 then (last == 2 || last == 3) && nat_eq size 0 else
     false
 
 -- the whole record is there and right: a kind 3 has a frame below 16
@@ -62,11 +62,11 @@ no_file = file 0 0 [] [] (replicate 16384 0)
 -- the file with a right record
 unfoldable pub with_record : File → ℕ → List ℕ → File
 with_record f kind body =
-    if kind == 1 then file (number (take 4 body)) (number (take 4 (drop 4 body))) f.pages f.frames f.memory else
-    if nat_eq kind 2 then
+    when kind == 1 then file (number (take 4 body)) (number (take 4 (drop 4 body))) f.pages f.frames f.memory else
+    when nat_eq kind 2 then
     (let n = length body / 4 in
     file f.q f.run (f.pages ++ (n ∷ [])) (f.frames ++ words_of n body) f.memory) else
-    if nat_eq kind 3 then
+    when nat_eq kind 3 then
     file f.q f.run f.pages f.frames (outer (number (take 4 body) * 1024) 1024 f.memory (words_of 1024 (drop 4 body))) else
     f
 
@@ -84,8 +84,8 @@ verdict_of (right f) = verdict 0 0
 unfoldable pub read_from : ℕ → File → ℕ → ℕ → List ℕ → Reading
 read_from zero f last at bs = wrong at
 read_from (suc n) f last at bs =
-    if last == 4 then (if nat_eq (length bs) 0 then right f else wrong at) else
-    if record_right last (length f.pages) bs then
+    when last == 4 then (when nat_eq (length bs) 0 then right f else wrong at) else
+    when record_right last (length f.pages) bs then
     read_from n (with_record f (kind bs) (body bs)) (kind bs) (at + (6 + size bs)) (drop (6 + size bs) bs)
     else wrong at
 

@@ -3,7 +3,7 @@
 #![tactic(auto)]
 
 ghost use Rattle.std.specs.Prelude.{◌≡◌, ℕ, min, List, length, slice_set};
-ghost use Rattle.dlx.specs.Choice.{if◌then◌else◌};
+ghost use Rattle.dlx.specs.Choice.{when◌then◌else◌};
 ghost use Rattle.house.specs.Boot.{verdict};
 ghost use Rattle.housefile.specs.Records.{may_come, verdict_of};
 ghost use Rattle.housefile.specs.Reader.{no_record, no_reader, read, further, spoils, spoiled, placed, completed, settled, took, fed, answer_of};
@@ -72,7 +72,7 @@ impl Reader {
 
 // One of two words.
 fn choose(first: bool, a: u32, b: u32) -> u32
-    ensures { result ≡ (if first then a else b) }
+    ensures { result ≡ (when first then a else b) }
 {
     if first {
         return a;

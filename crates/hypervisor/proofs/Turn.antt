@@ -2,7 +2,7 @@
 use Rattle.std.proofs.Common.{◌≡◌, ℕ, ◌+◌, ◌-◌, ◌*◌, ◌%◌, ◌^◌, ◌<◌, ◌≤◌, Bool, true, false, eqb, leb, List, ◌++◌, length, get_or, take, drop, set, sym, refl, ◌∙◌, subst, true≢false, mul-le-mul_right, suc-mul, mul-le-mul, arith, eqb-true, leb-false, leb-true}
 use mathlib.Core.Bool.{false≢true}
 use native.Mathlib.Nat.{add-sub_cancel_left}
-use Rattle.dlx.specs.Choice.{if◌then◌else◌}
+use Rattle.dlx.specs.Choice.{when◌then◌else◌}
 use Rattle.dlx.specs.Processor.{with_processor, with_table, with_timer, with_counter, with_fault}
 use Rattle.dlx.specs.Machine.{core, stretch_from}
 use Rattle.dlx.proofs.Kept.{either}
@@ -73,7 +73,7 @@ module _ (h : House) (current left : ℕ) (parts : List Partition) (regs shadows
       (inner_length regs (current * 32) 32 (omega (arith, o.here, o.few, o.shaped.regs)), ((o.each current o.here).placed, ((o.each current o.here).shadowed, seated o))))
 
 -- the limit of a turn
-pub limited : (l r n : ℕ) → n ≡ (if leb l r then l else r) → 0 < l → 0 < r → (0 < n) × (n ≤ l) × (n ≤ r)
+pub limited : (l r n : ℕ) → n ≡ (when leb l r then l else r) → 0 < l → 0 < r → (0 < n) × (n ≤ l) × (n ≤ r)
 limited l r n e p q =
     subst (λ (x : ℕ). (0 < x) × (x ≤ l) × (x ≤ r)) (sym e)
     (either (λ (x : ℕ). (0 < x) × (x ≤ l) × (x ≤ r)) (leb l r)

@@ -1,6 +1,6 @@
 // Runs: turns of the current partition, each a stretch of the engine's.
 ghost use Rattle.std.specs.Prelude.{◌≡◌, ◌<◌, ◌≤◌, false, nat_le};
-ghost use Rattle.dlx.specs.Choice.{if◌then◌else◌};
+ghost use Rattle.dlx.specs.Choice.{when◌then◌else◌};
 ghost use Rattle.house.specs.Turns.{world, following as following_of, next_of, turn_of, span_of, left_alone, later_of, host_steps};
 ghost use Rattle.house.specs.Sound.{Sound};
 
@@ -72,7 +72,7 @@ pub fn turn(
 
 // The smaller of the steps left and the steps still to make.
 pub fn limit(left: u32, rest: u32) -> u32
-    ensures { result ≡ (if nat_le left rest then left else rest) }
+    ensures { result ≡ (when nat_le left rest then left else rest) }
 {
     if left <= rest {
         return left;

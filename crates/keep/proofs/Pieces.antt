@@ -6,7 +6,7 @@ use Prim.Native.Nat.{ℕ, zero, suc, ◌+◌, ◌-◌, ◌^◌, ◌<◌, ◌≤�
 use native.Mathlib.Omega.{arith}
 use lib.ListN.{length, take, drop, length-take, length-drop}
 use lib.Seq.{take_at, length-take-le}
-use Rattle.dlx.specs.Choice.{if◌then◌else◌}
+use Rattle.dlx.specs.Choice.{when◌then◌else◌}
 use Rattle.dlx.proofs.Tests.{by_test}
 use Rattle.house.proofs.Lists.Bounded.{one_way}
 use Rattle.house.specs.Boot.{verdict}
@@ -92,7 +92,7 @@ pub whole_none : (w : World) (g : Writing) (more : Bool) → more ≡ g.good →
 whole_none w g more e f s = one_way g.good s (sym e ∙ f)
 
 abbrev pub left : Writing → Bool → ℕ
-left g more = if more then 2 ^ 64 - g.bytes else 0
+left g more = when more then 2 ^ 64 - g.bytes else 0
 
 pub falls : (w : World) (g g' : Writing) (was more : Bool) → was ≡ true → Onward w g g' more → left g' more < left g was
 falls w g g' was more s o =

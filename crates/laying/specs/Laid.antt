@@ -1,6 +1,6 @@
 -- Images laid into a memory: raw words, little-endian, into a partition's pages from a guest address on.
 use Rattle.std.specs.Prelude.{ℕ, zero, suc, ◌+◌, ◌*◌, ◌/◌, ◌%◌, min, max, Bool, not, ◌&&◌, List, length, take, drop, replicate, ◌==◌, nat_lt, slice_index, slice_set}
-use Rattle.dlx.specs.Choice.{if◌then◌else◌}
+use Rattle.dlx.specs.Choice.{when◌then◌else◌}
 use Rattle.dlx.specs.Words.{plus}
 use Rattle.addresses.specs.Memory.{place}
 use Rattle.house.specs.Lists.{any}
@@ -48,9 +48,9 @@ meeting table counts k n j =
 -- same partition has one; 0 for none
 unfoldable pub fault_of : List ℕ → List ℕ → List ℕ → ℕ → ℕ → ℕ
 fault_of pages table counts k size =
-    if not (size % 4 == 0) then 1 else
-    if nat_lt (4096 * slice_index pages (owner_of table k)) (address_in table k + size) then 2 else
-    if any (meeting table counts k (size / 4)) k then 3 else
+    when not (size % 4 == 0) then 1 else
+    when nat_lt (4096 * slice_index pages (owner_of table k)) (address_in table k + size) then 2 else
+    when any (meeting table counts k (size / 4)) k then 3 else
     0
 
 -- ---- all of them

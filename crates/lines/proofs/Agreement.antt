@@ -7,7 +7,7 @@ use native.Mathlib.Nat.{mod-mod, mod-eq_of_lt, add-mul-mod_self_left}
 use native.Mathlib.Omega.{arith}
 use borrow.Author.Tests.{eqb-true, eqb-false, eq-eqb, le-leb, lt-leb, lt-ltb}
 use lib.Dec.{eqb, leb, ltb, leb-suc-suc}
-use Rattle.dlx.specs.Choice.{if◌then◌else◌}
+use Rattle.dlx.specs.Choice.{when◌then◌else◌}
 use Rattle.dlx.specs.Words.{opcode, function, sa, extended, extended_by, rd_immediate, rs1 as rs1_of}
 use Rattle.dlx.specs.Instructions.{instruction_of, register_type, part_type}
 use Rattle.dlx.specs.declared.instruction.Instruction.{Instruction}
@@ -33,7 +33,7 @@ record SameRow (i j : Instruction) : Type 0 where
 leaf : {i j : Instruction} → row_for i ≡ row_for j → legal i ≡ legal j → SameRow i j
 leaf e q = record { row = e; law = q }
 
-both : (b : Bool) {x y x' y' : Instruction} → SameRow x x' → SameRow y y' → SameRow (if b then x else y) (if b then x' else y')
+both : (b : Bool) {x y x' y' : Instruction} → SameRow x x' → SameRow y y' → SameRow (when b then x else y) (when b then x' else y')
 both true e q = e
 both false e q = q
 
@@ -63,7 +63,7 @@ parts_alike w v e =
     (both (eqb o 40) (leaf refl refl)
     (both (eqb o 41) (leaf refl refl) (leaf refl refl)))))))
 
-both_if : (b : Bool) {x y x' y' : Instruction} → (b ≡ true → SameRow x x') → SameRow y y' → SameRow (if b then x else y) (if b then x' else y')
+both_if : (b : Bool) {x y x' y' : Instruction} → (b ≡ true → SameRow x x') → SameRow y y' → SameRow (when b then x else y) (when b then x' else y')
 both_if true e q = e refl
 both_if false e q = q
 
@@ -95,7 +95,7 @@ instructions_alike w v e g q =
 -- ---- a word for each code, with the special number 0 or 12
 
 unfoldable sample : ℕ → Bool → ℕ
-sample c b = bare_of c + (if b then 0 else 768)
+sample c b = bare_of c + (when b then 0 else 768)
 
 high_sa : (o k : ℕ) → k < 32 → (o * 64 / 64 * 2 ^ 26 + o * 64 % 64 + k * 64) / 2 ^ 6 % 32 ≡ k
 high_sa o k l =
@@ -220,7 +220,7 @@ module _ (w : ℕ) where
   unfolding extended_by
   twenty_six = by_test (ltb (w % (2 ^ 25 * 2)) (2 ^ 25)) (λ q. rw q (omega arith)) (λ q. rw q (omega arith))
 
-  or_else : (b : Bool) {x y : Instruction} → Fields w x → Fields w y → Fields w (if b then x else y)
+  or_else : (b : Bool) {x y : Instruction} → Fields w x → Fields w y → Fields w (when b then x else y)
   or_else true e q = e
   or_else false e q = q
 

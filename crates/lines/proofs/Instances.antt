@@ -4,7 +4,7 @@ use mathlib.Core.Bool.{Bool, true, false}
 use mathlib.Core.List.{List, [], ◌∷◌, ◌++◌}
 use Prim.Native.Nat.{ℕ, zero, suc, ◌^◌, ◌<◌}
 use native.Mathlib.Omega.{arith}
-use Rattle.dlx.specs.Choice.{if◌then◌else◌}
+use Rattle.dlx.specs.Choice.{when◌then◌else◌}
 use Rattle.dlx.specs.Instructions.{instruction_of, register_type, part_type}
 use Rattle.decimal.specs.Decimals.{decimal, decimal_in, signed_text}
 use Rattle.decimal.specs.Texts.{ascii, same}
@@ -22,7 +22,7 @@ unfolding ascii same decimal decimal_in line_of place_of coded code_of bare_of c
 nameless w l e =
     let t : right (ascii "word 536936453") ≡ true = (right_exactly (ascii "word 536936453")).1 (w, l, e) in
     let f : right (ascii "word 536936453") ≡ false = refl in
-    let z : ◌≡◌ {A = ℕ} 1 0 = ap (λ (b : Bool). if b then 1 else 0) (sym t ∙ f) in
+    let z : ◌≡◌ {A = ℕ} 1 0 = ap (λ (b : Bool). when b then 1 else 0) (sym t ∙ f) in
     omega arith
 
 -- rfe, and rfe with an ignored bit, have two lines

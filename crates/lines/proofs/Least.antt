@@ -8,7 +8,7 @@ use native.Mathlib.Omega.{arith}
 use borrow.Author.Tests.{eqb-true, ne_eqb, leb-true}
 use lib.Dec.{eqb, leb}
 use Rattle.dlx.proofs.Tests.{and_left}
-use Rattle.dlx.specs.Choice.{if◌then◌else◌}
+use Rattle.dlx.specs.Choice.{when◌then◌else◌}
 use Rattle.dlx.specs.Words.{opcode, function, rs1, rs2, rd_register, sa, extended_by}
 use Rattle.dlx.specs.Instructions.{instruction_of, register_type, part_type}
 use Rattle.dlx.specs.declared.instruction.Instruction.{Instruction}
@@ -293,7 +293,7 @@ module _ (w : ℕ) (lw : w < 2 ^ 32) where
           less = omega (arith, zero_parts);
         }
 
-  or_again : (b : Bool) {x y : Instruction} → (b ≡ true → Again w x) → Again w y → Again w (if b then x else y)
+  or_again : (b : Bool) {x y : Instruction} → (b ≡ true → Again w x) → Again w y → Again w (when b then x else y)
   or_again true f g = f refl
   or_again false f g = g
 

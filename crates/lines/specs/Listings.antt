@@ -1,6 +1,6 @@
 -- Listings of many words, and what the calls answer.
 use Rattle.std.specs.Prelude.{◌≡◌, Bool, true, false, not, List, [], ◌∷◌, ◌++◌, ℕ, suc, eqb, ltb, length, drop}
-use Rattle.dlx.specs.Choice.{if◌then◌else◌}
+use Rattle.dlx.specs.Choice.{when◌then◌else◌}
 use Rattle.lines.specs.Lines.{line_of, candidate, right}
 
 -- every word's line, and a newline behind each
@@ -75,8 +75,8 @@ answer n d k o = record { number = n; detail = d; count = k; out = o }
 -- the words of a text's lines, by what a right line and its word are
 unfoldable pub read_by : (List ℕ → Bool) → (List ℕ → ℕ) → List ℕ → List ℕ → Answer
 read_by f w t out =
-    if not (eqb (wrong_by f 1 (lines_of t)) 0) then answer 18 (wrong_by f 1 (lines_of t)) 0 out else
-    if ltb (length out) (length (lines_of t)) then answer 13 0 0 out else
+    when not (eqb (wrong_by f 1 (lines_of t)) 0) then answer 18 (wrong_by f 1 (lines_of t)) 0 out else
+    when ltb (length out) (length (lines_of t)) then answer 13 0 0 out else
     answer 0 0 (length (lines_of t)) (words_by w (lines_of t) ++ drop (length (lines_of t)) out)
 
 abbrev pub assembled : List ℕ → List ℕ → Answer
@@ -84,5 +84,5 @@ assembled t out = read_by right candidate t out
 
 unfoldable pub listed : List ℕ → List ℕ → Answer
 listed ws out =
-    if ltb (length out) (length (listing ws)) then answer 13 0 0 out else
+    when ltb (length out) (length (listing ws)) then answer 13 0 0 out else
     answer 0 0 (length (listing ws)) (listing ws ++ drop (length (listing ws)) out)

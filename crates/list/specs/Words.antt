@@ -1,6 +1,6 @@
 -- The words of a raw file, read in pieces, and what is printed for each piece.
 use Rattle.std.specs.Prelude.{◌≡◌, List, [], ◌∷◌, ◌++◌, ℕ, ◌+◌, ◌*◌, ◌/◌, ◌%◌, ◌^◌, ◌<◌, eqb, get_or}
-use Rattle.dlx.specs.Choice.{if◌then◌else◌}
+use Rattle.dlx.specs.Choice.{when◌then◌else◌}
 use Rattle.lines.specs.Listings.{listing}
 use Rattle.list.specs.declared.words.Rest.{Rest}
 
@@ -25,7 +25,7 @@ further r b = record { word = r.word / 2 ^ 8 + b * 2 ^ 24; count = r.count % 4 +
 
 -- the word that this byte makes whole, if it does
 unfoldable pub completed : Rest → ℕ → List ℕ
-completed r b = if eqb (r.count % 4) 3 then (further r b).word ∷ [] else []
+completed r b = when eqb (r.count % 4) 3 then (further r b).word ∷ [] else []
 
 unfoldable pub rest_behind : Rest → List ℕ → Rest
 rest_behind r [] = r

@@ -1,6 +1,6 @@
 -- What look prints for what a house file comes to: a block of lines for each partition, or the first refusal of the file, of boot, or of run.
 use Rattle.std.specs.Prelude.{Bool, List, ◌++◌, ℕ, ◌+◌, ◌*◌, ◌%◌, min, eqb, get_or}
-use Rattle.dlx.specs.Choice.{if◌then◌else◌}
+use Rattle.dlx.specs.Choice.{when◌then◌else◌}
 use Rattle.dlx.specs.Interrupts.{level_of}
 use Rattle.dlx.specs.declared.partition.Partition.{Partition}
 use Rattle.dlx.specs.declared.partition.Processor.{Processor}
@@ -22,32 +22,32 @@ named name n = name ++ decimal n
 -- a cause, by its number
 unfoldable pub cause_of : ℕ → List ℕ
 cause_of level =
-    if eqb level 1 then ascii "ill, an illegal instruction" else
-    if eqb level 2 then ascii "mal, a misaligned address" else
-    if eqb level 3 then ascii "pff, a page fault in fetching" else
-    if eqb level 4 then ascii "pfls, a page fault of a load or store" else
-    if eqb level 5 then ascii "trap" else
-    if eqb level 6 then ascii "ovf, an overflow" else
-    if eqb level 13 then ascii "timer, TCOUNT reached 0" else
+    when eqb level 1 then ascii "ill, an illegal instruction" else
+    when eqb level 2 then ascii "mal, a misaligned address" else
+    when eqb level 3 then ascii "pff, a page fault in fetching" else
+    when eqb level 4 then ascii "pfls, a page fault of a load or store" else
+    when eqb level 5 then ascii "trap" else
+    when eqb level 6 then ascii "ovf, an overflow" else
+    when eqb level 13 then ascii "timer, TCOUNT reached 0" else
     ascii "no cause, since ECA was written"
 
 -- a translation fault, by its number
 unfoldable pub fault_of : ℕ → List ℕ
 fault_of fault =
-    if eqb fault 0 then ascii "none" else
-    if eqb fault 1 then ascii "1, a page not below PTL" else
-    if eqb fault 2 then ascii "2, a page above 1023" else
-    if eqb fault 3 then ascii "3, a table entry outside the pages" else
-    if eqb fault 4 then ascii "4, a table entry that is not valid" else
-    if eqb fault 5 then ascii "5, a page that the guest does not have" else
-    if eqb fault 6 then ascii "6, a store to a protected page" else
+    when eqb fault 0 then ascii "none" else
+    when eqb fault 1 then ascii "1, a page not below PTL" else
+    when eqb fault 2 then ascii "2, a page above 1023" else
+    when eqb fault 3 then ascii "3, a table entry outside the pages" else
+    when eqb fault 4 then ascii "4, a table entry that is not valid" else
+    when eqb fault 5 then ascii "5, a page that the guest does not have" else
+    when eqb fault 6 then ascii "6, a store to a protected page" else
     ascii "7, an address beyond the pages in system mode"
 
 unfoldable pub state_of : Bool → List ℕ
-state_of running = if running then ascii ": running, " else ascii ": stopped, "
+state_of running = when running then ascii ": running, " else ascii ": stopped, "
 
 unfoldable pub mode_of : ℕ → List ℕ
-mode_of mode = if eqb mode 0 then ascii "system mode" else ascii "user mode"
+mode_of mode = when eqb mode 0 then ascii "system mode" else ascii "user mode"
 
 -- ---- a partition's lines
 
@@ -63,7 +63,7 @@ head_of i running p =
 unfoldable pub interrupt_of : ℕ → ℕ → List ℕ
 interrupt_of eca edata =
     ascii "  latest interrupt: "
-    ++ (if eqb eca 0 then ascii "none\n" else cause_of (level_of eca) ++ (named (ascii ", EDATA ") edata ++ ascii "\n"))
+    ++ (when eqb eca 0 then ascii "none\n" else cause_of (level_of eca) ++ (named (ascii ", EDATA ") edata ++ ascii "\n"))
 
 unfoldable pub fault_line_of : ℕ → List ℕ
 fault_line_of fault = ascii "  latest translation fault: " ++ (fault_of fault ++ ascii "\n")
@@ -92,7 +92,7 @@ specials_of p t k =
 
 -- register j: eight to a row, which begins with the number of its first
 unfoldable pub register_of : ℕ → ℕ → List ℕ
-register_of j w = if eqb (j % 8) 0 then named (ascii "\n  r") j ++ named (ascii ": ") w else named (ascii " ") w
+register_of j w = when eqb (j % 8) 0 then named (ascii "\n  r") j ++ named (ascii ": ") w else named (ascii " ") w
 
 unfoldable pub registers_from : List ℕ → ℕ → List ℕ
 registers_from regs i = joined (λ j. register_of j (get_or regs (i * 32 + j) 0)) 32
@@ -122,4 +122,4 @@ look_of h =
     ++ (turn_of h.count h.q h.current h.left ++ joined (λ i. block_of i (runs h i) (partition h i) h.regs) (min h.count 8))
 
 unfoldable pub printed : Answered → List ℕ
-printed a = if eqb a.verdict.number 0 then look_of a.world.house else refusal a.verdict
+printed a = when eqb a.verdict.number 0 then look_of a.world.house else refusal a.verdict

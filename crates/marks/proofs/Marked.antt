@@ -9,7 +9,7 @@ use borrow.Author.Tests.{eq-eqb, ne_eqb}
 use lib.Dec.{eqb}
 use lib.ListN.{length, get_or, set, replicate, length-set}
 use lib.Seq.{get_or-set_same, get_or-set_other}
-use Rattle.dlx.specs.Choice.{if◌then◌else◌}
+use Rattle.dlx.specs.Choice.{when◌then◌else◌}
 use Rattle.dlx.proofs.Tests.{by_test, by_eq}
 use Rattle.house.specs.Lists.{any, first_from}
 use Rattle.house.specs.Damage.{stands}
@@ -28,7 +28,7 @@ module _ (fr : List ℕ) (tag : ℕ) (o : List ℕ) where
   marked_more o' k f m e = rw (m, e, add-one)
 
   -- a frame's mark is the tag where the frame is among the marked ones, else as it was
-  pub marked_at : (k f : ℕ) → f < length o → get_or (marked fr tag o k) f 0 ≡ (if stands fr k f then tag else get_or o f 0)
+  pub marked_at : (k f : ℕ) → f < length o → get_or (marked fr tag o k) f 0 ≡ (when stands fr k f then tag else get_or o f 0)
   unfolding marked any
   marked_at zero f l = refl
   marked_at (suc k) f l =

@@ -10,7 +10,7 @@ use borrow.Author.Tests.{eq-eqb, ne_eqb, eqb-false, lt-ltb, le-ltb, lt-leb, le-l
 use lib.Dec.{eqb, ltb, leb}
 use lib.ListN.{length, get_or, take, drop, replicate, length-append, length-replicate, replicate-append-replicate}
 use lib.Seq.{take-append-le, take_all, take_at, length-take-le}
-use Rattle.dlx.specs.Choice.{if◌then◌else◌}
+use Rattle.dlx.specs.Choice.{when◌then◌else◌}
 use Rattle.dlx.proofs.Tests.{by_test}
 use Rattle.house.proofs.Lists.Bounded.{one_way}
 use Rattle.house.specs.Boot.{Verdict, verdict}
@@ -105,7 +105,7 @@ unfolding verdict_of
 file_refused of r n d (wrong o) e z = ap (λ (v : Verdict). none_ran v.number v.detail) e ∙ r o
 file_refused of r n d (right f) e z = absurd (z (ap (λ (v : Verdict). v.number) e))
 
-chosen : (of : Reading → Answered) (b : Bool) (f : File) (o n d : ℕ) → verdict n d ≡ verdict_of (if b then right f else wrong o) → n ≡ 0 → of (right f) ≡ of (if b then right f else wrong o)
+chosen : (of : Reading → Answered) (b : Bool) (f : File) (o n d : ℕ) → verdict n d ≡ verdict_of (when b then right f else wrong o) → n ≡ 0 → of (right f) ≡ of (when b then right f else wrong o)
 unfolding verdict_of
 chosen of true f o n d e z = refl
 chosen of false f o n d e z = absurd (let k : n ≡ 15 = ap (λ (v : Verdict). v.number) e in omega arith)
@@ -313,7 +313,7 @@ way_turned way way' head x m same alike (bs, r, h) = (
   all_turned way.wrong way'.wrong head same x.taken bs r,
   λ file of.
       h file of
-      ∙ ap (λ (a : Answered). if x.taken.failed then none_ran 0 0 else a) (alike file (sym (first_same way.wrong x.taken bs file r.all of) ∙ r.first)),
+      ∙ ap (λ (a : Answered). when x.taken.failed then none_ran 0 0 else a) (alike file (sym (first_same way.wrong x.taken bs file r.all of) ∙ r.first)),
 )
 
 -- the lent memory comes back with the rest of it behind
@@ -404,7 +404,7 @@ read_on way t file e = rw e
 -- one that tells nothing of shadows prints the same by either engine
 module _ (u : Bool) (printed : Answered → List ℕ) (same : (a : Answered) → printed (emptied_by u a) ≡ printed a) (t : Taken) where
   pub told_by_lem : (text : List ℕ) → Told (house_file_by u) printed t text → Told house_file printed t text
-  told_by_lem text (bs, all, h) = (bs, all, λ file is. h file is ∙ ap (λ (x : List ℕ). if t.failed then [] else x) (same (ran_of (reading_of file))))
+  told_by_lem text (bs, all, h) = (bs, all, λ file is. h file is ∙ ap (λ (x : List ℕ). when t.failed then [] else x) (same (ran_of (reading_of file))))
 
 module _ (way : Way) (printed : Answered → List ℕ) (x : Ran) (m : List ℕ) (h : Handed way x m) where
   pub told_nothing : x.taken.failed ≡ true → Told way printed x.taken []

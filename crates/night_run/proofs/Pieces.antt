@@ -11,7 +11,7 @@ use lib.ListN.{length, take, length-append, length-take}
 use lib.Seq.{take-append-le, take_all, length-take-le}
 use native.Mathlib.Nat.{min-eq_left}
 use lib.Signed.{lt_z}
-use Rattle.dlx.specs.Choice.{if◌then◌else◌}
+use Rattle.dlx.specs.Choice.{when◌then◌else◌}
 use Rattle.files.specs.Counts.{IsPrefixLen, clamp_len}
 use Rattle.dlx.proofs.Kept.{either}
 use Rattle.dlx.proofs.Tests.{by_test}
@@ -124,15 +124,15 @@ module _ (t t' : Taken) (n : ℕ) (b : List ℕ) (r : OneRead t t' n b) where
       }
 
   -- how many bytes may still come
-  pub falls : t.ended ≡ false → (if t'.ended then 0 else 2 ^ 64 - t'.bytes) < (if t.ended then 0 else 2 ^ 64 - t.bytes)
+  pub falls : t.ended ≡ false → (when t'.ended then 0 else 2 ^ 64 - t'.bytes) < (when t.ended then 0 else 2 ^ 64 - t.bytes)
   falls e =
       let x = read_added in
       let f = x.fits r.fits in
-      let now : (if t.ended then 0 else 2 ^ 64 - t.bytes) ≡ 2 ^ 64 - t.bytes = rw e in
+      let now : (when t.ended then 0 else 2 ^ 64 - t.bytes) ≡ 2 ^ 64 - t.bytes = rw e in
       by_test t'.ended
-      (λ y. let z : (if t'.ended then 0 else 2 ^ 64 - t'.bytes) ≡ 0 = rw y in omega arith)
+      (λ y. let z : (when t'.ended then 0 else 2 ^ 64 - t'.bytes) ≡ 0 = rw y in omega arith)
       (λ y.
-      let z : (if t'.ended then 0 else 2 ^ 64 - t'.bytes) ≡ 2 ^ 64 - t'.bytes = rw y in
+      let z : (when t'.ended then 0 else 2 ^ 64 - t'.bytes) ≡ 2 ^ 64 - t'.bytes = rw y in
       let k : (length (take n b) ≡ 0 → ⊥) = x.some y in
       positive (length (take n b)) k (λ p. omega (arith, x.count)))
     where
@@ -141,7 +141,7 @@ module _ (t t' : Taken) (n : ℕ) (b : List ℕ) (r : OneRead t t' n b) where
       positive (suc i) k f = f (omega arith)
 
 abbrev pub left : Taken → ℕ
-left t = if t.ended then 0 else 2 ^ 64 - t.bytes
+left t = when t.ended then 0 else 2 ^ 64 - t.bytes
 
 -- ---- the first bytes
 

@@ -1,7 +1,7 @@
 -- A file read in pieces: what each read adds, and what all of them come to.
 use Rattle.std.specs.Prelude.{◌≡◌, Bool, true, false, ◌&&◌, ◌||◌, List, [], ◌++◌, ℕ, ◌+◌, ◌<◌, ◌≤◌, ◌^◌, ltb, leb, eqb, ℤ, pos, negsuc, length, get_or, take}
 use Rattle.std.specs.Int.Signed.{lt_z}
-use Rattle.dlx.specs.Choice.{if◌then◌else◌}
+use Rattle.dlx.specs.Choice.{when◌then◌else◌}
 use Rattle.files.specs.Counts.{Moved}
 use Rattle.night_run.specs.declared.input.Taken.{Taken}
 
@@ -29,14 +29,14 @@ came (negsuc n) buffer = []
 
 -- those of them that count: with the 2^64th byte the reads fail
 unfoldable pub brought : Taken → ℤ → List ℕ → List ℕ
-brought t answer buffer = if ltb (t.bytes + length (came answer buffer)) (2 ^ 64) then came answer buffer else []
+brought t answer buffer = when ltb (t.bytes + length (came answer buffer)) (2 ^ 64) then came answer buffer else []
 
 -- After such a read. Without a byte the reads are over, and failed where the answer is below 0. They also fail at the 2^64th byte.
 unfoldable pub after_read : Taken → ℤ → List ℕ → Taken
 after_read t answer buffer =
     let bs = came answer buffer in
-    if eqb (length bs) 0 then over t (lt_z answer (pos 0)) else
-    if ltb (t.bytes + length bs) (2 ^ 64) then onward t (length bs) else
+    when eqb (length bs) 0 then over t (lt_z answer (pos 0)) else
+    when ltb (t.bytes + length bs) (2 ^ 64) then onward t (length bs) else
     over t true
 
 -- one read more: what it answered, the buffer that it left, how the reads stand then, and how many bytes at the buffer's start are new

@@ -1,6 +1,6 @@
 -- What a file comes to: the first refusal of the file, of boot, or of run; or the house and memory after the run, or those that were saved.
 use Rattle.std.specs.Prelude.{◌≡◌, Bool, true, false, not, ◌&&◌, List, [], ℕ, min, ltb, leb, eqb, length, take, drop, replicate}
-use Rattle.dlx.specs.Choice.{if◌then◌else◌}
+use Rattle.dlx.specs.Choice.{when◌then◌else◌}
 use Rattle.house.specs.House.{no_house}
 use Rattle.house.specs.Boot.{Verdict, verdict}
 use Rattle.house.specs.Turns.{World, world}
@@ -23,7 +23,7 @@ none_ran number detail = answered (verdict number detail) (world no_house [])
 -- ---- a house file
 
 unfoldable pub after_boot : Answered → ℕ → Answered
-after_boot a steps = if eqb a.verdict.number 0 then run_call a.world steps else a
+after_boot a steps = when eqb a.verdict.number 0 then run_call a.world steps else a
 
 unfoldable pub ran_of : Reading → Answered
 ran_of (wrong at) = none_ran 15 at
@@ -42,7 +42,7 @@ is_saved file = leb 6 (length file) && eqb (kind file) 5
 
 -- how many words its memory has, by the second word of that record; no more than 1,024 frames are lent
 unfoldable pub room_for : List ℕ → ℕ
-room_for head = if ltb (length head) 22 then 0 else min (number (take 4 (drop 10 head))) 1048576
+room_for head = when ltb (length head) 22 then 0 else min (number (take 4 (drop 10 head))) 1048576
 
 -- the zeros over which it is read
 unfoldable pub lent_for : List ℕ → List ℕ
@@ -87,8 +87,8 @@ saved_file = record { answer = λ file. (saved_over (lent_for file)).answer file
 -- the first record tells; this is what a house file comes to
 abbrev pub saved_or : Way → Way
 saved_or house = record {
-  answer = λ file. if is_saved (take 22 file) then saved_file.answer file else house.answer file;
-  wrong = λ bs. if is_saved (take 22 bs) then saved_file.wrong bs else house.wrong bs;
+  answer = λ file. when is_saved (take 22 file) then saved_file.answer file else house.answer file;
+  wrong = λ bs. when is_saved (take 22 bs) then saved_file.wrong bs else house.wrong bs;
 }
 
 abbrev pub either_file : Way
@@ -125,7 +125,7 @@ answer_in x memory = answered (verdict x.number x.detail) (world x.house (take x
 
 -- for a file, once it is read: nothing where a read failed
 abbrev pub handed : Way → Taken → List ℕ → Answered
-handed way t file = if t.failed then none_ran 0 0 else way.answer file
+handed way t file = when t.failed then none_ran 0 0 else way.answer file
 
 -- the answer is the one for every file that was read like this
 abbrev pub Handed : Way → Ran → List ℕ → Type 0
@@ -145,7 +145,7 @@ Left way t w =
 
 -- for a file, once it is read, by what it prints for an answer; nothing where a read failed
 abbrev pub told_by : Way → (Answered → List ℕ) → Taken → List ℕ → List ℕ
-told_by way printed t file = if t.failed then [] else printed (way.answer file)
+told_by way printed t file = when t.failed then [] else printed (way.answer file)
 
 -- the text is the one for every file that was read like this
 abbrev pub Told : Way → (Answered → List ℕ) → Taken → List ℕ → Type 0

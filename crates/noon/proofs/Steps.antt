@@ -11,7 +11,7 @@ use lib.ListN.{length, get_or, set, take, drop, length-append, length-drop, leng
 use lib.Seq.{get_or-set_same, get_or-set_other, length-take-le, take_at}
 use Rattle.decimal.specs.Texts.{Puts}
 use Rattle.decimal.proofs.Texts.{whole}
-use Rattle.dlx.specs.Choice.{if◌then◌else◌}
+use Rattle.dlx.specs.Choice.{when◌then◌else◌}
 use Rattle.dlx.proofs.Tests.{by_test}
 use Rattle.contents.specs.Contents.{list_words}
 use Rattle.asked.specs.Asked.{Going, going, took_word, took_words, at_first}
@@ -49,7 +49,7 @@ memory_same pages frames table f g (suc n) h =
 
 -- the images with one more
 with_one : (ℕ → List ℕ) → ℕ → List ℕ → ℕ → List ℕ
-with_one f k x j = if eqb j k then x else f j
+with_one f k x j = when eqb j k then x else f j
 
 one_there : (f : ℕ → List ℕ) (k : ℕ) (x : List ℕ) → with_one f k x k ≡ x
 unfolding with_one

@@ -1,6 +1,6 @@
 -- What noon refuses, and what it may write and tell: from its words and from what it read of the images.
 use Rattle.std.specs.Prelude.{◌≡◌, Bool, true, List, ℕ, ◌+◌, ◌<◌, min, eqb, length, get_or, take, set}
-use Rattle.dlx.specs.Choice.{if◌then◌else◌}
+use Rattle.dlx.specs.Choice.{when◌then◌else◌}
 use Rattle.house.specs.Boot.{Verdict, verdict}
 use Rattle.house.specs.Calls.{Answered}
 use Rattle.housefile.specs.Records.{File, file, right, reading_of}
@@ -12,7 +12,7 @@ use Rattle.laying.specs.Laid.{count_of, sum_words, laid_image, memory_of}
 
 -- the night's refusal; 0 and 0 where it runs
 unfoldable pub night_refusal : Answered → Verdict
-night_refusal a = if eqb a.verdict.number 0 then verdict 0 0 else a.verdict
+night_refusal a = when eqb a.verdict.number 0 then verdict 0 0 else a.verdict
 
 -- the night boots and runs the file of these contents
 abbrev pub Runs : File → Type 0

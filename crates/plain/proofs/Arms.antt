@@ -1,6 +1,6 @@
 -- The arms of `act` and of `register_type`: what a helper's answer says of the word that asked for it.
 use Rattle.std.proofs.Common.{◌≡◌, ℕ, ◌+◌, ◌-◌, ◌*◌, ◌/◌, ◌%◌, ◌^◌, ◌<◌, ◌≤◌, Bool, true, false, eqb, List, get_or, sym, refl, ap, ◌∙◌, subst, arith}
-use Rattle.dlx.specs.Choice.{if◌then◌else◌}
+use Rattle.dlx.specs.Choice.{when◌then◌else◌}
 use Rattle.dlx.specs.Words.{plus, opcode, rs1, rs2, rd_immediate, rd_register, sa, function, extended, test_of}
 use Rattle.dlx.specs.Processor.{user, no_timer, special_of, behind}
 use Rattle.dlx.specs.Instructions.{instruction_of, register_type}
@@ -58,11 +58,11 @@ module _ (fr : List ℕ) (n : ℕ) (p : Processor) (t : Table) (page y : ℕ) (r
     pub lhgi_arm : (y' : ℕ) (regs' : List ℕ) → opcode w ≡ 15 → regs' ≡ written regs d (i % 65536 * 65536) → y' ≡ plus y 4 → Acts regs' ws y'
     lhgi_arm y' regs' h a b = next_does fr n p t page y regs regs' ws sh d (i % 65536 * 65536) y' (λ k c. effect_of c t k regs (instruction_of w)) (λ dpc k. lhgi_asks w t regs d r i q x z h (pair_of p dpc (plus y page)) k) a b
 
-    pub beqz_arm : (near next y' : ℕ) → opcode w ≡ 4 → near ≡ plus y i → next ≡ plus y 4 → y' ≡ (if eqb (get_or regs r 0) 0 then near else next) → Acts regs ws y'
-    beqz_arm near next y' h a b e = plain_does fr n p t page y regs regs ws sh 0 0 y' (λ c. if eqb (get_or regs r 0) 0 then plus c.pc i else behind c) (λ k c. effect_of c t k regs (instruction_of w)) (λ dpc k. beqz_asks w t regs d r i q x z h (pair_of p dpc (plus y page)) k) (unwritten regs) (λ _. lands fr n p t page y (eqb (get_or regs r 0) 0) i near next y' a b e)
+    pub beqz_arm : (near next y' : ℕ) → opcode w ≡ 4 → near ≡ plus y i → next ≡ plus y 4 → y' ≡ (when eqb (get_or regs r 0) 0 then near else next) → Acts regs ws y'
+    beqz_arm near next y' h a b e = plain_does fr n p t page y regs regs ws sh 0 0 y' (λ c. when eqb (get_or regs r 0) 0 then plus c.pc i else behind c) (λ k c. effect_of c t k regs (instruction_of w)) (λ dpc k. beqz_asks w t regs d r i q x z h (pair_of p dpc (plus y page)) k) (unwritten regs) (λ _. lands fr n p t page y (eqb (get_or regs r 0) 0) i near next y' a b e)
 
-    pub bnez_arm : (near next y' : ℕ) → opcode w ≡ 5 → near ≡ plus y i → next ≡ plus y 4 → y' ≡ (if eqb (get_or regs r 0) 0 then next else near) → Acts regs ws y'
-    bnez_arm near next y' h a b e = plain_does fr n p t page y regs regs ws sh 0 0 y' (λ c. if eqb (get_or regs r 0) 0 then behind c else plus c.pc i) (λ k c. effect_of c t k regs (instruction_of w)) (λ dpc k. bnez_asks w t regs d r i q x z h (pair_of p dpc (plus y page)) k) (unwritten regs) (λ _. lands_not fr n p t page y (eqb (get_or regs r 0) 0) i near next y' a b e)
+    pub bnez_arm : (near next y' : ℕ) → opcode w ≡ 5 → near ≡ plus y i → next ≡ plus y 4 → y' ≡ (when eqb (get_or regs r 0) 0 then next else near) → Acts regs ws y'
+    bnez_arm near next y' h a b e = plain_does fr n p t page y regs regs ws sh 0 0 y' (λ c. when eqb (get_or regs r 0) 0 then behind c else plus c.pc i) (λ k c. effect_of c t k regs (instruction_of w)) (λ dpc k. bnez_asks w t regs d r i q x z h (pair_of p dpc (plus y page)) k) (unwritten regs) (λ _. lands_not fr n p t page y (eqb (get_or regs r 0) 0) i near next y' a b e)
 
     pub jr_arm : (v y' : ℕ) → opcode w ≡ 22 → plus v page ≡ get_or regs r 0 → y' ≡ v → Acts regs ws y'
     jr_arm v y' h a b = plain_does fr n p t page y regs regs ws sh 0 0 y' (λ c. get_or regs r 0) (λ k c. effect_of c t k regs (instruction_of w)) (λ dpc k. jr_asks w t regs d r i q x z h (pair_of p dpc (plus y page)) k) (unwritten regs) (λ _. ap (λ (j : ℕ). plus j page) b ∙ a)

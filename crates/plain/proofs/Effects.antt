@@ -1,6 +1,6 @@
 -- What a word asks for, by its opcode or its function: the laws that the arms of `act` and of `register_type` cite.
 use Rattle.std.proofs.Common.{◌≡◌, ℕ, ◌+◌, ◌-◌, ◌*◌, ◌/◌, ◌%◌, ◌^◌, ◌<◌, ◌≤◌, Bool, true, false, ◌&&◌, eqb, leb, List, get_or, sym, refl, ap, ◌∙◌, subst, arith, ne_eqb, le-leb}
-use Rattle.dlx.specs.Choice.{if◌then◌else◌}
+use Rattle.dlx.specs.Choice.{when◌then◌else◌}
 use Rattle.dlx.specs.Words.{plus, opcode, rs1, rs2, rd_immediate, rd_register, sa, function, extended}
 use Rattle.dlx.specs.Processor.{user, no_timer, special_of, behind}
 use Rattle.dlx.specs.Instructions.{instruction_of, register_type, part_type}
@@ -219,11 +219,11 @@ module _ (w : ℕ) where
     unfolding effect_of
     lhgi_asks h c k = simp (o_15 h, ← q, ← y)
 
-    pub beqz_asks : opcode w ≡ 4 → (c : Processor) (k : Timer) → effect_of c t k regs (instruction_of w) ≡ Done (Plain 0 0 (if eqb (get_or regs r 0) 0 then plus c.pc i else behind c))
+    pub beqz_asks : opcode w ≡ 4 → (c : Processor) (k : Timer) → effect_of c t k regs (instruction_of w) ≡ Done (Plain 0 0 (when eqb (get_or regs r 0) 0 then plus c.pc i else behind c))
     unfolding effect_of
     beqz_asks h c k = simp (o_4 h, ← x, ← y)
 
-    pub bnez_asks : opcode w ≡ 5 → (c : Processor) (k : Timer) → effect_of c t k regs (instruction_of w) ≡ Done (Plain 0 0 (if eqb (get_or regs r 0) 0 then behind c else plus c.pc i))
+    pub bnez_asks : opcode w ≡ 5 → (c : Processor) (k : Timer) → effect_of c t k regs (instruction_of w) ≡ Done (Plain 0 0 (when eqb (get_or regs r 0) 0 then behind c else plus c.pc i))
     unfolding effect_of
     bnez_asks h c k = simp (o_5 h, ← x, ← y)
 

@@ -2,7 +2,7 @@
 use Rattle.std.proofs.Common.{◌≡◌, ℕ, zero, suc, ◌+◌, ◌-◌, ◌*◌, ◌/◌, ◌%◌, ◌^◌, ◌<◌, ◌≤◌, Bool, true, false, not, ◌&&◌, ◌||◌, eqb, ltb, leb, List, length, get_or, set, sym, refl, ap, ◌∙◌, subst, true≢false, arith, ltb-false, ltb-true, le-ltb, lt-ltb, eq-eqb, ne_eqb, eqb-true, le-leb, leb-false}
 use mathlib.Core.Bool.{false≢true}
 use borrow.Author.Tests.{lt-leb}
-use Rattle.dlx.specs.Choice.{if◌then◌else◌}
+use Rattle.dlx.specs.Choice.{when◌then◌else◌}
 use Rattle.dlx.specs.Words.{plus}
 use Rattle.dlx.specs.Fields.{aligned, width, brought, placed}
 use Rattle.dlx.specs.Processor.{user, went_to, behind}
@@ -101,11 +101,11 @@ module _ (fr : List ℕ) (n : ℕ) (p : Processor) (t : Table) (page y : ℕ) wh
   shifts z y' b = ap (λ (j : ℕ). plus j page) b ∙ shift z
 
   -- a branch
-  pub lands : (b : Bool) (i near next y' : ℕ) → near ≡ plus y i → next ≡ plus y 4 → y' ≡ (if b then near else next) → plus y' page ≡ (if b then plus (plus y page) i else plus (plus y page) 4)
+  pub lands : (b : Bool) (i near next y' : ℕ) → near ≡ plus y i → next ≡ plus y 4 → y' ≡ (when b then near else next) → plus y' page ≡ (when b then plus (plus y page) i else plus (plus y page) 4)
   lands true i near next y' e f g = shifts i y' (g ∙ e)
   lands false i near next y' e f g = shifts 4 y' (g ∙ f)
 
-  pub lands_not : (b : Bool) (i near next y' : ℕ) → near ≡ plus y i → next ≡ plus y 4 → y' ≡ (if b then next else near) → plus y' page ≡ (if b then plus (plus y page) 4 else plus (plus y page) i)
+  pub lands_not : (b : Bool) (i near next y' : ℕ) → near ≡ plus y i → next ≡ plus y 4 → y' ≡ (when b then next else near) → plus y' page ≡ (when b then plus (plus y page) 4 else plus (plus y page) i)
   lands_not true i near next y' e f g = shifts 4 y' (g ∙ f)
   lands_not false i near next y' e f g = shifts i y' (g ∙ e)
 

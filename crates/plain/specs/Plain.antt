@@ -1,6 +1,6 @@
 -- Plain steps: what is seen without a walk, and the second half of a step of a spell.
 use Rattle.std.specs.Prelude.{◌≡◌, ℕ, ◌+◌, ◌-◌, ◌*◌, ◌/◌, ◌%◌, ◌^◌, ◌<◌, ◌≤◌, Bool, true, false, not, ◌||◌, List, length, ◌==◌, nat_lt, slice_index}
-use Rattle.dlx.specs.Choice.{if◌then◌else◌}
+use Rattle.dlx.specs.Choice.{when◌then◌else◌}
 use Rattle.dlx.specs.Words.{plus}
 use Rattle.dlx.specs.Processor.{user, went_to, no_timer, special_of}
 use Rattle.dlx.specs.Machine.{Ops, Core, core, Desk, accessed_at}
@@ -16,15 +16,15 @@ use Rattle.addresses.specs.Memory.{hosted, host, host_memory}
 
 -- the entry that serves an access without a walk
 unfoldable pub seen_of : List ℕ → ℕ → List ℕ → Bool → ℕ → ℕ
-seen_of fr n sh user a = if user then slice_index sh (a / 4096) else hosted fr (direct n a)
+seen_of fr n sh user a = when user then slice_index sh (a / 4096) else hosted fr (direct n a)
 
 -- whether a frame holds the table
 unfoldable pub holds_of : List ℕ → ℕ → Table → ℕ → Bool
-holds_of fr n t f = if nat_lt t.pto n then (slice_index fr t.pto == f) else false
+holds_of fr n t f = when nat_lt t.pto n then (slice_index fr t.pto == f) else false
 
 -- the frame that holds the table, or a number that is no frame's
 unfoldable pub held_of : List ℕ → ℕ → Table → ℕ
-held_of fr n t = if nat_lt t.pto n then slice_index fr t.pto else 4294967295
+held_of fr n t = when nat_lt t.pto n then slice_index fr t.pto else 4294967295
 
 -- a list whose first numbers are the special registers by their numbers, but TCOUNT and TLOAD
 abbrev pub Numbered : List ℕ → Processor → Table → Type 0

@@ -2,7 +2,7 @@
 #![tactic(auto)]
 
 ghost use Rattle.std.specs.Prelude.{◌≡◌, ℕ, ◌-◌, ◌*◌, ◌%◌, ◌<◌, ◌≤◌, true, false, ◌&&◌, ◌||◌, List, length, nat_eq, nat_lt};
-ghost use Rattle.dlx.specs.Choice.{if◌then◌else◌};
+ghost use Rattle.dlx.specs.Choice.{when◌then◌else◌};
 ghost use Rattle.dlx.specs.Fields.{aligned, loading, storing, width};
 ghost use Rattle.dlx.specs.Words.{plus, minus, rs1 as rs1_of, rd_immediate, extended, test_of};
 ghost use Rattle.dlx.specs.Processor.{user, no_timer, special_of};
@@ -90,7 +90,7 @@ fn to(v: u32, target: &mut u32) -> bool
 
 // To one target or the other.
 fn either(c: bool, a: u32, b: u32, target: &mut u32) -> bool
-    ensures { (result ≡ true) × (target.new ≡ (if c then a else b)) }
+    ensures { (result ≡ true) × (target.new ≡ (when c then a else b)) }
 {
     if c {
         *target = a;
@@ -495,7 +495,7 @@ fn high_word(regs: &mut [u32], w: u32, y: u32, target: &mut u32) -> bool
 // A branch where register rs1 is 0, or where it is not.
 fn branch(regs: &[u32], zero: bool, w: u32, y: u32, target: &mut u32) -> bool
     requires { length regs.now ≡ 32 }
-    ensures { (result ≡ true) × (target.new ≡ (if nat_eq (reg regs.now (rs1_of w)) 0 then (if zero then plus y (extended 16 w) else plus y 4) else (if zero then plus y 4 else plus y (extended 16 w)))) }
+    ensures { (result ≡ true) × (target.new ≡ (when nat_eq (reg regs.now (rs1_of w)) 0 then (when zero then plus y (extended 16 w) else plus y 4) else (when zero then plus y 4 else plus y (extended 16 w)))) }
 {
     let rs1 = first(w);
     let imm = near(w);

@@ -1,7 +1,7 @@
 // An instruction executed: from the processor, the table's registers, the timer and the 32 registers to an effect in numbers, and the effect put to work.
 ghost use Rattle.std.specs.Prelude.{◌≡◌, ℕ, ◌<◌, true, ◌||◌, List, length};
 ghost use Rattle.dlx.specs.Instructions.{Formed};
-ghost use Rattle.dlx.specs.Choice.{if◌then◌else◌};
+ghost use Rattle.dlx.specs.Choice.{when◌then◌else◌};
 ghost use Rattle.dlx.specs.Fields.{loading, storing};
 ghost use Rattle.dlx.specs.declared.execute.Change.TheVariants.{Plain};
 ghost use Rattle.dlx.specs.declared.execute.Effect.TheVariants.{Done};
@@ -108,7 +108,7 @@ fn store(o: u32, v: u32, x: u32, imm: u32) -> Effect
 
 // To one target or the other.
 fn branch(taken: bool, target: u32, next: u32) -> Effect
-    ensures { result ≡ jumped (if taken then target else next) }
+    ensures { result ≡ jumped (when taken then target else next) }
 {
     if taken {
         return plain(0, 0, target);

@@ -2,7 +2,7 @@
 use Rattle.std.proofs.Common.{◌≡◌, ℕ, zero, suc, ◌+◌, ◌-◌, ◌*◌, ◌/◌, ◌%◌, ◌^◌, ◌<◌, ◌≤◌, Bool, true, false, not, ◌&&◌, ◌||◌, eqb, ltb, leb, List, length, get_or, take, drop, set, sym, refl, ap, ◌∙◌, subst, true≢false, arith, length-drop, length-take-le, get_or-drop, get_or-take, ltb-false, ltb-true, le-ltb, lt-ltb, eq-eqb, ne_eqb, eqb-true, le-leb, leb-false}
 use mathlib.Core.Bool.{false≢true}
 use borrow.Author.Tests.{lt-leb}
-use Rattle.dlx.specs.Choice.{if◌then◌else◌}
+use Rattle.dlx.specs.Choice.{when◌then◌else◌}
 use Rattle.dlx.specs.Words.{plus}
 use Rattle.dlx.specs.Fields.{aligned, width, brought, placed}
 use Rattle.dlx.specs.Processor.{user, went_to, behind, special_of}
@@ -75,7 +75,7 @@ page_word ws base x w l e =
 
 -- ---- what is seen
 
-direct_page : (n a : ℕ) → direct n a ≡ (if ltb (a / 4096) n then found (a / 4096) 0 else fault 7)
+direct_page : (n a : ℕ) → direct n a ≡ (when ltb (a / 4096) n then found (a / 4096) 0 else fault 7)
 unfolding direct
 direct_page n a =
     by_test (ltb a (4096 * n))
@@ -99,8 +99,8 @@ module _ {S T : Type 0} (O : Ops S) (D : Desk T) where
   spell_performed : (k made : ℕ) (c c' : Core) (s s' : S) (q q' : T) (e : Effect) → fetched O (c, s) ≡ ((e, c), s) → (((true, c'), s'), q') ≡ performed O D c e s q → spell_from O D (suc k) made (c, s) q ≡ spell_from O D k (suc made) (timed c' (sunk c'.timer 1), s') q'
   unfolding spell_from passed_at performed
   spell_performed k made c c' s s' q q' e f p =
-      ap (λ (f : (Effect × Core) × S). let g = accessed_at O D f.0.1 f.0.0 f.1 q in let d = passed g.0.0.1 g.0.0.0 in if plainly g.0.0.0 then spell_from O D k (suc made) (timed d (sunk d.timer 1), g.0.1) g.1 else spell (suc made) g.0.0.0 d g.0.1 g.1) f
-      ∙ ap (λ (g : ((Bool × Core) × S) × T). if g.0.0.0 then spell_from O D k (suc made) (timed g.0.0.1 (sunk g.0.0.1.timer 1), g.0.1) g.1 else spell (suc made) (accessed_at O D c e s q).0.0.0 g.0.0.1 g.0.1 g.1) (sym p)
+      ap (λ (f : (Effect × Core) × S). let g = accessed_at O D f.0.1 f.0.0 f.1 q in let d = passed g.0.0.1 g.0.0.0 in when plainly g.0.0.0 then spell_from O D k (suc made) (timed d (sunk d.timer 1), g.0.1) g.1 else spell (suc made) g.0.0.0 d g.0.1 g.1) f
+      ∙ ap (λ (g : ((Bool × Core) × S) × T). when g.0.0.0 then spell_from O D k (suc made) (timed g.0.0.1 (sunk g.0.0.1.timer 1), g.0.1) g.1 else spell (suc made) (accessed_at O D c e s q).0.0.0 g.0.0.1 g.0.1 g.1) (sym p)
 
 module _ (fr : List ℕ) (n : ℕ) (sh : List ℕ) (page base : ℕ) where
   -- a cached frame lies in the memory

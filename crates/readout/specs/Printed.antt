@@ -1,6 +1,6 @@
 -- What readout prints for what a file comes to: words of one partition, or the first refusal of the file, of boot, of run, or of the read-out, but where raw words are asked for.
 use Rattle.std.specs.Prelude.{◌≡◌, false, List, [], ◌∷◌, ◌++◌, ℕ, ◌+◌, ◌^◌, ◌≤◌, eqb, get_or, replicate}
-use Rattle.dlx.specs.Choice.{if◌then◌else◌}
+use Rattle.dlx.specs.Choice.{when◌then◌else◌}
 use Rattle.house.specs.Boot.{Verdict}
 use Rattle.house.specs.Turns.{World}
 use Rattle.house.specs.Calls.{Answered, read_call}
@@ -18,8 +18,8 @@ use Rattle.readout.specs.declared.shown.Shown.{Shown}
 -- raw, or in decimals, with their sign or without, and a newline behind
 unfoldable pub word_text : Want → ℕ → List ℕ
 word_text want w =
-    if want.raw then low_first w else
-    if want.signed then signed_text (2 ^ 32) w ++ (10 ∷ []) else
+    when want.raw then low_first w else
+    when want.signed then signed_text (2 ^ 32) w ++ (10 ∷ []) else
     field w 10
 
 -- the first so many of the words
@@ -34,30 +34,30 @@ words_from want words from n = joined (λ i. word_text want (get_or words (from 
 
 -- a refusal is no word: where raw ones are asked for nothing is printed
 unfoldable pub refused_out : Want → Verdict → List ℕ
-refused_out want v = if want.raw then [] else refusal v
+refused_out want v = when want.raw then [] else refusal v
 
 -- the read-out of a house that has run, into an output of these words
 unfoldable pub read_text : Want → World → List ℕ → List ℕ
 read_text want w out =
     let r = read_call w want.partition want.address want.count out in
-    if eqb r.verdict.number 0 then words_text want r.output want.count else refused_out want r.verdict
+    when eqb r.verdict.number 0 then words_text want r.output want.count else refused_out want r.verdict
 
 -- the output holds the largest partition, 256 pages of 1,024 words
 unfoldable pub no_words : List ℕ
 no_words = replicate 262144 0
 
 unfoldable pub printed : Want → Answered → List ℕ
-printed want a = if eqb a.verdict.number 0 then read_text want a.world no_words else refused_out want a.verdict
+printed want a = when eqb a.verdict.number 0 then read_text want a.world no_words else refused_out want a.verdict
 
 -- ---- what is refused, if anything is: what standard error tells where raw words are asked for
 
 unfoldable pub read_refusal : Want → World → List ℕ → List ℕ
 read_refusal want w out =
     let r = read_call w want.partition want.address want.count out in
-    if eqb r.verdict.number 0 then [] else refusal r.verdict
+    when eqb r.verdict.number 0 then [] else refusal r.verdict
 
 unfoldable pub refusal_of : Want → Answered → List ℕ
-refusal_of want a = if eqb a.verdict.number 0 then read_refusal want a.world no_words else refusal a.verdict
+refusal_of want a = when eqb a.verdict.number 0 then read_refusal want a.world no_words else refusal a.verdict
 
 -- n words of the text for every file that was read like this: those behind the first so many
 pub record ToldBehind (want : Want) (t : Taken) (from n : ℕ) (piece : List ℕ) : Type 0 where

@@ -1,6 +1,6 @@
 -- A reading as the code has it: a reader, the house so far, a buffer that holds the record at hand, and the memory.
 use Rattle.std.specs.Prelude.{◌≡◌, ℕ, ◌+◌, ◌-◌, ◌/◌, ◌≤◌, min, Bool, true, false, List, [], ◌++◌, length, take, drop, ◌==◌}
-use Rattle.dlx.specs.Choice.{if◌then◌else◌}
+use Rattle.dlx.specs.Choice.{when◌then◌else◌}
 use Rattle.house.specs.declared.House.{House}
 use Rattle.housefile.specs.Records.{words_of, size, kind}
 use Rattle.save.specs.Reading.{Progress, Reading, reading, may_come, settled}
@@ -32,7 +32,7 @@ reading_at r h held m = reading (progress_at r h m) (take (min r.held 4105) held
 -- after a byte: the record at hand is whole, and still to be settled, or not
 unfoldable pub stepped : Reader → Bool → House → List ℕ → List ℕ → Reading
 stepped r whole h held m =
-    if whole then reading (settled (progress_at r h m) (kind held) (words_of (size held / 4) (drop 6 held))) [] else reading_at r h held m
+    when whole then reading (settled (progress_at r h m) (kind held) (words_of (size held / 4) (drop 6 held))) [] else reading_at r h held m
 
 -- the record at hand may come, whatever the house and the memory hold besides
 abbrev pub Comes : Reader → ℕ → ℕ → List ℕ → Type 0

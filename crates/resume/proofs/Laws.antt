@@ -8,7 +8,7 @@ use borrow.Author.Tests.{eq-eqb, ne_eqb, ltb-true, ltb-false}
 use lib.Dec.{ltb}
 use lib.ListN.{length, take}
 use lib.Seq.{take_at}
-use Rattle.dlx.specs.Choice.{if◌then◌else◌}
+use Rattle.dlx.specs.Choice.{when◌then◌else◌}
 use Rattle.dlx.proofs.Tests.{by_test}
 use Rattle.house.specs.Boot.{verdict}
 use Rattle.house.specs.Turns.{World, world}

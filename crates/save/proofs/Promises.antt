@@ -8,7 +8,7 @@ use borrow.Author.Tests.{eqb-true, eq-eqb}
 use lib.Dec.{eqb}
 use lib.ListN.{length, get_or, take, drop, length-append, length-drop}
 use lib.Seq.{take_at, take-add, drop-drop, take_all, length-take-le}
-use Rattle.dlx.specs.Choice.{if◌then◌else◌}
+use Rattle.dlx.specs.Choice.{when◌then◌else◌}
 use Rattle.dlx.proofs.Tests.{by_test}
 use Rattle.house.specs.House.{no_house}
 use Rattle.house.specs.Damage.{damaged}
@@ -109,7 +109,7 @@ unfolding finished
 done_given s w e =
     let p = s.progress in
     let z : (read_verdict p).number ≡ 0 = ap (λ (a : Answered). a.verdict.number) e in
-    (read_done p z, (let y : world (if eqb (read_verdict p).number 0 then p.house else no_house) p.memory ≡ w = ap (λ (a : Answered). a.world) e in rw (eq-eqb (read_verdict p).number 0 z) at y))
+    (read_done p z, (let y : world (when eqb (read_verdict p).number 0 then p.house else no_house) p.memory ≡ w = ap (λ (a : Answered). a.world) e in rw (eq-eqb (read_verdict p).number 0 z) at y))
 
 -- all records have come
 records_file : (m₀ : List ℕ) (p : Progress) → Good m₀ p → p.ended ≡ true → right_records p ≡ file_of (given p)

@@ -8,7 +8,7 @@ use borrow.Author.Tests.{eqb-true, ltb-true, ltb-false, leb-true, leb-false, eq-
 use lib.Dec.{eqb, ltb, leb}
 use lib.ListN.{length, get_or, take, drop, length-append, length-drop, take-append-drop}
 use lib.Seq.{length-take-le}
-use Rattle.dlx.specs.Choice.{if◌then◌else◌}
+use Rattle.dlx.specs.Choice.{when◌then◌else◌}
 use Rattle.dlx.proofs.Tests.{by_test, and_left}
 use Rattle.house.proofs.Lists.Bounded.{and_right, one_way}
 use Rattle.house.specs.House.{no_house}
@@ -160,7 +160,7 @@ unfolding settled
 settled_right p k ws e = rw e
 
 behind_end : (p : Progress) (at : ℕ) (bs : List ℕ) → p.start ≡ at → p.refusal ≡ 0 → p.ended ≡ true
-    → finished (fed (reading p []) bs) ≡ answer_to (if eqb (length bs) 0 then right (at - 6) (world p.house p.memory) else wrong at p.memory)
+    → finished (fed (reading p []) bs) ≡ answer_to (when eqb (length bs) 0 then right (at - 6) (world p.house p.memory) else wrong at p.memory)
 unfolding fed took
 behind_end p at [] e r d = ends_right p [] r d ∙ ap (λ (x : ℕ). answer_to (right (x - 6) (world p.house p.memory))) e
 behind_end p at (y ∷ ys) e r d =
@@ -177,7 +177,7 @@ module _ (n : ℕ) (p : Progress) (at : ℕ) (bs : List ℕ) where
   says_9 t = rw t
 
   module _ (t : eqb p.refusal 9 ≡ false) where
-    says_end : p.ended ≡ true → says_from (suc n) p at bs ≡ (if eqb (length bs) 0 then right (at - 6) (world p.house p.memory) else wrong at p.memory)
+    says_end : p.ended ≡ true → says_from (suc n) p at bs ≡ (when eqb (length bs) 0 then right (at - 6) (world p.house p.memory) else wrong at p.memory)
     unfolding says_from
     says_end d = rw (t, d)
 

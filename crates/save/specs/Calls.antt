@@ -1,6 +1,6 @@
 -- Saving and reading, piece by piece.
 use Rattle.std.specs.Prelude.{not, ◌||◌, List, [], ◌∷◌, ◌++◌, ℕ, ◌-◌, min, eqb, length, take, drop}
-use Rattle.dlx.specs.Choice.{if◌then◌else◌}
+use Rattle.dlx.specs.Choice.{when◌then◌else◌}
 use Rattle.house.specs.House.{no_house}
 use Rattle.house.specs.Damage.{damaged}
 use Rattle.house.specs.Boot.{Verdict, verdict, case, first_of}
@@ -36,7 +36,7 @@ written v n h out = record { verdict = v; count = n; house = h; output = out }
 unfoldable pub save_call : World → ℕ → List ℕ → Written
 save_call w at out =
     let v = save_verdict w in
-    let n = if eqb v.number 0 then piece_length w at (length out) else 0 in
+    let n = when eqb v.number 0 then piece_length w at (length out) else 0 in
     written v n w.house (take n (drop at (file_of w)) ++ drop n out)
 
 -- ---- reading
@@ -59,4 +59,4 @@ unfoldable pub finished : Reading → Answered
 finished s =
     let p = s.progress in
     let v = read_verdict p in
-    answered v (world (if eqb v.number 0 then p.house else no_house) p.memory)
+    answered v (world (when eqb v.number 0 then p.house else no_house) p.memory)

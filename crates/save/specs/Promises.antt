@@ -1,6 +1,6 @@
 -- What a saved file is worth, as statements about the definitions that the calls' contracts cite. proofs/Promises.antt proves each.
 use Rattle.std.specs.Prelude.{◌≡◌, true, false, List, [], ◌∷◌, ◌++◌, ℕ, zero, suc, ◌+◌, ◌*◌, ◌^◌, ◌<◌, ◌≤◌, length, get_or, take}
-use Rattle.dlx.specs.Choice.{if◌then◌else◌}
+use Rattle.dlx.specs.Choice.{when◌then◌else◌}
 use Rattle.house.specs.House.{no_house, fresh_shadows, with_shadows}
 use Rattle.house.specs.Damage.{damaged}
 use Rattle.house.specs.Boot.{verdict}
@@ -80,11 +80,11 @@ pub record Refused : Type 0 where
 unfoldable pub right_records : Progress → List ℕ
 right_records p =
     let h = p.house in
-    (if p.opened then record_of 5 (turn_words h) else [])
+    (when p.opened then record_of 5 (turn_words h) else [])
     ++ (records 6 (guest_words h) h.count
     ++ (records 7 (ticket_words h) p.queues
     ++ (records 3 (frame_words p.memory) p.frames
-    ++ (if p.ended then record_of 4 [] else []))))
+    ++ (when p.ended then record_of 4 [] else []))))
 
 -- Right records alone: a reading, refused or not, has taken right records from the file's beginning up to the start of the first that is wrong or not there.
 -- The memory holds the frames of those, and is otherwise as it was lent.

@@ -1,6 +1,6 @@
 -- What a whole file says, record by record, over a lent memory.
 use Rattle.std.specs.Prelude.{Bool, ◌&&◌, List, ℕ, zero, suc, ◌+◌, ◌-◌, ◌/◌, leb, eqb, length, drop}
-use Rattle.dlx.specs.Choice.{if◌then◌else◌}
+use Rattle.dlx.specs.Choice.{when◌then◌else◌}
 use Rattle.house.specs.House.{no_house}
 use Rattle.house.specs.Damage.{damaged}
 use Rattle.house.specs.Boot.{verdict}
@@ -31,9 +31,9 @@ pub data Says : Type 0 where
 unfoldable pub says_from : ℕ → Progress → ℕ → List ℕ → Says
 says_from zero p at bs = wrong at p.memory
 says_from (suc n) p at bs =
-    if eqb p.refusal 9 then other_size p.memory else
-    if p.ended then (if eqb (length bs) 0 then right (at - 6) (world p.house p.memory) else wrong at p.memory) else
-    if record_right p bs then says_from n (taken p (kind bs) (body_of bs)) (at + (6 + size bs)) (drop (6 + size bs) bs) else
+    when eqb p.refusal 9 then other_size p.memory else
+    when p.ended then (when eqb (length bs) 0 then right (at - 6) (world p.house p.memory) else wrong at p.memory) else
+    when record_right p bs then says_from n (taken p (kind bs) (body_of bs)) (at + (6 + size bs)) (drop (6 + size bs) bs) else
     wrong at p.memory
 
 unfoldable pub says_of : List ℕ → List ℕ → Says
@@ -43,4 +43,4 @@ says_of m f = says_from (suc (length f)) (begun m).progress 0 f
 unfoldable pub answer_to : Says → Answered
 answer_to (other_size m) = answered (verdict 9 0) (world no_house m)
 answer_to (wrong at m) = answered (verdict 17 at) (world no_house m)
-answer_to (right at w) = if damaged w.house then answered (verdict 17 at) (world no_house w.memory) else answered (verdict 0 0) w
+answer_to (right at w) = when damaged w.house then answered (verdict 17 at) (world no_house w.memory) else answered (verdict 0 0) w

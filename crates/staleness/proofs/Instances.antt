@@ -6,7 +6,7 @@ use Prim.Native.Nat.{ℕ, ◌+◌, ◌-◌, ◌*◌, ◌%◌, ◌^◌, ◌<◌}
 use native.Mathlib.Omega.{arith}
 use lib.Dec.{eqb}
 use lib.ListN.{get_or, replicate}
-use Rattle.dlx.specs.Choice.{if◌then◌else◌}
+use Rattle.dlx.specs.Choice.{when◌then◌else◌}
 use Rattle.dlx.specs.Machine.{Outcome, step}
 use Rattle.addresses.specs.Walk.{entries}
 use Rattle.addresses.specs.Memory.{Lone, lone_memory}
@@ -161,7 +161,7 @@ six_steps = passed_steps mended_six six_mends.stays.typed.shaped six_passes busy
 pub goes_round : (partition (host_step mended_six).house 0).counter ≡ 0
 goes_round = six_steps.counters 0 (omega (arith, four)) ∙ by_rule
   where
-    by_rule : (if eqb 0 mended_six.house.current then ((partition mended_six.house 0).counter + 1) % 2 ^ 64 else (partition mended_six.house 0).counter) ≡ 0
+    by_rule : (when eqb 0 mended_six.house.current then ((partition mended_six.house 0).counter + 1) % 2 ^ 64 else (partition mended_six.house 0).counter) ≡ 0
     by_rule = simp (ap (λ (w : World). w.house.current) six_mends.rest, counter_kept)
 
 -- whether the guest calls or not, the turn has no step left

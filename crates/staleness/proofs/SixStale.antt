@@ -8,7 +8,7 @@ use borrow.Author.Tests.{ltb-true, ltb-false, eqb-true}
 use lib.Dec.{ltb, eqb}
 use lib.ListN.{length, get_or, take, drop, replicate, length-take, get_or-eq_default}
 use lib.Seq.{get_or-take, get_or-drop}
-use Rattle.dlx.specs.Choice.{if◌then◌else◌}
+use Rattle.dlx.specs.Choice.{when◌then◌else◌}
 use Rattle.dlx.specs.Processor.{fresh_of, with_table, with_counter}
 use Rattle.dlx.specs.Parts.{inner}
 use Rattle.dlx.specs.declared.partition.Partition.{Partition}
@@ -36,13 +36,13 @@ use Rattle.staleness.proofs.Searching.{first_found}
 
 -- ---- what stands at a place of a list, without walking there
 
-rule_at : (f : ℕ → ℕ) (n i : ℕ) → get_or (list_from f 0 n) i 0 ≡ (if ltb i n then f i else 0)
+rule_at : (f : ℕ → ℕ) (n i : ℕ) → get_or (list_from f 0 n) i 0 ≡ (when ltb i n then f i else 0)
 rule_at f n i =
     by_test (ltb i n)
     (λ e. let z : 0 + i ≡ i = omega arith in rw (e, get_or_list_from f 0 0 n i (ltb-true i n e), z))
     (λ e. rw (e, get_or-eq_default (list_from f 0 n) 0 {n = i} (omega (arith, ltb-false i n e, length_list_from f 0 n))))
 
-part_at : (a s : ℕ) (m : List ℕ) (i : ℕ) → get_or (inner a s m) i 0 ≡ (if ltb i s then get_or m (a + i) 0 else 0)
+part_at : (a s : ℕ) (m : List ℕ) (i : ℕ) → get_or (inner a s m) i 0 ≡ (when ltb i s then get_or m (a + i) 0 else 0)
 unfolding inner
 part_at a s m i =
     by_test (ltb i s)
@@ -68,7 +68,7 @@ pub six_counts : stale_counts six_stale ≡ 0 ∷ 1 ∷ 3 ∷ 2 ∷ replicate 4 
 unfolding stale_counts
 six_counts = counted
   where
-    counted : list_from (λ i. if ltb i 4 then count_of (λ px. stale_at six_stale i px) entries else 0) 0 8 ≡ 0 ∷ 1 ∷ 3 ∷ 2 ∷ replicate 4 0
+    counted : list_from (λ i. when ltb i 4 then count_of (λ px. stale_at six_stale i px) entries else 0) 0 8 ≡ 0 ∷ 1 ∷ 3 ∷ 2 ∷ replicate 4 0
     counted = simp (part_at, rule_at) (unfold computing in refl)
 
 kept_so : unlike (kept_at six_stale) remaining ≡ false
@@ -123,7 +123,7 @@ outgrown_mend = simp whole
 
 -- ---- its numbers are words
 
-small : (b : Bool) {x y : ℕ} → x < 2 ^ 32 → y < 2 ^ 32 → (if b then x else y) < 2 ^ 32
+small : (b : Bool) {x y : ℕ} → x < 2 ^ 32 → y < 2 ^ 32 → (when b then x else y) < 2 ^ 32
 small b l m = either (λ (n : ℕ). n < 2 ^ 32) b (λ _. l) (λ _. m)
 
 frames_words : (k : ℕ) → get_or (list_from theirs 0 2048) k 0 < 2 ^ 32

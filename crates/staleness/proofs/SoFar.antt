@@ -8,7 +8,7 @@ use borrow.Author.Tests.{lt-ltb, le-ltb, ltb-true, ltb-false}
 use lib.Dec.{ltb}
 use lib.ListN.{length, get_or, set, get_or-eq_default}
 use lib.Seq.{ext_get_or}
-use Rattle.dlx.specs.Choice.{if◌then◌else◌}
+use Rattle.dlx.specs.Choice.{when◌then◌else◌}
 use Rattle.dlx.proofs.Tests.{by_test}
 use Rattle.dlx.specs.declared.partition.Table.{Table}
 use Rattle.addresses.specs.Walk.{entries}
@@ -32,25 +32,25 @@ list_from_each P f n z h k =
 
 module _ (f g : ℕ → ℕ) (n : ℕ) where
   abbrev pub so_far : ℕ → List ℕ
-  so_far px = list_from (λ k. if ltb k px then f k else g k) 0 n
+  so_far px = list_from (λ k. when ltb k px then f k else g k) 0 n
 
   pub far_none : so_far 0 ≡ list_from g 0 n
   far_none = list_from_same _ g 0 n (λ k _. rw (le-ltb k 0 (omega arith)))
 
   pub far_length : (px : ℕ) → length (so_far px) ≡ n
-  far_length px = length_list_from (λ k. if ltb k px then f k else g k) 0 n
+  far_length px = length_list_from (λ k. when ltb k px then f k else g k) 0 n
 
   -- where the rules agree on the rest, all is done
   pub far_all : (px : ℕ) → ((k : ℕ) → px ≤ k → k < n → f k ≡ g k) → so_far px ≡ list_from f 0 n
   far_all px h = list_from_same _ f 0 n (λ k l. by_test (ltb k px) (λ t. rw t) (λ t. rw t (sym (h k (ltb-false k px t) (omega arith)))))
 
   pub far_at : (px : ℕ) → px < n → get_or (so_far px) px 0 ≡ g px
-  far_at px l = list_from_at (λ k. if ltb k px then f k else g k) 0 n px l ∙ rw (le-ltb px px (omega arith))
+  far_at px l = list_from_at (λ k. when ltb k px then f k else g k) 0 n px l ∙ rw (le-ltb px px (omega arith))
 
   pub far_more : (px : ℕ) → px < n → set (so_far px) px (f px) ≡ so_far (px + 1)
   far_more px l =
-      let F : ℕ → ℕ = λ k. if ltb k px then f k else g k in
-      let G : ℕ → ℕ = λ k. if ltb k (px + 1) then f k else g k in
+      let F : ℕ → ℕ = λ k. when ltb k px then f k else g k in
+      let G : ℕ → ℕ = λ k. when ltb k (px + 1) then f k else g k in
       let e : G px ≡ f px = rw (lt-ltb px (px + 1) (omega arith)) in
       ap (λ (v : ℕ). set (so_far px) px v) (sym e)
       ∙ set_list_from F G n px
@@ -65,10 +65,10 @@ module _ (f g : ℕ → ℕ) (n : ℕ) where
 -- one entry more of a shadow that is mended
 pub kept_more : (fr : List ℕ) (n : ℕ) (t : Table) (ws old sh : List ℕ) (px a b r : ℕ)
     → sh ≡ so_far (kept_in fr n t ws old) (λ k. get_or old k 0) entries px → px < entries → a ≡ px → b ≡ px
-    → r ≡ (if stale fr n t ws px (get_or sh a 0) then 0 else get_or sh a 0)
+    → r ≡ (when stale fr n t ws px (get_or sh a 0) then 0 else get_or sh a 0)
     → set sh b r ≡ so_far (kept_in fr n t ws old) (λ k. get_or old k 0) entries (px + 1)
 kept_more fr n t ws old sh px a b r i l p q e =
     let f = kept_in fr n t ws old in
     let s : get_or sh a 0 ≡ get_or old px 0 = rw (i, p) (far_at f (λ k. get_or old k 0) entries px l) in
-    let v : r ≡ f px = e ∙ ap (λ (x : ℕ). if stale fr n t ws px x then 0 else x) s in
+    let v : r ≡ f px = e ∙ ap (λ (x : ℕ). when stale fr n t ws px x then 0 else x) s in
     far_set f (λ k. get_or old k 0) entries sh px b r i l q v

@@ -1,7 +1,7 @@
 -- The audit of a house and its memory: which shadow entries are stale (`stale_at`), the first of them, how many there are, and the house without them. Every
 -- partition's whole shadow counts: running or stopped, in either mode, below PTL or not.
 use Rattle.std.specs.Prelude.{Bool, true, false, not, List, [], ◌∷◌, ℕ, zero, suc, ◌+◌, ◌*◌, ◌<◌, ◌≤◌, ltb, eqb, length, get_or, replicate}
-use Rattle.dlx.specs.Choice.{if◌then◌else◌}
+use Rattle.dlx.specs.Choice.{when◌then◌else◌}
 use Rattle.dlx.specs.Parts.{outer}
 use Rattle.dlx.specs.declared.partition.Table.{Table}
 use Rattle.addresses.specs.Walk.{entries}
@@ -31,7 +31,7 @@ abbrev pub stale_in : List ℕ → ℕ → Table → List ℕ → List ℕ → �
 stale_in fr n t ws sh px = stale fr n t ws px (get_or sh px 0)
 
 abbrev pub kept_in : List ℕ → ℕ → Table → List ℕ → List ℕ → ℕ → ℕ
-kept_in fr n t ws sh px = if stale_in fr n t ws sh px then 0 else get_or sh px 0
+kept_in fr n t ws sh px = when stale_in fr n t ws sh px then 0 else get_or sh px 0
 
 -- ---- the first stale entry, by partition and then by page
 
@@ -48,26 +48,26 @@ has_stale w i = ltb (first_page w i) entries
 unfoldable pub first_stale : World → Finding
 first_stale w =
     let i = first_from (has_stale w) 0 w.house.count in
-    if ltb i w.house.count then finding 0 true i (first_page w i) else finding 0 false 0 0
+    when ltb i w.house.count then finding 0 true i (first_page w i) else finding 0 false 0 0
 
 unfoldable pub audit_call : World → Finding
 audit_call w =
     let v = audit_verdict w 0 in
-    if eqb v.number 0 then first_stale w else finding v.number false 0 0
+    when eqb v.number 0 then first_stale w else finding v.number false 0 0
 
 -- ---- how many
 
 -- of how many numbers below n does p hold
 unfoldable pub count_of : (ℕ → Bool) → ℕ → ℕ
 count_of p zero = 0
-count_of p (suc n) = count_of p n + (if p n then 1 else 0)
+count_of p (suc n) = count_of p n + (when p n then 1 else 0)
 
 abbrev pub stale_count : World → ℕ → ℕ
 stale_count w i = count_of (stale_at w i) entries
 
 -- for each of the eight places, 0 where no partition is
 abbrev pub count_at : World → ℕ → ℕ
-count_at w i = if ltb i w.house.count then stale_count w i else 0
+count_at w i = when ltb i w.house.count then stale_count w i else 0
 
 unfoldable pub stale_counts : World → List ℕ
 stale_counts w = list_from (count_at w) 0 8
@@ -78,7 +78,7 @@ counts number each = record { number = number; each = each }
 unfoldable pub counts_call : World → Counts
 counts_call w =
     let v = audit_verdict w 0 in
-    if eqb v.number 0 then counts 0 (stale_counts w) else counts v.number (replicate 8 0)
+    when eqb v.number 0 then counts 0 (stale_counts w) else counts v.number (replicate 8 0)
 
 -- ---- mending: exactly the stale ones become empty
 

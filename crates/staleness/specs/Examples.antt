@@ -2,7 +2,7 @@
 -- lists them. What the examples do not reach of a house's lists is left out.
 use Rattle.std.specs.Prelude.{Bool, true, false, not, ◌&&◌, List, [], ◌∷◌, ◌++◌, ℕ, ◌+◌, ◌-◌, ◌*◌, ◌^◌, eqb, length, get_or, set, take, replicate}
 use mir.Val.{bool_byte}
-use Rattle.dlx.specs.Choice.{if◌then◌else◌}
+use Rattle.dlx.specs.Choice.{when◌then◌else◌}
 use Rattle.dlx.specs.Processor.{fresh_of, with_processor, with_table, with_counter}
 use Rattle.dlx.specs.Examples.{same}
 use Rattle.dlx.specs.declared.partition.Partition.{Partition}
@@ -31,7 +31,7 @@ guest mode =
 abbrev alone : Bool → ℕ → List ℕ → House
 alone runs mode sh =
     with_guests
-    (with_turn (with_layout no_house (layout 1 2 4096 (2 ∷ 3 ∷ 1 ∷ []))) (runs ∷ []) (if runs then turn 0 2 else turn 0 0))
+    (with_turn (with_layout no_house (layout 1 2 4096 (2 ∷ 3 ∷ 1 ∷ []))) (runs ∷ []) (when runs then turn 0 2 else turn 0 0))
     (guests (guest mode ∷ []) [] sh)
 
 -- behind a partition of frame 4 with the shadow sh, whose table has no valid word
@@ -49,21 +49,21 @@ second first sh =
 -- words are page 0, and page 0 protected, twice.
 abbrev pub theirs : ℕ → ℕ
 theirs k =
-    if eqb k 0 then 4 else if eqb k 256 then 2 else if eqb k 257 then 3 else if eqb k 258 then 1 else if eqb k 512 then 5 else if eqb k 768 then 6 else 0
+    when eqb k 0 then 4 else when eqb k 256 then 2 else when eqb k 257 then 3 else when eqb k 258 then 1 else when eqb k 512 then 5 else when eqb k 768 then 6 else 0
 
 -- Entry by entry of all shadows: none of partition 0; of 1 two that are right, a stale one, for its protection, and one that is right; of 2 three stale ones; of 3 one
 -- that is right, a stale one, for its protection, one that is right, and the last, stale.
 abbrev pub entered : ℕ → ℕ
 entered k =
-    if eqb k 1024 then 0x00002800 else if eqb k 1025 then 0x00003800 else if eqb k 1026 then 0x00001800 else if eqb k 1029 then 0x00001800 else
-    if eqb k 2048 then 0x00005800 else if eqb k 2051 then 0x00005C00 else if eqb k 2748 then 0x00005800 else
-    if eqb k 3072 then 0x00006800 else if eqb k 3073 then 0x00006800 else if eqb k 3074 then 0x00006C00 else if eqb k 4095 then 0x00006C00 else 0
+    when eqb k 1024 then 0x00002800 else when eqb k 1025 then 0x00003800 else when eqb k 1026 then 0x00001800 else when eqb k 1029 then 0x00001800 else
+    when eqb k 2048 then 0x00005800 else when eqb k 2051 then 0x00005C00 else when eqb k 2748 then 0x00005800 else
+    when eqb k 3072 then 0x00006800 else when eqb k 3073 then 0x00006800 else when eqb k 3074 then 0x00006C00 else when eqb k 4095 then 0x00006C00 else 0
 
 -- and without the stale ones
 abbrev pub remaining : ℕ → ℕ
 remaining k =
-    if eqb k 1024 then 0x00002800 else if eqb k 1025 then 0x00003800 else if eqb k 1029 then 0x00001800 else
-    if eqb k 3072 then 0x00006800 else if eqb k 3074 then 0x00006C00 else 0
+    when eqb k 1024 then 0x00002800 else when eqb k 1025 then 0x00003800 else when eqb k 1029 then 0x00001800 else
+    when eqb k 3072 then 0x00006800 else when eqb k 3074 then 0x00006C00 else 0
 
 abbrev pub ours : List Partition
 ours =

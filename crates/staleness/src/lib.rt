@@ -2,7 +2,7 @@
 #![tactic(auto)]
 
 ghost use Rattle.std.specs.Prelude.{◌≡◌, List, ℕ, ◌^◌, ◌<◌, length};
-ghost use Rattle.dlx.specs.Choice.{if◌then◌else◌};
+ghost use Rattle.dlx.specs.Choice.{when◌then◌else◌};
 ghost use Rattle.addresses.specs.Walk.{entries};
 ghost use Rattle.addresses.specs.Memory.{stale};
 ghost use Rattle.addresses.specs.Premises.{Placed};
@@ -58,7 +58,7 @@ fn is_stale(words: &[u32], frames: &[u32], pages: u32, t: Table, px: u32, e: u32
 // 1 where it is stale.
 fn tally(words: &[u32], frames: &[u32], pages: u32, t: Table, px: u32, e: u32) -> u32
     requires { Placed frames.now pages (length words.now) }
-    ensures { result ≡ (if stale frames.now pages t words.now px e then 1 else 0) }
+    ensures { result ≡ (when stale frames.now pages t words.now px e then 1 else 0) }
 {
     if is_stale(words, frames, pages, t, px, e) {
         return 1;
@@ -69,7 +69,7 @@ fn tally(words: &[u32], frames: &[u32], pages: u32, t: Table, px: u32, e: u32) -
 // The entry, or the empty one where it is stale.
 fn kept(words: &[u32], frames: &[u32], pages: u32, t: Table, px: u32, e: u32) -> u32
     requires { Placed frames.now pages (length words.now) }
-    ensures { result ≡ (if stale frames.now pages t words.now px e then 0 else e) }
+    ensures { result ≡ (when stale frames.now pages t words.now px e then 0 else e) }
 {
     if is_stale(words, frames, pages, t, px, e) {
         return 0;

@@ -1,6 +1,6 @@
 -- What the calls of a function give together, as laws over plain variables.
 use Rattle.std.proofs.Common.{◌≡◌, ℕ, ◌+◌, ◌-◌, ◌*◌, ◌%◌, ◌^◌, ◌<◌, ◌≤◌, Bool, true, false, List, [], ◌∷◌, ◌++◌, length, get_or, take, drop, set, sym, refl, ap, ◌∙◌, add-one, arith, length-append, length-set, drop_of_length-le, length-take, length-take-le, drop-cons, take-suc-set, take_at, le-ltb, lt-ltb, eq-eqb, ne_eqb}
-use Rattle.dlx.specs.Choice.{if◌then◌else◌}
+use Rattle.dlx.specs.Choice.{when◌then◌else◌}
 use Rattle.decimal.specs.Raw.{low_first, raw}
 use Rattle.decimal.specs.Texts.{Text, text, put}
 use Rattle.decimal.proofs.Texts.{put_behind, exactly, whole}
@@ -116,7 +116,7 @@ pub whole_of : (d : Bool) (g x : Going) (n : ℕ) → Behind d g n → n + 1 < 2
 whole_of d g x n (t, l, e) h q = (t, omega (arith, l), q ∙ ap (finished d) e)
 
 pub no_fail : {P : Type 0} → ◌≡◌ {A = Bool} true false → P
-no_fail e = absurd (let z : ◌≡◌ {A = ℕ} 1 0 = ap (λ (b : Bool). if b then 1 else 0) e in omega arith)
+no_fail e = absurd (let z : ◌≡◌ {A = ℕ} 1 0 = ap (λ (b : Bool). when b then 1 else 0) e in omega arith)
 
 -- ---- what may be said and written
 

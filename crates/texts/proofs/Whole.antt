@@ -2,7 +2,7 @@
 use Rattle.std.proofs.Common.{◌≡◌, ℕ, suc, ◌+◌, ◌%◌, ◌^◌, ◌<◌, ◌≤◌, Bool, true, false, not, ◌&&◌, eqb, ltb, leb, List, [], ◌∷◌, ◌++◌, length, take, drop, set, sym, refl, ap, ◌∙◌, append_assoc, append-nil, mod-eq_of_lt, add-one, arith, length-append, length-take, take_all, ltb-false, ltb-true, le-ltb, ne_eqb, leb-true}
 use borrow.Author.Tests.{lt-leb}
 use lib.Seq.{sets, take-append-le}
-use Rattle.dlx.specs.Choice.{if◌then◌else◌}
+use Rattle.dlx.specs.Choice.{when◌then◌else◌}
 use Rattle.dlx.proofs.Tests.{by_test, and_left}
 use Rattle.decimal.specs.Texts.{ascii, same}
 use Rattle.lines.specs.Lines.{candidate, right}
@@ -23,7 +23,7 @@ unfolding right_by right
 right_length true l e = leb-true (length l) 80 (and_left (leb (length l) 80) _ e)
 right_length false l e = leb-true (length l) 80 (and_left (leb (length l) 80) _ e)
 
-snoc_first : (l : List ℕ) (b : ℕ) → take 81 (l ++ (b ∷ [])) ≡ (if ltb (length (take 81 l)) 81 then take 81 l ++ (b ∷ []) else take 81 l)
+snoc_first : (l : List ℕ) (b : ℕ) → take 81 (l ++ (b ∷ [])) ≡ (when ltb (length (take 81 l)) 81 then take 81 l ++ (b ∷ []) else take 81 l)
 snoc_first l b =
     by_test (ltb (length l) 81)
     (λ q.
@@ -42,14 +42,14 @@ longer_along : (l : List ℕ) (n : ℕ) (ws : List ℕ) (b : ℕ) → longer (al
 unfolding longer
 longer_along l n ws b = pushed (ltb (length (take 81 l)) 81) ∙ ap (λ (x : List ℕ). going x n 0 ws) (sym (snoc_first l b))
   where
-    pushed : (t : Bool) → (if t then going (take 81 l ++ (b ∷ [])) n 0 ws else going (take 81 l) n 0 ws) ≡ going (if t then take 81 l ++ (b ∷ []) else take 81 l) n 0 ws
+    pushed : (t : Bool) → (when t then going (take 81 l ++ (b ∷ [])) n 0 ws else going (take 81 l) n 0 ws) ≡ going (when t then take 81 l ++ (b ∷ []) else take 81 l) n 0 ws
     pushed true = refl
     pushed false = refl
 
 -- ---- zeros before a word
 
 abbrev grown : Bool → List ℕ → ℕ → List ℕ
-grown d k b = if idle d k b then k else k ++ (b ∷ [])
+grown d k b = when idle d k b then k else k ++ (b ∷ [])
 
 bared_more : (d : Bool) (k l : List ℕ) (b : ℕ) → bared_from d k (l ++ (b ∷ [])) ≡ grown d (bared_from d k l) b
 unfolding bared_from
@@ -66,10 +66,10 @@ idle_first true (x ∷ y ∷ []) b = refl
 idle_first true (x ∷ y ∷ z ∷ k) b = refl
 
 grown_along : (d : Bool) (k : List ℕ) (n : ℕ) (ws : List ℕ) (b : ℕ)
-    → (if idle d (take 81 k) b then along k n ws else longer (along k n ws) b) ≡ along (grown d k b) n ws
-grown_along d k n ws b = ap (λ (t : Bool). if t then along k n ws else longer (along k n ws) b) (idle_first d k b) ∙ either (idle d k b)
+    → (when idle d (take 81 k) b then along k n ws else longer (along k n ws) b) ≡ along (grown d k b) n ws
+grown_along d k n ws b = ap (λ (t : Bool). when t then along k n ws else longer (along k n ws) b) (idle_first d k b) ∙ either (idle d k b)
   where
-    either : (t : Bool) → (if t then along k n ws else longer (along k n ws) b) ≡ along (if t then k else k ++ (b ∷ [])) n ws
+    either : (t : Bool) → (when t then along k n ws else longer (along k n ws) b) ≡ along (when t then k else k ++ (b ∷ [])) n ws
     either true = refl
     either false = longer_along k n ws b
 
@@ -77,7 +77,7 @@ grown_along d k n ws b = ap (λ (t : Bool). if t then along k n ws else longer (
 some_grown : (d : Bool) (k : List ℕ) (b : ℕ) → 1 ≤ length k → 1 ≤ length (grown d k b)
 some_grown d k b h = either (idle d k b)
   where
-    either : (t : Bool) → 1 ≤ length (if t then k else k ++ (b ∷ []))
+    either : (t : Bool) → 1 ≤ length (when t then k else k ++ (b ∷ []))
     either true = h
     either false = omega (arith, length-append k (b ∷ []))
 
@@ -91,7 +91,7 @@ unfolding idle same ascii
 first_grown false b = omega arith
 first_grown true b = either (eqb b 48)
   where
-    either : (t : Bool) → 1 ≤ length (if t && false then [] else b ∷ [])
+    either : (t : Bool) → 1 ≤ length (when t && false then [] else b ∷ [])
     either true = omega arith
     either false = omega arith
 
@@ -110,8 +110,8 @@ word_of d l = word_by d (bared d l)
 -- what lines come to, where n have ended
 unfoldable answer_by : Bool → ℕ → List ℕ → List (List ℕ) → Answer
 answer_by d n ws ls =
-    if not (eqb (wrong_by (right_of d) (suc n) ls) 0) then answer 18 (wrong_by (right_of d) (suc n) ls) 0 no_words else
-    if ltb 262144 (n + length ls) then answer 13 0 0 no_words else
+    when not (eqb (wrong_by (right_of d) (suc n) ls) 0) then answer 18 (wrong_by (right_of d) (suc n) ls) 0 no_words else
+    when ltb 262144 (n + length ls) then answer 13 0 0 no_words else
     answer 0 0 (n + length ls) (sets ws n (words_by (word_of d) ls))
 
 no_words_length : length no_words ≡ 262144

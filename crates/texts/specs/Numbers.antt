@@ -1,6 +1,6 @@
 -- What a line is: a word in decimals, or an instruction of a listing.
 use Rattle.std.specs.Prelude.{ℕ, ◌-◌, ◌%◌, ◌^◌, Bool, true, false, ◌&&◌, ◌||◌, List, [], ◌∷◌, ◌++◌, length, ◌==◌, nat_le}
-use Rattle.dlx.specs.Choice.{if◌then◌else◌}
+use Rattle.dlx.specs.Choice.{when◌then◌else◌}
 use Rattle.decimal.specs.Texts.{ascii, same}
 use Rattle.command.specs.Words.{number, no_number, number_of}
 use Rattle.command.specs.declared.Number.{Number}
@@ -8,12 +8,12 @@ use Rattle.lines.specs.Lines.{candidate, right}
 
 -- the word of a number with a minus before it: as much below 2 ^ 32
 unfoldable pub negated : Number → Number
-negated n = if n.said then number ((2 ^ 32 - n.value) % 2 ^ 32) else no_number
+negated n = when n.said then number ((2 ^ 32 - n.value) % 2 ^ 32) else no_number
 
 -- the word that a line says: a decimal below 2 ^ 32, or a minus and one of at most 2 ^ 31
 unfoldable pub word_said : List ℕ → Number
 word_said [] = no_number
-word_said (b ∷ bs) = if b == 45 then negated (number_of (2 ^ 31) bs) else number_of (2 ^ 32 - 1) (b ∷ bs)
+word_said (b ∷ bs) = when b == 45 then negated (number_of (2 ^ 31) bs) else number_of (2 ^ 32 - 1) (b ∷ bs)
 
 -- ---- zeros before a word, however many: behind a line's first zero, and before any other byte, a zero tells nothing
 
@@ -24,7 +24,7 @@ idle false l b = false
 -- a line without them; its beginning, k, has none
 unfoldable pub bared_from : Bool → List ℕ → List ℕ → List ℕ
 bared_from d k [] = k
-bared_from d k (b ∷ bs) = bared_from d (if idle d k b then k else k ++ (b ∷ [])) bs
+bared_from d k (b ∷ bs) = bared_from d (when idle d k b then k else k ++ (b ∷ [])) bs
 
 abbrev pub bared : Bool → List ℕ → List ℕ
 bared d l = bared_from d [] l

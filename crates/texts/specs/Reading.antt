@@ -1,6 +1,6 @@
 -- A text read byte by byte, and what its words are, in decimals or instructions: the same as those of the whole text (proofs/Whole.antt).
 use Rattle.std.specs.Prelude.{◌≡◌, ℕ, ◌+◌, ◌%◌, ◌^◌, ◌<◌, ◌≤◌, Bool, not, List, [], ◌∷◌, ◌++◌, length, take, replicate, ◌==◌, nat_lt, slice_set}
-use Rattle.dlx.specs.Choice.{if◌then◌else◌}
+use Rattle.dlx.specs.Choice.{when◌then◌else◌}
 use Rattle.lines.specs.Listings.{Answer, answer, read_by}
 use Rattle.texts.specs.Numbers.{idle, bared, right_by, word_by}
 use Rattle.texts.specs.declared.reading.At.{At}
@@ -25,17 +25,17 @@ start = going [] 0 0 no_words
 
 -- one byte of a line more: 81 of them tell a line that is too long
 unfoldable pub longer : Going → ℕ → Going
-longer g b = if nat_lt (length g.line) 81 then going (g.line ++ (b ∷ [])) g.lines g.wrong g.words else g
+longer g b = when nat_lt (length g.line) 81 then going (g.line ++ (b ∷ [])) g.lines g.wrong g.words else g
 
 -- the line has ended: its word stands at its place, as far as there is room; a wrong line stays
 unfoldable pub ended : Bool → Going → Going
 ended d g =
     let n = (g.lines + 1) % 2 ^ 64 in
-    if right_by d g.line then going [] n 0 (slice_set g.words g.lines (word_by d g.line)) else going g.line n n g.words
+    when right_by d g.line then going [] n 0 (slice_set g.words g.lines (word_by d g.line)) else going g.line n n g.words
 
 -- behind a wrong line nothing is looked at; of zeros before a word one is kept
 unfoldable pub took : Bool → Going → ℕ → Going
-took d g b = if not (g.wrong == 0) then g else if b == 10 then ended d g else if idle d g.line b then g else longer g b
+took d g b = when not (g.wrong == 0) then g else when b == 10 then ended d g else when idle d g.line b then g else longer g b
 
 unfoldable pub fed : Bool → Going → List ℕ → Going
 fed d g [] = g
@@ -43,13 +43,13 @@ fed d g (b ∷ bs) = fed d (took d g b) bs
 
 -- at the end of the text its last line may be without a newline
 unfoldable pub finished : Bool → Going → Going
-finished d g = if not (g.wrong == 0) then g else if length g.line == 0 then g else ended d g
+finished d g = when not (g.wrong == 0) then g else when length g.line == 0 then g else ended d g
 
 -- what is answered: the words where every line is right and they have room
 unfoldable pub answer_of : Going → Answer
 answer_of g =
-    if not (g.wrong == 0) then answer 18 g.wrong 0 no_words else
-    if nat_lt 262144 g.lines then answer 13 0 0 no_words else
+    when not (g.wrong == 0) then answer 18 g.wrong 0 no_words else
+    when nat_lt 262144 g.lines then answer 13 0 0 no_words else
     answer 0 0 g.lines g.words
 
 -- ---- what the program holds, and what it may say and write

@@ -1,6 +1,6 @@
 -- Tickets: each partition has a queue of 32 places, the oldest in the first, unused places 0. Partition j's places stand at 32 * j.
 use Rattle.std.specs.Prelude.{◌≡◌, ◌&&◌, List, [], ◌∷◌, ◌++◌, ℕ, ◌+◌, ◌-◌, ◌*◌, ◌<◌, ◌≤◌, leb, eqb, length, get_or, set, take, drop}
-use Rattle.dlx.specs.Choice.{if◌then◌else◌}
+use Rattle.dlx.specs.Choice.{when◌then◌else◌}
 use Rattle.dlx.specs.Machine.{Request, nothing, sends, takes, reply, Desk}
 use Rattle.dlx.specs.declared.execute.Reply.{Reply}
 use Rattle.dlx.specs.Parts.{inner, outer}
@@ -32,14 +32,14 @@ taken_off t i =
 -- v sent to one of n partitions
 unfoldable pub sending : ℕ → Queues → ℕ → ℕ → Reply × Queues
 sending n t v to =
-    if leb n to then (reply 2 0, t) else
-    if leb 32 (waiting_of t to) then (reply 1 0, t) else
+    when leb n to then (reply 2 0, t) else
+    when leb 32 (waiting_of t to) then (reply 1 0, t) else
     (reply 0 0, sent_on t to v)
 
 -- the oldest taken by i
 unfoldable pub taking : Queues → ℕ → Reply × Queues
 taking t i =
-    if eqb (waiting_of t i) 0 then (reply 3 0, t) else
+    when eqb (waiting_of t i) 0 then (reply 3 0, t) else
     (reply 0 (get_or t.tickets (i * 32) 0), taken_off t i)
 
 -- partition i of n asks
@@ -60,21 +60,21 @@ oldest (x ∷ l) = reply 0 x
 unfoldable pub ruled : ℕ → ℕ → (ℕ → List ℕ) → Request → Reply
 ruled n i Q nothing = reply 0 0
 ruled n i Q (sends v to) =
-    if leb n to then reply 2 0 else
-    if leb 32 (length (Q to)) then reply 1 0 else
+    when leb n to then reply 2 0 else
+    when leb 32 (length (Q to)) then reply 1 0 else
     reply 0 0
 ruled n i Q takes = oldest (Q i)
 
 -- the tickets of one step that are sent done to j, and that are taken by j
 unfoldable pub sent_to : Request → Reply → ℕ → List ℕ
 sent_to nothing a j = []
-sent_to (sends v to) a j = if eqb a.code 0 && eqb to j then v ∷ [] else []
+sent_to (sends v to) a j = when eqb a.code 0 && eqb to j then v ∷ [] else []
 sent_to takes a j = []
 
 unfoldable pub taken_by : ℕ → Request → Reply → ℕ → List ℕ
 taken_by i nothing a j = []
 taken_by i (sends v to) a j = []
-taken_by i takes a j = if eqb a.code 0 && eqb i j then a.ticket ∷ [] else []
+taken_by i takes a j = when eqb a.code 0 && eqb i j then a.ticket ∷ [] else []
 
 -- queue j after a step of i: a ticket sent done to j stands behind the others, one taken by j is gone
 unfoldable pub lined : ℕ → Request → Reply → List ℕ → ℕ → List ℕ

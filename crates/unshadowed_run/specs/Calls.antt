@@ -1,6 +1,6 @@
 -- The run call by the engine without shadows.
 use Rattle.std.specs.Prelude.{ℕ, Bool}
-use Rattle.dlx.specs.Choice.{if◌then◌else◌}
+use Rattle.dlx.specs.Choice.{when◌then◌else◌}
 use Rattle.house.specs.Turns.{World}
 use Rattle.house.specs.Calls.{Answered, unless_refused, run_verdict, run_call}
 use Rattle.unshadowed.specs.Turns.{unshadowed_steps, all_empty}
@@ -11,4 +11,4 @@ unshadowed_call w k = unless_refused (run_verdict w k) w (all_empty (unshadowed_
 
 -- by the engine that is asked for
 unfoldable pub run_by : Bool → World → ℕ → Answered
-run_by unshadowed w k = if unshadowed then unshadowed_call w k else run_call w k
+run_by unshadowed w k = when unshadowed then unshadowed_call w k else run_call w k

@@ -7,7 +7,7 @@ use native.Mathlib.Omega.{arith}
 use borrow.Author.Tests.{eq-eqb, ltb-true, ltb-false, lt-ltb, le-ltb}
 use lib.Dec.{ltb}
 use lib.ListN.{length, get_or, replicate, length-replicate, get_or-eq_default}
-use Rattle.dlx.specs.Choice.{if◌then◌else◌}
+use Rattle.dlx.specs.Choice.{when◌then◌else◌}
 use Rattle.dlx.specs.Processor.{fresh_of}
 use Rattle.dlx.specs.declared.partition.Partition.{Partition}
 use Rattle.dlx.proofs.Kept.{either}
@@ -67,9 +67,9 @@ module _ (b : Boot) where
   unfolding booted_house
   booted_runs i l = list_from_at (λ i. ltb i (length ps)) false 8 i l
 
-  booted_place : (i : ℕ) → i < 8 → partition h i ≡ (if ltb i (length ps) then fresh_of (get_or ps i 0) else no_partition)
+  booted_place : (i : ℕ) → i < 8 → partition h i ≡ (when ltb i (length ps) then fresh_of (get_or ps i 0) else no_partition)
   unfolding booted_house
-  booted_place i l = list_from_at (λ i. if ltb i (length ps) then fresh_of (get_or ps i 0) else no_partition) no_partition 8 i l
+  booted_place i l = list_from_at (λ i. when ltb i (length ps) then fresh_of (get_or ps i 0) else no_partition) no_partition 8 i l
 
   pub booted_registers : (i : ℕ) → i < 8 → registers_of h i ≡ replicate 32 0
   unfolding booted_house

@@ -7,7 +7,7 @@ use native.Mathlib.Omega.{arith}
 use borrow.Author.Tests.{eq-eqb, ne_eqb}
 use lib.Dec.{eqb}
 use lib.ListN.{length, get_or, length-append}
-use Rattle.dlx.specs.Choice.{if◌then◌else◌}
+use Rattle.dlx.specs.Choice.{when◌then◌else◌}
 use Rattle.dlx.specs.Machine.{Core, step, steps}
 use Rattle.dlx.specs.declared.partition.Partition.{Partition}
 use Rattle.dlx.specs.declared.execute.Reply.{Reply}
@@ -45,9 +45,9 @@ each_more f xs x = each_append f xs (x ∷ []) ∙ ap (λ l. each f xs ++ l) (ea
 -- how many steps of i a log has is how many turns the history gave it
 module _ (i : ℕ) where
   abbrev mine : Event → List Reply
-  mine e = if eqb e.who i then e.answer ∷ [] else []
+  mine e = when eqb e.who i then e.answer ∷ [] else []
 
-  mine_one : (w : World) → length (mine (event_of w)) ≡ (if eqb w.house.current i then 1 else 0)
+  mine_one : (w : World) → length (mine (event_of w)) ≡ (when eqb w.house.current i then 1 else 0)
   unfolding event_of
   mine_one w = by_test (eqb w.house.current i) (λ e. rw e) (λ e. rw e)
 

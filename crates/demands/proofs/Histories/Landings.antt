@@ -4,7 +4,7 @@ use mathlib.Core.Bool.{Bool, not}
 use mathlib.Core.List.{List}
 use Prim.Native.Nat.{ℕ, ◌<◌}
 use lib.ListN.{get_or}
-use Rattle.dlx.specs.Choice.{if◌then◌else◌}
+use Rattle.dlx.specs.Choice.{when◌then◌else◌}
 use Rattle.addresses.specs.Entries.{number, valid, protection, refused, protected_page, Found, fault, found}
 use Rattle.addresses.specs.Memory.{word_in, hosted}
 use Rattle.addresses.proofs.Entries.{number_entry, valid_entry, protection_entry, fault_invalid, Within, found_within}
@@ -19,8 +19,8 @@ use Rattle.demands.proofs.Histories.Standing.{Firm, right_of}
 -- through one entry
 abbrev landed : Bool → ℕ → ℕ → Landing
 landed store a e =
-    if not (valid e) then fails e else
-    if refused store (protection e) then fails protected_page else
+    when not (valid e) then fails e else
+    when refused store (protection e) then fails protected_page else
     word (word_in (number e) a)
 
 hosted_lands : (fr : List ℕ) (n : ℕ) (store : Bool) (a : ℕ) (g : Found) → Within n g → landed store a (hosted fr g) ≡ listed fr store a g

@@ -9,7 +9,7 @@ use borrow.Author.Tests.{eq-eqb, ne_eqb}
 use lib.Dec.{eqb}
 use lib.ListN.{length, get_or, drop}
 use lib.Seq.{ext_get_or, drop-append_seam}
-use Rattle.dlx.specs.Choice.{if◌then◌else◌}
+use Rattle.dlx.specs.Choice.{when◌then◌else◌}
 use Rattle.dlx.specs.Machine.{Core, core, Outcome, Request, step}
 use Rattle.dlx.specs.declared.execute.Reply.{Reply}
 use Rattle.dlx.specs.declared.partition.Partition.{Partition}
@@ -229,7 +229,7 @@ module _ (w : World) (st : Firm w) where
   step_turns = turn_most w.house.running w.house.count w.house.q w.house.current w.house.left made.0.calls
 
   step_counter : (j : ℕ) → j < w.house.count → (partition (host_step w).house j).counter ≡
-      (if eqb j w.house.current then ((partition w.house j).counter + 1) % 2 ^ 64 else (partition w.house j).counter)
+      (when eqb j w.house.current then ((partition w.house j).counter + 1) % 2 ^ 64 else (partition w.house j).counter)
   unfolding host_step step_with
   step_counter j l =
       by_eq j w.house.current

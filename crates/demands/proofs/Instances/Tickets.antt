@@ -7,7 +7,7 @@ use borrow.Author.Tests.{eq-eqb, ne_eqb}
 use lib.Count.{count_trailing_zeros}
 use lib.Dec.{eqb}
 use lib.ListN.{length, replicate}
-use Rattle.dlx.specs.Choice.{if◌then◌else◌}
+use Rattle.dlx.specs.Choice.{when◌then◌else◌}
 use Rattle.dlx.specs.Words.{extended_by, read_in, holds}
 use Rattle.dlx.specs.Instructions.{register_type, part_type, instruction_of}
 use Rattle.dlx.specs.Fields.{field, put, width, brought, placed}
@@ -160,6 +160,6 @@ counter w j = (partition w.house j).counter
 
 pub counters_move : (counter (host_step taking_step) 2 ≡ 1) × (counter (host_step sending_step) 2 ≡ 3)
 counters_move =
-    let taker : (if eqb 2 taking_step.house.current then (counter taking_step 2 + 1) % 2 ^ 64 else counter taking_step 2) ≡ 1 = unfold computing in refl in
-    let receiver : (if eqb 2 sending_step.house.current then (counter sending_step 2 + 1) % 2 ^ 64 else counter sending_step 2) ≡ 3 = unfold computing in refl in
+    let taker : (when eqb 2 taking_step.house.current then (counter taking_step 2 + 1) % 2 ^ 64 else counter taking_step 2) ≡ 1 = unfold computing in refl in
+    let receiver : (when eqb 2 sending_step.house.current then (counter sending_step 2 + 1) % 2 ^ 64 else counter sending_step 2) ≡ 3 = unfold computing in refl in
     ((at_step 5 (omega arith)).counters 2 (omega (arith, three 5)) ∙ taker, (at_step 10 (omega arith)).counters 2 (omega (arith, three 10)) ∙ receiver)

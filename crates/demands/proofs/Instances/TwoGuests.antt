@@ -10,7 +10,7 @@ use lib.Count.{count_trailing_zeros}
 use lib.Dec.{eqb}
 use lib.ListN.{length, get_or, set, replicate, length-set}
 use lib.Seq.{get_or-set_other}
-use Rattle.dlx.specs.Choice.{if◌then◌else◌}
+use Rattle.dlx.specs.Choice.{when◌then◌else◌}
 use Rattle.dlx.specs.Words.{extended_by, read_in, holds}
 use Rattle.dlx.specs.Instructions.{register_type, part_type, instruction_of}
 use Rattle.dlx.specs.Fields.{field, put, width, brought, placed}
@@ -443,7 +443,7 @@ pub stepped_other : lone_of (host_step ended) 1 ≡ lone_of ended 1
 stepped_other = stepped.others 1 (unfold computing in omega arith) (λ e. omega (arith, ended_current))
 
 abbrev counted : ℕ → ℕ
-counted j = let n = (partition ended.house j).counter in if eqb j ended.house.current then (n + 1) % 2 ^ 64 else n
+counted j = let n = (partition ended.house j).counter in when eqb j ended.house.current then (n + 1) % 2 ^ 64 else n
 
 pub stepped_counters : ((partition (host_step ended).house 0).counter ≡ 11) × ((partition (host_step ended).house 1).counter ≡ 2)
 stepped_counters =

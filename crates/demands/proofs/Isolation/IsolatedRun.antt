@@ -6,7 +6,7 @@ use native.Mathlib.Omega.{arith}
 use borrow.Author.Tests.{eqb-true}
 use lib.Dec.{eqb}
 use lib.ListN.{length, get_or}
-use Rattle.dlx.specs.Choice.{if◌then◌else◌}
+use Rattle.dlx.specs.Choice.{when◌then◌else◌}
 use Rattle.addresses.specs.Premises.{Own}
 use Rattle.dlx.proofs.Tests.{either_both, by_eq}
 use Rattle.house.specs.House.{pages_of, frames_of}
@@ -127,7 +127,7 @@ module _ (h : House) (m m' : List ℕ) (s : Shaped h) (long : length m ≡ lengt
   answers_alike k =
       let w = world h m in
       let w' = world h m' in
-      subst (λ (v : Verdict). InStep h m (run_call w k).world (if eqb v.number 0 then host_steps k w' else w')) (same_verdict h m m' long k)
+      subst (λ (v : Verdict). InStep h m (run_call w k).world (when eqb v.number 0 then host_steps k w' else w')) (same_verdict h m m' long k)
       (either_both (InStep h m) (eqb (run_verdict w k).number 0)
       (λ t. done_alike k (run_done w k (eqb-true (run_verdict w k).number 0 t)))
       (λ _. given_alike))

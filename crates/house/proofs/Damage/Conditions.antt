@@ -7,7 +7,7 @@ use native.Mathlib.Omega.{arith}
 use borrow.Author.Tests.{eqb-true, eqb-false, leb-true, not-false, eq-eqb, ne_eqb, le-leb}
 use lib.Dec.{ltb, leb, eqb}
 use lib.ListN.{get_or}
-use Rattle.dlx.specs.Choice.{if◌then◌else◌}
+use Rattle.dlx.specs.Choice.{when◌then◌else◌}
 use Rattle.dlx.specs.declared.partition.Partition.{Partition}
 use Rattle.dlx.proofs.Kept.{either}
 use Rattle.addresses.specs.Entries.{number, valid, entry_of}
@@ -169,4 +169,4 @@ module _ (h : House) where
       || not_zero h.shadows (i * entries) entries
 
   abbrev pub bad_place : ℕ → Bool
-  bad_place i = if ltb i h.count then any (bad_behind i) 256 else bad_unused i
+  bad_place i = when ltb i h.count then any (bad_behind i) 256 else bad_unused i

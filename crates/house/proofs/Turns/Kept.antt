@@ -8,7 +8,7 @@ use borrow.Author.Tests.{eqb-true, eqb-false, ltb-true, ltb-false}
 use lib.Dec.{eqb, ltb}
 use lib.ListN.{length, get_or, length-set}
 use lib.Seq.{get_or-set_same, get_or-set_other}
-use Rattle.dlx.specs.Choice.{if◌then◌else◌}
+use Rattle.dlx.specs.Choice.{when◌then◌else◌}
 use Rattle.dlx.specs.Machine.{Outcome}
 use Rattle.dlx.specs.declared.partition.Partition.{Partition}
 use Rattle.dlx.proofs.Kept.{either, get_or_set_elim}
@@ -44,7 +44,7 @@ next_below r n i (suc k) h =
 
 -- from c to i in cyclic order, 1 to n
 unfoldable pub distance : ℕ → ℕ → ℕ → ℕ
-distance n c i = if ltb c i then i - c else n - c + i
+distance n c i = when ltb c i then i - c else n - c + i
 
 module _ (n c i : ℕ) (l : c < n) where
   pub distance_some : 0 < distance n c i
@@ -64,14 +64,14 @@ module _ (n c i : ℕ) (l : c < n) where
     nearer : (following n c ≡ i → ⊥) → distance n (following n c) i < distance n c i
     unfolding distance
     nearer =
-        either (λ f. (f ≡ i → ⊥) → (if ltb f i then i - f else n - f + i) < (if ltb c i then i - c else n - c + i)) (eqb (c + 1) n)
+        either (λ f. (f ≡ i → ⊥) → (when ltb f i then i - f else n - f + i) < (when ltb c i then i - c else n - c + i)) (eqb (c + 1) n)
         (λ e o.
         let z = eqb-true (c + 1) n e in
-        either (λ d. d < (if ltb c i then i - c else n - c + i)) (ltb 0 i)
+        either (λ d. d < (when ltb c i then i - c else n - c + i)) (ltb 0 i)
         (λ t. either (λ d. i - 0 < d) (ltb c i) (λ u. let k = ltb-true c i u in omega arith) (λ u. omega arith))
         (λ t. let k = ltb-false 0 i t in absurd (o (omega arith))))
         (λ e o.
-        either (λ d. d < (if ltb c i then i - c else n - c + i)) (ltb (c + 1) i)
+        either (λ d. d < (when ltb c i then i - c else n - c + i)) (ltb (c + 1) i)
         (λ t. let k = ltb-true (c + 1) i t in either (λ d. i - (c + 1) < d) (ltb c i) (λ u. omega arith) (λ u. let j = ltb-false c i u in omega arith))
         (λ t. let k = ltb-false (c + 1) i t in either (λ d. n - (c + 1) + i < d) (ltb c i) (λ u. let j = ltb-true c i u in absurd (o (omega arith))) (λ u. omega arith)))
 

@@ -8,7 +8,7 @@ use native.Mathlib.Omega.{arith}
 use borrow.Author.Tests.{eqb-false, ltb-true, ltb-false, eq-eqb, ne_eqb, lt-ltb, le-ltb}
 use lib.Dec.{eqb, ltb}
 use lib.ListN.{get_or}
-use Rattle.dlx.specs.Choice.{if◌then◌else◌}
+use Rattle.dlx.specs.Choice.{when◌then◌else◌}
 use Rattle.dlx.proofs.Kept.{either}
 use Rattle.dlx.proofs.Tests.{by_eq}
 use Rattle.house.specs.House.{runs, turn}
@@ -41,11 +41,11 @@ distance_self n c l = either (λ d. d ≡ n) (ltb c c) (λ t. omega (arith, ltb-
 
 -- by how many steps j is ahead of i when the turn of c is over: by a turn, where i comes first of the two
 owed : ℕ → ℕ → ℕ → ℕ → ℕ → ℕ
-owed n q i j c = if ltb (distance n c i) (distance n c j) then q else 0
+owed n q i j c = when ltb (distance n c i) (distance n c j) then q else 0
 
 -- and while c has l left
 pub lead : ℕ → ℕ → ℕ → ℕ → ℕ → ℕ → ℕ
-lead n q i j c l = if eqb c j then q - l else (if eqb c i then l else owed n q i j c)
+lead n q i j c l = when eqb c j then q - l else (when eqb c i then l else owed n q i j c)
 
 module _ (n q i j c : ℕ) where
   owed_turn : distance n c i < distance n c j → owed n q i j c ≡ q
@@ -87,7 +87,7 @@ in_time l calls s early ends =
 
 module _ (n q i j : ℕ) (m : i < n) (o : j < n) (d : i ≡ j → ⊥) where
   -- a step of c's turn that leaves some
-  lead_on : (c l : ℕ) → 1 < l → l ≤ q → (if eqb c j then 1 else 0) + lead n q i j c l ≡ (if eqb c i then 1 else 0) + lead n q i j c (l - 1)
+  lead_on : (c l : ℕ) → 1 < l → l ≤ q → (when eqb c j then 1 else 0) + lead n q i j c l ≡ (when eqb c i then 1 else 0) + lead n q i j c (l - 1)
   unfolding lead
   lead_on c l s k =
       by_eq c j
@@ -97,7 +97,7 @@ module _ (n q i j : ℕ) (m : i < n) (o : j < n) (d : i ≡ j → ⊥) where
       (λ z. simp (ne_eqb c j y, ne_eqb c i z)))
 
   -- the last one
-  lead_last : (c : ℕ) → c < n → 0 < q → (if eqb c j then 1 else 0) + lead n q i j c 1 ≡ (if eqb c i then 1 else 0) + owed n q i j c
+  lead_last : (c : ℕ) → c < n → 0 < q → (when eqb c j then 1 else 0) + lead n q i j c 1 ≡ (when eqb c i then 1 else 0) + owed n q i j c
   lead_last c b s =
       by_eq c j
       (λ e.
@@ -147,13 +147,13 @@ module _ (n q i j : ℕ) (m : i < n) (o : j < n) (d : i ≡ j → ⊥) where
     -- ---- a step of c, which had l left
 
     turn_shares : (l : ℕ) (calls : Bool) → InTurn r n q (turn c l) → (ltb 1 l && calls) ≡ false → let t = turn_of r n q c l 1 calls in
-        (if eqb c j then 1 else 0) + lead n q i j c l ≡ (if eqb c i then 1 else 0) + lead n q i j t.current t.left
+        (when eqb c j then 1 else 0) + lead n q i j c l ≡ (when eqb c i then 1 else 0) + lead n q i j t.current t.left
     unfolding turn_of
     turn_shares l calls s early =
-        either (λ (t : Turn). (if eqb c j then 1 else 0) + lead n q i j c l ≡ (if eqb c i then 1 else 0) + lead n q i j t.current t.left) (eqb l 1 || calls)
+        either (λ (t : Turn). (when eqb c j then 1 else 0) + lead n q i j c l ≡ (when eqb c i then 1 else 0) + lead n q i j t.current t.left) (eqb l 1 || calls)
         (λ t.
         let z = in_time l calls s.some early t in
-        let g : (if eqb c j then 1 else 0) + lead n q i j c l ≡ (if eqb c i then 1 else 0) + owed n q i j c = rw z (lead_last c b (omega (arith, s.some, s.most))) in
+        let g : (when eqb c j then 1 else 0) + lead n q i j c l ≡ (when eqb c i then 1 else 0) + owed n q i j c = rw z (lead_last c b (omega (arith, s.some, s.most))) in
         omega (arith, g, passed_lead))
         (λ t. let k = eqb-false l 1 (or_left (eqb l 1) calls t) in lead_on c l (omega (arith, s.some)) s.most)
 
@@ -165,7 +165,7 @@ lead_in h i j = lead h.count h.q i j h.current h.left
 pub step_shares : (w : World) (i j : ℕ) → i < w.house.count → j < w.house.count → (i ≡ j → ⊥) → runs w.house i ≡ true → runs w.house j ≡ true
     → InTurn w.house.running w.house.count w.house.q (turn w.house.current w.house.left)
     → (ltb 1 w.house.left && (guest_step w w.house.current).0.calls) ≡ false
-    → (if eqb w.house.current j then 1 else 0) + lead_in w.house i j ≡ (if eqb w.house.current i then 1 else 0) + lead_in (host_step w).house i j
+    → (when eqb w.house.current j then 1 else 0) + lead_in w.house i j ≡ (when eqb w.house.current i then 1 else 0) + lead_in (host_step w).house i j
 unfolding host_step step_with settled_house
 step_shares w i j m o d e f s early =
     let h = w.house in

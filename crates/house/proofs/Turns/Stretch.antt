@@ -15,7 +15,7 @@ use Rattle.dlx.specs.Processor.{with_counter}
 use Rattle.dlx.proofs.Kept.{either}
 use Rattle.addresses.specs.Walk.{entries}
 use Rattle.addresses.specs.Memory.{Host, host_memory}
-use Rattle.dlx.specs.Choice.{if◌then◌else◌}
+use Rattle.dlx.specs.Choice.{when◌then◌else◌}
 use Rattle.dlx.proofs.Tests.{by_test, by_eq}
 use Rattle.house.specs.House.{guests, turn, with_turn, with_guests, with_queues, partition, pages_of, frames_of, queues_of}
 use Rattle.house.specs.Turns.{with_guest, World, world, turn_after, guest, guest_memory, request_now, reply_now, queues_next, guest_step, queued_on, counted, counted_on, settled_house, step_with, host_step, host_steps, stretched_house, next_of, turn_of, left_alone, later_of}
@@ -210,7 +210,7 @@ Alone w = next_of w.house.running w.house.count w.house.current ≡ w.house.curr
 
 -- what is left behind one step
 abbrev less : ℕ → ℕ → ℕ
-less q l = if eqb l 1 then q else l - 1
+less q l = when eqb l 1 then q else l - 1
 
 -- one step, and then so many
 less_more : (q l j : ℕ) (calls : Bool) → 0 < l → left_alone q (less q l) j calls ≡ left_alone q l (suc j) calls
@@ -219,14 +219,14 @@ less_more q l j true h = refl
 less_more q l j false h =
     by_eq l 1 last more
   where
-    last : l ≡ 1 → (if ltb j (less q l) then less q l - j else q - (j - less q l) % q) ≡ (if ltb (suc j) l then l - suc j else q - (suc j - l) % q)
+    last : l ≡ 1 → (when ltb j (less q l) then less q l - j else q - (j - less q l) % q) ≡ (when ltb (suc j) l then l - suc j else q - (suc j - l) % q)
     last e =
         let d : suc j - l ≡ j = omega arith in
         by_test (ltb j q)
         (λ b. simp (eq-eqb l 1 e, b, le-ltb (suc j) l (omega arith), d, mod-eq_of_lt (ltb-true j q b)))
         (λ b. simp (eq-eqb l 1 e, b, le-ltb (suc j) l (omega arith), d, mod-eq-sub-mod (ltb-false j q b)))
 
-    more : (l ≡ 1 → ⊥) → (if ltb j (less q l) then less q l - j else q - (j - less q l) % q) ≡ (if ltb (suc j) l then l - suc j else q - (suc j - l) % q)
+    more : (l ≡ 1 → ⊥) → (when ltb j (less q l) then less q l - j else q - (j - less q l) % q) ≡ (when ltb (suc j) l then l - suc j else q - (suc j - l) % q)
     more d =
         let a : l - 1 - j ≡ l - suc j = omega arith in
         let b : j - (l - 1) ≡ suc j - l = omega arith in

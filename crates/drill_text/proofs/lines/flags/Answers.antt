@@ -1,5 +1,5 @@
 use Rattle.std.proofs.Common.{ℕ, false, get_or, arith}
-use Rattle.dlx.specs.Choice.{if◌then◌else◌}
+use Rattle.dlx.specs.Choice.{when◌then◌else◌}
 use Rattle.drill_text.specs.Numbers.{number_of}
 use Rattle.drill_text.specs.Lines.{flags_of}
 use Rattle.decimal.proofs.Texts.{parts_begin, parts_on, parts_end}
@@ -10,7 +10,7 @@ pub loop-i-init : goal.loop-i-init
 loop-i-init c = (parts_begin _ 21, omega arith)
 
 pub loop-i-preserved : goal.loop-i-preserved
-loop-i-preserved c = (parts_on (λ (k : ℕ). number_of (if get_or c.args.running.now k false then 1 else 0)) 21 c.loop-i.i c.loop-i.invariant.0 (rw flag_byte at c.number-end.ensures), omega arith)
+loop-i-preserved c = (parts_on (λ (k : ℕ). number_of (when get_or c.args.running.now k false then 1 else 0)) 21 c.loop-i.i c.loop-i.invariant.0 (rw flag_byte at c.number-end.ensures), omega arith)
 
 pub returns : goal.returns
 unfolding flags_of
