@@ -1,10 +1,10 @@
 -- The words that a text in decimals gives, with their signs or without, are the words that were written.
-use Rattle.std.proofs.Common.{◌≡◌, ℕ, zero, suc, ◌+◌, ◌-◌, ◌*◌, ◌/◌, ◌%◌, ◌^◌, ◌<◌, ◌≤◌, Bool, true, false, not, ◌&&◌, ◌||◌, eqb, ltb, leb, List, [], ◌∷◌, ◌++◌, length, sym, refl, ap, ◌∙◌, append_assoc, append-nil, arith, ltb-false, ltb-true, eq-eqb, ne_eqb, eqb-true, le-leb}
+use Rattle.std.proofs.Common.{◌≡◌, ℕ, zero, suc, ◌+◌, ◌-◌, ◌*◌, ◌/◌, ◌%◌, ◌^◌, ◌<◌, ◌≤◌, true, ◌||◌, eqb, ltb, List, [], ◌∷◌, ◌++◌, sym, refl, ap, ◌∙◌, append_assoc, append-nil, arith, ltb-false, ltb-true, ne_eqb, eqb-true, le-leb}
 use Rattle.dlx.proofs.Tests.{by_test, and_left}
 use Rattle.decimal.specs.Decimals.{digit, decimal, signed_text}
 use Rattle.decimal.specs.Texts.{ascii, same}
 use Rattle.decimal.proofs.Same.{and_right, same_eq}
-use Rattle.decimal.proofs.Decimals.{one_digit, more_digits, few_digits}
+use Rattle.decimal.proofs.Decimals.{one_digit, more_digits}
 use Rattle.command.specs.Words.{number, with_digit, with_digits, number_of}
 use Rattle.command.specs.declared.Number.{Number}
 use Rattle.texts.specs.Numbers.{negated, word_said, idle, bared_from, bared}

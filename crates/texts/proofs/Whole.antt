@@ -1,5 +1,5 @@
 -- Byte by byte the answer is that of the call for the whole text.
-use Rattle.std.proofs.Common.{◌≡◌, ℕ, zero, suc, ◌+◌, ◌-◌, ◌%◌, ◌^◌, ◌<◌, ◌≤◌, Bool, true, false, not, ◌&&◌, eqb, ltb, leb, List, [], ◌∷◌, ◌++◌, length, take, drop, set, replicate, sym, refl, ap, ◌∙◌, append_assoc, append-nil, mod-eq_of_lt, add-one, arith, length-append, length-take, length-take-le, take_all, ltb-false, ltb-true, le-ltb, lt-ltb, eq-eqb, ne_eqb, eqb-true, le-leb, leb-true}
+use Rattle.std.proofs.Common.{◌≡◌, ℕ, suc, ◌+◌, ◌%◌, ◌^◌, ◌<◌, ◌≤◌, Bool, true, false, not, ◌&&◌, eqb, ltb, leb, List, [], ◌∷◌, ◌++◌, length, take, drop, set, sym, refl, ap, ◌∙◌, append_assoc, append-nil, mod-eq_of_lt, add-one, arith, length-append, length-take, take_all, ltb-false, ltb-true, le-ltb, ne_eqb, leb-true}
 use borrow.Author.Tests.{lt-leb}
 use lib.Seq.{sets, take-append-le}
 use Rattle.dlx.specs.Choice.{when◌then◌else◌}

@@ -1,9 +1,8 @@
 -- Worked examples: a text read byte by byte, in two pieces. proofs/Checked.antt checks them by a single claim.
 use Rattle.std.specs.Prelude.{ℕ, ◌-◌, ◌^◌, Bool, true, false, not, ◌&&◌, List, [], ◌∷◌, ◌++◌, replicate, ◌==◌}
-use Prim.Native.String.{String}
 use Rattle.decimal.specs.Texts.{ascii, same}
 use Rattle.texts.specs.Numbers.{bared, right_by, word_by}
-use Rattle.texts.specs.Reading.{Going, going, fed, finished}
+use Rattle.texts.specs.Reading.{going, fed, finished}
 
 -- the lines, the wrong one, the line at hand and the words, over an output of three words, each 9
 unfoldable pub comes : Bool → List ℕ → List ℕ → ℕ → ℕ → List ℕ → List ℕ → Bool

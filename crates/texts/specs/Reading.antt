@@ -1,7 +1,6 @@
 -- A text read byte by byte, and what its words are, in decimals or instructions: the same as those of the whole text (proofs/Whole.antt).
-use Rattle.std.specs.Prelude.{◌≡◌, ℕ, ◌+◌, ◌-◌, ◌%◌, ◌^◌, ◌<◌, ◌≤◌, Bool, not, List, [], ◌∷◌, ◌++◌, length, take, replicate, ◌==◌, nat_lt, slice_set}
+use Rattle.std.specs.Prelude.{◌≡◌, ℕ, ◌+◌, ◌%◌, ◌^◌, ◌<◌, ◌≤◌, Bool, not, List, [], ◌∷◌, ◌++◌, length, take, replicate, ◌==◌, nat_lt, slice_set}
 use Rattle.dlx.specs.Choice.{when◌then◌else◌}
-use Rattle.decimal.specs.Raw.{raw}
 use Rattle.lines.specs.Listings.{Answer, answer, read_by}
 use Rattle.texts.specs.Numbers.{idle, bared, right_by, word_by}
 use Rattle.texts.specs.declared.reading.At.{At}
