@@ -1,0 +1,11 @@
+use mathlib.Core.Path.{ap}
+use Prim.Native.Nat.{◌≤◌, ◌-◌}
+use native.Mathlib.Omega.{arith}
+use Rattle.readout.specs.declared.shown.Shown.{Shown}
+use Rattle.readout.proofs.tell_words.Given as goal
+
+abbrev pub invariant-loop-t : goal.invariant-loop-t
+invariant-loop-t l = l.s.words ≤ l.count
+
+abbrev pub decreases-loop-t : goal.decreases-loop-t
+decreases-loop-t l = l.count - l.s.words
