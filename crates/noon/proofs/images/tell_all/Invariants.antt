@@ -1,0 +1,10 @@
+use borrow.Author.Rules.{rules}
+use native.Mathlib.Omega.{arith}
+use Prim.Native.Nat.{◌-◌, ◌≤◌, zero-le}
+use Rattle.noon.proofs.images.tell_all.Given as goal
+
+abbrev pub invariant-loop-k : goal.invariant-loop-k
+invariant-loop-k l = l.k ≤ l.images
+
+abbrev pub decreases-loop-k : goal.decreases-loop-k
+decreases-loop-k l = l.images - l.k
