@@ -1,0 +1,16 @@
+use Rattle.std.proofs.Common.{◌≡◌, length, arith, rules}
+use Rattle.decimal.proofs.Texts.{within}
+use Rattle.drill.proofs.Commands.{played_within}
+use Rattle.drill.proofs.call_turn.Goals as goal
+
+pub flushed-used-requires : goal.flushed-used-requires
+flushed-used-requires c = let n : length c.args.text.now ≡ 524288 = search (rules, c.flushed-arg-2-1, c.flushed-arg-1) in omega (arith, n, c.requires.fact_1.used)
+
+pub play-p-requires : goal.play-p-requires
+play-p-requires c = record { stands = c.requires.fact_1.stands; right = c.requires.fact_2; lent = c.requires.fact_1.lent }
+
+pub settle-reached-requires : goal.settle-reached-requires
+settle-reached-requires c = let g = c.requires.fact_1 in let l = played_within _ _ _ _ (length c.args.memory.now) c.play-p.ensures.0 g.lent in record { fact_1 = g.stands; fact_2 = omega (arith, l, c.play-p.auto) }
+
+pub returns : goal.returns
+returns c = let z = c.settle-reached.ensures in record { stands = z.0; lent = omega (arith, z.1, c.play-p.auto); used = omega (arith, within c.play-p.ensures.1, c.flushed-used.ensures) }

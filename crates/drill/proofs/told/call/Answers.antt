@@ -1,0 +1,7 @@
+use Rattle.decimal.proofs.Texts.{◌then◌}
+use Rattle.drill.specs.Told.{told_of}
+use Rattle.drill.proofs.told.call.Goals as goal
+
+pub returns : goal.returns
+unfolding told_of
+returns c = c.call-called.ensures then c.house-housed.ensures then c.partitions-parted.ensures then c.queues-queued.ensures then c.memory.ensures

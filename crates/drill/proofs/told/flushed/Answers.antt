@@ -1,0 +1,5 @@
+use Rattle.std.proofs.Common.{rules}
+use Rattle.drill.proofs.told.flushed.Goals as goal
+
+pub written-requires : goal.written-requires
+written-requires c = c.requires
