@@ -263,11 +263,11 @@ saved_over_lem m head t s e (bs, g, h) =
 saved_whole : (m : List ℕ) (t : Taken) (bs file : List ℕ) → AllOf (refused_over m) t bs → FileOf t bs file → Reading·fed (begun m) bs ≡ Reading·fed (begun m) file
 saved_whole m t bs file all of =
     of_file (Reading·fed (begun m)) (refused_over m) t bs file all of
-    (λ _ w. Save·fed-pieces (begun m) bs of.more ∙ stuck (Reading·fed (begun m) bs) of.more (eqb-false _ 0 (not_true (eqb (Reading·fed (begun m) bs).progress.refusal 0) w)))
+    (λ _ w. Save·fed-pieces (begun m) bs of.more ∙ stuck (Reading·fed (begun m) bs) of.more (eqb-false _ 0 (not-true (eqb (Reading·fed (begun m) bs).progress.refusal 0) w)))
   where
-    not_true : (b : Bool) → not b ≡ true → b ≡ false
-    not_true false e = refl
-    not_true true e = one_way false e refl
+    not-true : (b : Bool) → not b ≡ true → b ≡ false
+    not-true false e = refl
+    not-true true e = one_way false e refl
 
 -- the answer over the memory that the pieces left
 pub saved_right : (m head : List ℕ) (t : Taken) (s : Save-as-Reading) (k g words : ℕ) (h : House) (m' : List ℕ) → SavedRead m head t s → t.failed ≡ false → words ≡ length m'

@@ -1,0 +1,11 @@
+use mathlib.Core.Path.{sym, ◌∙◌}
+use native.Mathlib.Omega.{arith}
+use borrow.Author.Rules.{rules}
+use Rattle.night_run.proofs.Pieces.{Heads, heads_none, heads_more, heads_over, head_begins, left, falls}
+use Rattle.night_run.proofs.input.take_head.Given as goal
+
+abbrev pub invariant-loop-source : goal.invariant-loop-source
+invariant-loop-source l = Heads l.t l.head
+
+abbrev pub decreases-loop-source : goal.decreases-loop-source
+decreases-loop-source l = left l.t
