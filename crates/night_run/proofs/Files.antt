@@ -2,13 +2,11 @@
 use mathlib.Core.Path.{◌≡◌, refl, ap, sym, subst, ◌∙◌}
 use mathlib.Core.Bool.{Bool, true, false, not, ◌&&◌, ◌||◌}
 use mathlib.Core.List.{List, [], ◌∷◌, ◌++◌, append-nil}
-use Prim.Native.Nat.{ℕ, zero, suc, min, ◌+◌, ◌-◌, ◌^◌, ◌<◌, ◌≤◌}
-use native.Mathlib.Nat.{min-eq_left, min-eq_right}
+use Prim.Native.Nat.{ℕ, min, ◌+◌, ◌-◌, ◌≤◌}
 use native.Mathlib.Omega.{arith}
-use native.Mathlib.Numerals.{add-one}
-use borrow.Author.Tests.{eq-eqb, ne_eqb, eqb-false, lt-ltb, le-ltb, lt-leb, le-leb, leb-true}
+use borrow.Author.Tests.{eq-eqb, ne_eqb, eqb-false, leb-true}
 use lib.Dec.{eqb, ltb, leb}
-use lib.ListN.{length, get_or, take, drop, replicate, length-append, length-replicate, replicate-append-replicate}
+use lib.ListN.{length, get_or, take, replicate, length-append, length-replicate, replicate-append-replicate}
 use lib.Seq.{take-append-le, take_all, take_at, length-take-le}
 use Rattle.dlx.specs.Choice.{when◌then◌else◌}
 use Rattle.dlx.proofs.Tests.{by_test}
@@ -18,12 +16,12 @@ use Rattle.house.specs.House.{no_house}
 use Rattle.house.specs.Turns.{World, world}
 use Rattle.house.specs.declared.House.{House}
 use Rattle.house.specs.Calls.{Answered, answered, boot_call, run_call}
-use Rattle.demands.specs.Histories.{Boot, booted}
+use Rattle.demands.specs.Histories.{booted}
 use Rattle.demands.proofs.Demands.{refused_means_untouched, every_boot}
 use Rattle.unshadowed_run.specs.Calls.{run_by}
 use Rattle.engines.specs.Promises.{emptied_by}
 use Rattle.engines.proofs.Booted.{booted_runs}
-use Rattle.housefile.specs.Records.{Reading, wrong, right, File, verdict_of, reading_of, number, kind}
+use Rattle.housefile.specs.Records.{Reading, wrong, right, File, verdict_of, reading_of}
 use Rattle.housefile.specs.Reader.{Read, read, no_reader, no_read, fed, answer_of}
 use Rattle.housefile.specs.declared.Reader.{Reader}
 use Rattle.housefile.proofs.WholeFile.{reads, wrong_fixed}
@@ -37,7 +35,7 @@ use Rattle.save.specs.Promises.{pieces_read}
 use Rattle.save.specs.Promises.{whole as Save·whole}
 use Rattle.save.proofs.Promises.{cut_anywhere}
 use Rattle.save.proofs.Machine.{fed_pieces as Save·fed-pieces}
-use Rattle.night_run.specs.Pieces.{Bytes, OneRead, fixed, Behind, Going, AllOf, Reads, FileOf}
+use Rattle.night_run.specs.Pieces.{Bytes, OneRead, fixed, Going, AllOf, Reads, FileOf}
 use Rattle.night_run.specs.Ran.{none_ran, after_boot, ran_of, held_of, is_saved, room_for, lent_for, Way, refused_over, house_file_of, house_file, ran_by, house_file_by, held_file, saved_over, saved_file, saved_or, either_file, HouseGoing, HouseRead, SavedGoing, SavedRead, no_frames, answer_in, handed, Handed, HandedFrom, Left, Told}
 use Rattle.night_run.proofs.Pieces.{bytes_left, going_more, reads_over}
 use Rattle.night_run.specs.declared.input.Taken.{Taken}

@@ -1,11 +1,10 @@
 -- What the reads of a program come to, used on closed inputs: zeros, whose first record is wrong.
 use mathlib.Core.Path.{◌≡◌, refl, sym, ap, ◌∙◌}
-use mathlib.Core.Bool.{Bool, true, false}
+use mathlib.Core.Bool.{true, false}
 use mathlib.Core.List.{List, ◌++◌}
 use Prim.Native.Nat.{ℕ, ◌+◌, ◌-◌, ◌≤◌}
 use native.Mathlib.Omega.{arith}
 use borrow.Author.Tests.{le-leb}
-use lib.Dec.{leb}
 use lib.ListN.{length, replicate, take, length-append, length-replicate, replicate-append-replicate}
 use lib.Seq.{take_at}
 use Rattle.house.proofs.Lists.Bounded.{one_way}

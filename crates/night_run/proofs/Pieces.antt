@@ -1,11 +1,11 @@
 -- What a read makes of the reads before it.
 use mathlib.Core.Path.{◌≡◌, refl, sym, ap, subst, ◌∙◌}
-use mathlib.Core.Bool.{Bool, true, false, not, ◌&&◌, ◌||◌}
-use mathlib.Core.List.{List, [], ◌∷◌, ◌++◌, append-nil}
+use mathlib.Core.Bool.{Bool, true, false, not, ◌&&◌}
+use mathlib.Core.List.{List, [], ◌∷◌, ◌++◌}
 use Prim.Native.Nat.{ℕ, zero, suc, ◌+◌, ◌-◌, ◌^◌, ◌<◌, ◌≤◌}
 use native.Mathlib.Omega.{arith}
-use borrow.Author.Tests.{eq-eqb, ne_eqb, lt-ltb, le-ltb, ltb-true, ltb-false, leb-true, leb-false, le-leb, lt-leb, eqb-true, eqb-false}
-use lib.Dec.{eqb, ltb, leb}
+use borrow.Author.Tests.{eq-eqb, ne_eqb, lt-ltb, le-ltb, ltb-true, ltb-false, le-leb, lt-leb, eqb-true, eqb-false}
+use lib.Dec.{eqb, ltb}
 use lib.IntN.{ℤ, pos, negsuc}
 use lib.ListN.{length, take, length-append, length-take}
 use lib.Seq.{take-append-le, take_all, length-take-le}
@@ -17,7 +17,7 @@ use Rattle.dlx.proofs.Kept.{either}
 use Rattle.dlx.proofs.Tests.{by_test}
 use Rattle.house.proofs.Lists.Bounded.{one_way}
 use Rattle.housefile.proofs.Parts.{take_there}
-use Rattle.night_run.specs.Pieces.{Bytes, none_taken, over, onward, came, brought, after_read, OneRead, fixed, Behind, Going, AllOf, Reads}
+use Rattle.night_run.specs.Pieces.{Bytes, none_taken, over, onward, came, brought, after_read, OneRead, fixed, Behind, Going, Reads}
 use Rattle.night_run.specs.declared.input.Taken.{Taken}
 
 -- ---- one read

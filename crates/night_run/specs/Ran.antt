@@ -1,8 +1,8 @@
 -- What a file comes to: the first refusal of the file, of boot, or of run; or the house and memory after the run, or those that were saved.
-use Rattle.std.specs.Prelude.{◌≡◌, Bool, true, false, not, ◌&&◌, List, [], ℕ, min, ltb, leb, eqb, length, take, drop, replicate}
+use Rattle.std.specs.Prelude.{◌≡◌, Bool, not, ◌&&◌, List, [], ℕ, min, ltb, leb, eqb, length, take, drop, replicate}
 use Rattle.dlx.specs.Choice.{when◌then◌else◌}
 use Rattle.house.specs.House.{no_house}
-use Rattle.house.specs.Boot.{Verdict, verdict}
+use Rattle.house.specs.Boot.{verdict}
 use Rattle.house.specs.Turns.{World, world}
 use Rattle.house.specs.Calls.{Answered, answered, boot_call, run_call}
 use Rattle.housefile.specs.Records.{Reading, wrong, right, reading_of, number, kind}

@@ -1,4 +1,3 @@
-use native.Mathlib.Omega.{arith}
 use borrow.Author.Rules.{rules}
 use Rattle.night_run.proofs.Pieces.{going_at}
 use Rattle.night_run.proofs.Files.{from_saved, lent_zeros, front_long, front_count, room_fits}

@@ -1,6 +1,4 @@
 use Rattle.night_run.proofs.Files.{no_house_lem}
-use borrow.Author.Rules.{rules}
-use Rattle.house.proofs.House.none.Reads as none_reads
 use Rattle.night_run.proofs.Ran.none.Goals as goal
 
 -- src/lib.rt:35:5

@@ -2,7 +2,6 @@ use mathlib.Core.Path.{sym, ◌∙◌}
 use native.Mathlib.Omega.{arith}
 use lib.Seq.{length-take-le}
 use Rattle.night_run.proofs.Files.{lists_taken, boot_refused, boot_done}
-use borrow.Author.Rules.{rules}
 use Rattle.night_run.proofs.booting.after_boot.Goals as goal
 
 pub slice_bounds-boot-end : goal.slice_bounds-boot-end

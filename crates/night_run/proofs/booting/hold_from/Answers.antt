@@ -1,5 +1,4 @@
 use Rattle.night_run.proofs.Files.{house_start}
-use borrow.Author.Rules.{rules}
 use Rattle.night_run.proofs.booting.hold_from.Goals as goal
 
 pub read_house-x-requires : goal.read_house-x-requires

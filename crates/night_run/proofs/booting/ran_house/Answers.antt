@@ -1,5 +1,4 @@
 use mathlib.Core.Path.{refl, sym, ◌∙◌}
-use native.Mathlib.Omega.{arith}
 use borrow.Author.Rules.{rules}
 use Rattle.night_run.specs.Ran.{ran_by, house_file_by}
 use Rattle.night_run.proofs.Files.{ran_refuses, file_done, from_failed, house_wrong, house_right, no_words}

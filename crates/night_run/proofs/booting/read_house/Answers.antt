@@ -1,5 +1,4 @@
 use Rattle.night_run.proofs.Files.{none_read, house_begun}
-use borrow.Author.Rules.{rules}
 use Rattle.night_run.proofs.booting.read_house.Goals as goal
 
 pub returns : goal.returns

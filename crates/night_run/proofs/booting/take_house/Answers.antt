@@ -1,12 +1,6 @@
-use mathlib.Core.Path.{◌≡◌, refl, sym, ◌∙◌}
-use mathlib.Core.List.{List}
-use Prim.Native.Nat.{ℕ}
-use lib.ListN.{length}
+use mathlib.Core.Path.{refl, sym, ◌∙◌}
 use native.Mathlib.Omega.{arith}
-use borrow.Author.Rules.{rules}
-use Rattle.housefile.specs.Reader.{read}
-use Rattle.night_run.specs.Ran.{HouseGoing}
-use Rattle.night_run.proofs.Pieces.{goes_on, left, falls}
+use Rattle.night_run.proofs.Pieces.{goes_on, falls}
 use Rattle.night_run.proofs.Files.{house_more, house_over}
 use Rattle.night_run.proofs.booting.take_house.Goals as goal
 

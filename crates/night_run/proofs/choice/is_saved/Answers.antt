@@ -1,6 +1,4 @@
-use native.Mathlib.Omega.{arith}
 use Rattle.night_run.proofs.Choices.{short_saved, long_saved}
-use borrow.Author.Rules.{rules}
 use Rattle.night_run.proofs.choice.is_saved.Goals as goal
 
 -- src/choice.rt:31:9

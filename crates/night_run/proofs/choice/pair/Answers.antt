@@ -1,7 +1,5 @@
 use native.Mathlib.Omega.{arith}
-use mathlib.Core.Path.{◌∙◌}
 use Rattle.night_run.proofs.Choices.{two_at}
-use borrow.Author.Rules.{rules}
 use Rattle.night_run.proofs.choice.pair.Goals as goal
 
 -- src/choice.rt:16:1

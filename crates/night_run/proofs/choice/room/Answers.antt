@@ -1,6 +1,4 @@
-use native.Mathlib.Omega.{arith}
 use Rattle.night_run.proofs.Choices.{short_room, some_room, most_room}
-use borrow.Author.Rules.{rules}
 use Rattle.night_run.proofs.choice.room.Goals as goal
 
 -- src/choice.rt:41:9

@@ -1,7 +1,6 @@
 use mathlib.Core.Path.{sym, ◌∙◌}
 use native.Mathlib.Omega.{arith}
-use borrow.Author.Rules.{rules}
-use Rattle.night_run.proofs.Pieces.{Heads, heads_none, heads_more, heads_over, head_begins, left, falls}
+use Rattle.night_run.proofs.Pieces.{heads_none, heads_more, heads_over, head_begins, falls}
 use Rattle.night_run.proofs.input.take_head.Goals as goal
 
 -- src/input.rt:138:5

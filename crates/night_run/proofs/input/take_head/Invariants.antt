@@ -1,7 +1,4 @@
-use mathlib.Core.Path.{sym, ◌∙◌}
-use native.Mathlib.Omega.{arith}
-use borrow.Author.Rules.{rules}
-use Rattle.night_run.proofs.Pieces.{Heads, heads_none, heads_more, heads_over, head_begins, left, falls}
+use Rattle.night_run.proofs.Pieces.{Heads, left}
 use Rattle.night_run.proofs.input.take_head.Given as goal
 
 abbrev pub invariant-loop-source : goal.invariant-loop-source

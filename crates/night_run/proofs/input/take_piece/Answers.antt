@@ -2,7 +2,6 @@ use mathlib.Core.Path.{subst}
 use Prim.Native.Nat.{ℕ}
 use Rattle.files.specs.Counts.{Moved}
 use native.Mathlib.Omega.{arith}
-use borrow.Author.Rules.{rules}
 use Rattle.night_run.proofs.input.take_piece.Goals as goal
 
 pub returns : goal.returns

@@ -1,5 +1,4 @@
 use mathlib.Core.Path.{refl, sym, ◌∙◌}
-use native.Mathlib.Omega.{arith}
 use borrow.Author.Rules.{rules}
 use Rattle.night_run.specs.Ran.{saved_over}
 use Rattle.night_run.proofs.Files.{from_failed, saved_begun, saved_right, no_words}

@@ -1,15 +1,10 @@
-use mathlib.Core.Path.{◌≡◌, refl, sym, ◌∙◌}
-use mathlib.Core.Bool.{not}
+use mathlib.Core.Path.{◌≡◌}
 use mathlib.Core.List.{List}
 use Prim.Native.Nat.{ℕ}
 use lib.ListN.{length}
-use lib.Dec.{eqb}
-use native.Mathlib.Omega.{arith}
-use borrow.Author.Rules.{rules}
 use Rattle.restore.specs.Standing.{reading_at}
 use Rattle.night_run.specs.Ran.{SavedGoing}
-use Rattle.night_run.proofs.Pieces.{goes_on, left, falls}
-use Rattle.night_run.proofs.Files.{saved_more, saved_over_lem}
+use Rattle.night_run.proofs.Pieces.{left}
 use Rattle.night_run.proofs.restoring.take_saved.Given as goal
 
 abbrev pub invariant-loop-source : goal.invariant-loop-source

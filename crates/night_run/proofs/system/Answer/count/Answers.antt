@@ -4,7 +4,6 @@ use lib.ListN.{length}
 use mir.Syntax.{w64}
 use mir.ValLaws.{to_z-of_z}
 use Rattle.files.specs.Counts.{clamp_len}
-use borrow.Author.Rules.{rules}
 use Rattle.night_run.proofs.system.Answer.count.Goals as goal
 
 pub returns : goal.returns
