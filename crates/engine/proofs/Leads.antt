@@ -1,9 +1,9 @@
 -- Steps ahead of the general one: plain ones within a stretch, a leg's end, rfe and a trap.
-use Rattle.std.proofs.Common.{◌≡◌, ℕ, zero, suc, ◌+◌, ◌-◌, ◌/◌, ◌%◌, ◌^◌, ◌<◌, ◌≤◌, Bool, true, false, not, ◌&&◌, eqb, List, [], ◌∷◌, length, get_or, set, sym, refl, ap, ◌∙◌, subst, add-zero, arith, eq-eqb, ne_eqb}
+use Rattle.std.proofs.Common.{◌≡◌, ℕ, zero, suc, ◌+◌, ◌-◌, ◌/◌, ◌%◌, ◌<◌, ◌≤◌, Bool, true, false, ◌&&◌, eqb, List, [], ◌∷◌, length, get_or, set, sym, refl, ap, ◌∙◌, subst, add-zero, arith, eq-eqb, ne_eqb}
 use Rattle.dlx.specs.Choice.{when◌then◌else◌}
-use Rattle.dlx.specs.Words.{opcode, extended}
-use Rattle.dlx.specs.Processor.{user, no_timer, special_of}
-use Rattle.dlx.specs.Interrupts.{level_of, interrupted, returned, unmasked}
+use Rattle.dlx.specs.Words.{extended}
+use Rattle.dlx.specs.Processor.{no_timer, special_of}
+use Rattle.dlx.specs.Interrupts.{interrupted, returned}
 use Rattle.dlx.specs.Timer.{ticked, raised}
 use Rattle.dlx.specs.Instructions.{instruction_of}
 use Rattle.dlx.specs.Execute.{effect_of, trap_of}
@@ -16,7 +16,6 @@ use Rattle.dlx.specs.declared.execute.Change.{Change}
 use Rattle.dlx.specs.declared.execute.Change.TheVariants.{Plain, Cause, Return}
 use Rattle.dlx.specs.declared.execute.Effect.{Effect}
 use Rattle.dlx.specs.declared.execute.Effect.TheVariants.{Done}
-use Rattle.dlx.specs.declared.instruction.Instruction.TheVariants.{Trap, Rfe}
 use Rattle.dlx.proofs.Spells.{Within, spell_some, spell_stretch, still_ticked, still_raised}
 use Rattle.tickets.specs.Queues.{Queues, desk, Seated}
 use Rattle.addresses.specs.Memory.{Host, host, host_memory}

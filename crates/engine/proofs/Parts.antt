@@ -1,13 +1,13 @@
 -- A stretch put together from its parts, and what each part hands on to the next. Each part's answer is a variable here, so that the code's proofs
 -- only hand their equations over.
-use Rattle.std.proofs.Common.{◌≡◌, ℕ, zero, suc, ◌+◌, ◌-◌, ◌<◌, ◌≤◌, Bool, true, false, not, eqb, ltb, List, length, sym, refl, ap, ◌∙◌, subst, arith, ltb-false, ltb-true, eqb-true}
-use native.Mathlib.Nat.{sub-zero, sub_self}
+use Rattle.std.proofs.Common.{◌≡◌, ℕ, suc, ◌+◌, ◌-◌, ◌<◌, ◌≤◌, Bool, true, false, not, eqb, ltb, List, length, sym, refl, ap, ◌∙◌, subst, arith, ltb-false, ltb-true, eqb-true}
+use native.Mathlib.Nat.{sub-zero}
 use borrow.Author.Tests.{eqb-false}
 use Rattle.dlx.specs.Choice.{when◌then◌else◌}
 use Rattle.dlx.specs.Fields.{brought}
 use Rattle.dlx.specs.Processor.{user, behind}
 use Rattle.dlx.specs.Machine.{Ops, Core, core, Outcome, outcome, step, asked, step_at, settled, changed, fetched, after_read, accessed, loaded, retabled, request_of, nothing, Desk, accessed_at, Stretch, stretch_from, Places, Asks}
-use Rattle.dlx.specs.Spells.{sunk, timed, plainly, passed, ended, Spell, spell, passed_at, spell_from, Leg, leg_at}
+use Rattle.dlx.specs.Spells.{sunk, timed, passed, ended, spell, passed_at, spell_from, Leg, leg_at}
 use Rattle.dlx.specs.declared.partition.Processor.{Processor}
 use Rattle.dlx.specs.declared.partition.Timer.{Timer}
 use Rattle.dlx.specs.declared.execute.Access.{Access}
@@ -18,14 +18,10 @@ use Rattle.dlx.specs.declared.execute.Effect.{Effect}
 use Rattle.dlx.specs.declared.execute.Effect.TheVariants.{Done, Load}
 use Rattle.dlx.proofs.Kept.{either}
 use Rattle.dlx.proofs.Places.{fetched_places, accessed_places, accessed_count}
-use Rattle.dlx.proofs.Spells.{Within, spell_places, spell_some, leg_stretch}
+use Rattle.dlx.proofs.Spells.{Within, spell_some, leg_stretch}
 use Rattle.tickets.specs.Queues.{Queues, Seated, desk}
 use Rattle.tickets.proofs.Queues.{desk_queued}
-use Rattle.addresses.specs.Memory.{Host, host, host_reads, host_memory}
-use Rattle.addresses.specs.Premises.{Placed}
-use Rattle.dlx.specs.declared.partition.Table.{Table}
-use Rattle.plain.specs.Plain.{pair_of}
-use Rattle.quick.specs.Quick.{Goes}
+use Rattle.addresses.specs.Memory.{Host, host_reads, host_memory}
 use Rattle.addresses.proofs.Steps.{Whole, fetched_whole, accessed_whole, retabled_whole}
 use Rattle.engine.specs.Answers.{room_of}
 

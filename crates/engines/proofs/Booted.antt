@@ -2,19 +2,18 @@
 use mathlib.Core.Path.{◌≡◌, refl, sym, ap, ◌∙◌}
 use mathlib.Core.Bool.{true, false}
 use mathlib.Core.List.{[]}
-use Prim.Native.Nat.{ℕ, ◌<◌}
+use Prim.Native.Nat.{ℕ}
 use lib.Dec.{ltb}
-use lib.ListN.{length}
 use Rattle.dlx.proofs.Kept.{either}
 use Rattle.dlx.proofs.Tests.{by_eq}
 use Rattle.house.specs.Lists.{first_from}
 use Rattle.house.specs.Boot.{booted_house}
-use Rattle.house.specs.Turns.{World, world, stale_at}
+use Rattle.house.specs.Turns.{World}
 use Rattle.house.specs.Calls.{answered, run_verdict, run_call}
 use Rattle.demands.specs.Histories.{Boot, booted, history, Grown}
 use Rattle.demands.proofs.Booted.FreshHouse.{booted_whole}
 use Rattle.demands.proofs.Histories.Grown.{standing}
-use Rattle.staleness.specs.Audit.{has_stale, first_stale, audit_call}
+use Rattle.staleness.specs.Audit.{has_stale, first_stale}
 use Rattle.staleness.specs.Promises.{Passes}
 use Rattle.staleness.specs.declared.Finding.{Finding}
 use Rattle.staleness.proofs.Promises.{passes_right}

@@ -13,7 +13,7 @@ use Rattle.addresses.specs.Memory.{lone_memory}
 use Rattle.house.specs.Lists.{list_from}
 use Rattle.house.specs.House.{partition}
 use Rattle.house.specs.Boot.{booted_house}
-use Rattle.house.specs.Turns.{World, world, host_steps}
+use Rattle.house.specs.Turns.{World, host_steps}
 use Rattle.house.specs.Sound.{Typed}
 use Rattle.house.specs.Calls.{run_verdict, run_call}
 use Rattle.house.proofs.Calls.Verdicts.{run_done}

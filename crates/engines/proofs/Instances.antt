@@ -1,13 +1,13 @@
 -- Closed houses: one with a stale entry, on which the two engines differ; a grown one, on which they come to the same; and a history of three partitions with
 -- runs by either engine.
 use mathlib.Core.Path.{◌≡◌, refl, sym, ap, subst, ◌∙◌}
-use mathlib.Core.Bool.{true, false}
+use mathlib.Core.Bool.{true}
 use mathlib.Core.List.{List, [], ◌∷◌, ◌++◌}
-use Prim.Native.Nat.{ℕ, zero, suc, ◌+◌, ◌%◌, ◌^◌, ◌<◌, ◌≤◌}
+use Prim.Native.Nat.{ℕ, suc, ◌%◌, ◌^◌, ◌<◌, ◌≤◌}
 use native.Mathlib.Omega.{arith}
 use borrow.Author.Tests.{eq-eqb}
 use lib.Count.{count_trailing_zeros}
-use lib.ListN.{length, get_or, set, replicate}
+use lib.ListN.{length, get_or, replicate}
 use Rattle.dlx.specs.Words.{extended_by, read_in, holds}
 use Rattle.dlx.specs.Instructions.{register_type, part_type, instruction_of}
 use Rattle.dlx.specs.Fields.{field, put, width, brought, placed}
@@ -26,7 +26,7 @@ use Rattle.house.specs.House.{fresh_shadows, with_shadows, partition, shadow_of}
 use Rattle.house.specs.Boot.{Verdict, verdict, sum, first_of, boot_verdict, laid, offset, booted_house}
 use Rattle.house.specs.Turns.{World, world, next_from, turn_of, request_now, reply_now, queues_next, guest_step, settled_house, step_with, host_step, host_steps}
 use Rattle.house.specs.Calls.{run_verdict, run_call, stopped}
-use Rattle.demands.specs.Histories.{Boot, booted, Call, run, stop, empty, after, history, Grown, steps_of, lone_of, lone_at_boot, lone_asks, lone_answer, event_of, each, answers_to}
+use Rattle.demands.specs.Histories.{Boot, booted, Call, run, stop, empty, history, Grown, steps_of, lone_of, lone_at_boot, lone_asks, lone_answer, event_of, each, answers_to}
 use Rattle.demands.proofs.Histories.Grown.{standing}
 use Rattle.demands.proofs.Instances.ClosedCalls.{below, below_at, Fit, run_verdict_lem, after_run, after_stop}
 use Rattle.demands.proofs.Instances.TwoGuests.{two_guests, memory_words, full, grown_full, misled, misled_stays, misled_size}

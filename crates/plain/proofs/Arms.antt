@@ -1,19 +1,17 @@
 -- The arms of `act` and of `register_type`: what a helper's answer says of the word that asked for it.
-use Rattle.std.proofs.Common.{◌≡◌, ℕ, ◌+◌, ◌-◌, ◌*◌, ◌/◌, ◌%◌, ◌^◌, ◌<◌, ◌≤◌, Bool, true, false, eqb, List, get_or, sym, refl, ap, ◌∙◌, subst, arith}
+use Rattle.std.proofs.Common.{◌≡◌, ℕ, ◌+◌, ◌-◌, ◌*◌, ◌%◌, ◌<◌, ◌≤◌, false, eqb, List, get_or, sym, refl, ap, ◌∙◌, arith}
 use Rattle.dlx.specs.Choice.{when◌then◌else◌}
 use Rattle.dlx.specs.Words.{plus, opcode, rs1, rs2, rd_immediate, rd_register, sa, function, extended, test_of}
 use Rattle.dlx.specs.Processor.{user, no_timer, special_of, behind}
 use Rattle.dlx.specs.Instructions.{instruction_of, register_type}
 use Rattle.dlx.specs.Execute.{value_of, overflows_of, operated, written, loads, stores, effect_of}
 use Rattle.dlx.specs.declared.partition.Table.{Table}
-use Rattle.dlx.specs.declared.partition.Timer.{Timer}
 use Rattle.dlx.specs.declared.partition.Processor.{Processor}
 use Rattle.dlx.specs.declared.instruction.Operation.{Operation}
-use Rattle.dlx.specs.declared.instruction.Operation.TheVariants.{Add, Sub, And, Or, Xor, Test}
+use Rattle.dlx.specs.declared.instruction.Operation.TheVariants.{And, Or, Xor, Test}
 use Rattle.dlx.specs.declared.instruction.Instruction.{Instruction}
 use Rattle.dlx.specs.declared.instruction.Instruction.TheVariants.{LoadBy, StoreBy, Immediate, Register}
 use Rattle.dlx.specs.declared.execute.Change.TheVariants.{Plain}
-use Rattle.dlx.specs.declared.execute.Effect.{Effect}
 use Rattle.dlx.specs.declared.execute.Effect.TheVariants.{Done}
 use Rattle.plain.specs.Plain.{pair_of, Does}
 use Rattle.plain.proofs.Laws.{plain_does, next_does, shifts, lands, lands_not, does_same}

@@ -1,10 +1,10 @@
 -- What a word asks for, by its opcode or its function: the laws that the arms of `act` and of `register_type` cite.
-use Rattle.std.proofs.Common.{◌≡◌, ℕ, ◌+◌, ◌-◌, ◌*◌, ◌/◌, ◌%◌, ◌^◌, ◌<◌, ◌≤◌, Bool, true, false, ◌&&◌, eqb, leb, List, get_or, sym, refl, ap, ◌∙◌, subst, arith, ne_eqb, le-leb}
+use Rattle.std.proofs.Common.{◌≡◌, ℕ, ◌-◌, ◌*◌, ◌%◌, ◌<◌, ◌≤◌, Bool, true, false, ◌&&◌, eqb, List, get_or, sym, refl, ap, ◌∙◌, arith, ne_eqb, le-leb}
 use Rattle.dlx.specs.Choice.{when◌then◌else◌}
 use Rattle.dlx.specs.Words.{plus, opcode, rs1, rs2, rd_immediate, rd_register, sa, function, extended}
 use Rattle.dlx.specs.Processor.{user, no_timer, special_of, behind}
 use Rattle.dlx.specs.Instructions.{instruction_of, register_type, part_type}
-use Rattle.dlx.specs.Execute.{value_of, overflows_of, operated, written, loads, stores, jumped, linked, effect_of}
+use Rattle.dlx.specs.Execute.{value_of, overflows_of, operated, written, loads, stores, effect_of}
 use Rattle.dlx.specs.declared.partition.Table.{Table}
 use Rattle.dlx.specs.declared.partition.Timer.{Timer}
 use Rattle.dlx.specs.declared.partition.Processor.{Processor}
@@ -13,7 +13,6 @@ use Rattle.dlx.specs.declared.instruction.Operation.TheVariants.{Add, Sub, And, 
 use Rattle.dlx.specs.declared.instruction.Instruction.{Instruction}
 use Rattle.dlx.specs.declared.instruction.Instruction.TheVariants.{LoadBy, StoreBy, Immediate, Lhgi, Beqz, Bnez, Jr, Jalr, J, Jal, Register, Movs2i}
 use Rattle.dlx.specs.declared.execute.Change.TheVariants.{Plain}
-use Rattle.dlx.specs.declared.execute.Effect.{Effect}
 use Rattle.dlx.specs.declared.execute.Effect.TheVariants.{Done}
 use Rattle.dlx.proofs.Tests.{by_eq}
 use Rattle.plain.specs.Plain.{pair_of}

@@ -1,27 +1,22 @@
 -- What is seen serves, and what a plain instruction asks for is done.
-use Rattle.std.proofs.Common.{◌≡◌, ℕ, zero, suc, ◌+◌, ◌-◌, ◌*◌, ◌/◌, ◌%◌, ◌^◌, ◌<◌, ◌≤◌, Bool, true, false, not, ◌&&◌, ◌||◌, eqb, ltb, leb, List, length, get_or, set, sym, refl, ap, ◌∙◌, subst, true≢false, arith, ltb-false, ltb-true, le-ltb, lt-ltb, eq-eqb, ne_eqb, eqb-true, le-leb, leb-false}
-use mathlib.Core.Bool.{false≢true}
-use borrow.Author.Tests.{lt-leb}
+use Rattle.std.proofs.Common.{◌≡◌, ℕ, ◌+◌, ◌*◌, ◌/◌, ◌%◌, ◌≤◌, Bool, true, false, not, ◌&&◌, eqb, ltb, List, length, get_or, set, sym, refl, ap, ◌∙◌, subst, arith, ne_eqb}
 use Rattle.dlx.specs.Choice.{when◌then◌else◌}
 use Rattle.dlx.specs.Words.{plus}
 use Rattle.dlx.specs.Fields.{aligned, width, brought, placed}
-use Rattle.dlx.specs.Processor.{user, went_to, behind}
-use Rattle.dlx.specs.Instructions.{instruction_of}
-use Rattle.dlx.specs.Execute.{effect_of, reached, written, loads, stores}
-use Rattle.dlx.specs.Machine.{Ops, Core, core, executed, after_read, after_write, fetched, loaded, stored, accessed, request_of, Desk, accessed_at}
-use Rattle.dlx.specs.Spells.{sunk, timed, plainly, passed, Spell, spell, passed_at, spell_from}
+use Rattle.dlx.specs.Processor.{user, behind}
+use Rattle.dlx.specs.Execute.{reached, written, loads, stores}
+use Rattle.dlx.specs.Machine.{core, after_read, after_write, loaded, stored, accessed, request_of}
+use Rattle.dlx.specs.Spells.{plainly, passed}
 use Rattle.dlx.specs.declared.partition.Table.{Table}
 use Rattle.dlx.specs.declared.partition.Timer.{Timer}
 use Rattle.dlx.specs.declared.partition.Processor.{Processor}
-use Rattle.dlx.specs.declared.execute.Change.{Change}
 use Rattle.dlx.specs.declared.execute.Change.TheVariants.{Plain}
 use Rattle.dlx.specs.declared.execute.Effect.{Effect}
-use Rattle.dlx.specs.declared.execute.Effect.TheVariants.{Done, Load, Store}
+use Rattle.dlx.specs.declared.execute.Effect.TheVariants.{Done}
 use Rattle.dlx.proofs.Tests.{by_test, and_left}
-use Rattle.tickets.specs.Queues.{Queues, desk}
-use Rattle.addresses.specs.Entries.{number, valid, protection, fault, found}
-use Rattle.addresses.specs.Walk.{direct}
-use Rattle.addresses.specs.Memory.{word_in, updated, Host, host, hosted, looked, served, host_read, host_reads, host_written, host_writes, emptied, host_memory}
+use Rattle.tickets.specs.Queues.{desk}
+use Rattle.addresses.specs.Entries.{number, valid, protection}
+use Rattle.addresses.specs.Memory.{host, looked, served, host_read, host_reads, host_written, host_writes, emptied, host_memory}
 use Rattle.addresses.specs.Premises.{Placed, Shadowed}
 use Rattle.translate.proofs.Served.{served_inside}
 use Rattle.plain.specs.Plain.{seen_of, holds_of, held_of, pair_of, performed, Does}

@@ -1,16 +1,15 @@
 -- Plain steps: what is seen without a walk, and the second half of a step of a spell.
-use Rattle.std.specs.Prelude.{◌≡◌, ℕ, ◌+◌, ◌-◌, ◌*◌, ◌/◌, ◌%◌, ◌^◌, ◌<◌, ◌≤◌, Bool, true, false, not, ◌||◌, List, length, ◌==◌, nat_lt, slice_index}
+use Rattle.std.specs.Prelude.{◌≡◌, ℕ, ◌/◌, ◌<◌, Bool, true, false, List, length, ◌==◌, nat_lt, slice_index}
 use Rattle.dlx.specs.Choice.{when◌then◌else◌}
 use Rattle.dlx.specs.Words.{plus}
 use Rattle.dlx.specs.Processor.{user, went_to, no_timer, special_of}
 use Rattle.dlx.specs.Machine.{Ops, Core, core, Desk, accessed_at}
-use Rattle.dlx.specs.Spells.{plainly, passed, sunk, spell_from}
+use Rattle.dlx.specs.Spells.{plainly, passed}
 use Rattle.dlx.specs.declared.partition.Table.{Table}
 use Rattle.dlx.specs.declared.partition.Timer.{Timer}
 use Rattle.dlx.specs.declared.partition.Processor.{Processor}
 use Rattle.dlx.specs.declared.execute.Effect.{Effect}
 use Rattle.tickets.specs.Queues.{Queues, desk}
-use Rattle.addresses.specs.Entries.{number, valid}
 use Rattle.addresses.specs.Walk.{direct}
 use Rattle.addresses.specs.Memory.{hosted, host, host_memory}
 

@@ -1,29 +1,23 @@
 -- The fetch in a page that is seen, and plain steps on end.
-use Rattle.std.proofs.Common.{◌≡◌, ℕ, zero, suc, ◌+◌, ◌-◌, ◌*◌, ◌/◌, ◌%◌, ◌^◌, ◌<◌, ◌≤◌, Bool, true, false, not, ◌&&◌, ◌||◌, eqb, ltb, leb, List, length, get_or, take, drop, set, sym, refl, ap, ◌∙◌, subst, true≢false, arith, length-drop, length-take-le, get_or-drop, get_or-take, ltb-false, ltb-true, le-ltb, lt-ltb, eq-eqb, ne_eqb, eqb-true, le-leb, leb-false}
-use mathlib.Core.Bool.{false≢true}
-use borrow.Author.Tests.{lt-leb}
+use Rattle.std.proofs.Common.{◌≡◌, ℕ, suc, ◌+◌, ◌-◌, ◌*◌, ◌/◌, ◌%◌, ◌^◌, ◌<◌, ◌≤◌, Bool, true, false, not, ◌||◌, eqb, ltb, leb, List, length, get_or, take, drop, sym, refl, ap, ◌∙◌, subst, true≢false, arith, length-drop, length-take-le, get_or-drop, get_or-take, ltb-false, ltb-true, le-ltb, lt-ltb, eq-eqb, eqb-true, leb-false}
 use Rattle.dlx.specs.Choice.{when◌then◌else◌}
 use Rattle.dlx.specs.Words.{plus}
-use Rattle.dlx.specs.Fields.{aligned, width, brought, placed}
-use Rattle.dlx.specs.Processor.{user, went_to, behind, special_of}
+use Rattle.dlx.specs.Fields.{aligned}
+use Rattle.dlx.specs.Processor.{user, special_of}
 use Rattle.dlx.specs.Instructions.{instruction_of}
-use Rattle.dlx.specs.Execute.{effect_of, reached, written, loads, stores}
-use Rattle.dlx.specs.Machine.{Ops, Core, core, executed, after_read, after_write, fetched, loaded, stored, accessed, request_of, Desk, accessed_at}
-use Rattle.dlx.specs.Spells.{sunk, timed, plainly, passed, Spell, spell, passed_at, spell_from}
+use Rattle.dlx.specs.Execute.{effect_of}
+use Rattle.dlx.specs.Machine.{Ops, Core, core, executed, after_read, fetched, Desk, accessed_at}
+use Rattle.dlx.specs.Spells.{sunk, timed, plainly, passed, spell, passed_at, spell_from}
 use Rattle.dlx.specs.declared.partition.Table.{Table}
 use Rattle.dlx.specs.declared.partition.Timer.{Timer}
 use Rattle.dlx.specs.declared.partition.Processor.{Processor}
-use Rattle.dlx.specs.declared.execute.Change.{Change}
-use Rattle.dlx.specs.declared.execute.Change.TheVariants.{Plain}
 use Rattle.dlx.specs.declared.execute.Effect.{Effect}
-use Rattle.dlx.specs.declared.execute.Effect.TheVariants.{Done, Load, Store}
 use Rattle.dlx.proofs.Tests.{by_test}
-use Rattle.tickets.specs.Queues.{Queues, desk}
-use Rattle.addresses.specs.Entries.{number, valid, protection, fault, found}
+use Rattle.tickets.specs.Queues.{desk}
+use Rattle.addresses.specs.Entries.{number, valid, fault, found}
 use Rattle.addresses.specs.Walk.{direct}
-use Rattle.addresses.specs.Memory.{word_in, updated, Host, host, hosted, looked, served, host_read, host_reads, host_written, host_writes, emptied, host_memory}
+use Rattle.addresses.specs.Memory.{word_in, host, host_read, host_reads, host_memory}
 use Rattle.addresses.specs.Premises.{Placed, Shadowed}
-use Rattle.translate.proofs.Served.{served_inside}
 use Rattle.plain.specs.Plain.{seen_of, Numbered, pair_of, performed, Does}
 use Rattle.plain.proofs.Laws.{not_false, seen_served, seen_inside}
 use Rattle.quick.specs.Quick.{away_of, Cached, Goes, Found}

@@ -1,11 +1,10 @@
 -- What mending leaves as it was, and what it makes of each entry.
 use mathlib.Core.Path.{◌≡◌, refl, sym, ap, subst, ◌∙◌}
-use mathlib.Core.Bool.{true, false}
+use mathlib.Core.Bool.{false}
 use mathlib.Core.List.{List, ◌++◌}
 use Prim.Native.Nat.{ℕ, zero, suc, ◌+◌, ◌*◌, ◌^◌, ◌<◌, ◌≤◌}
 use native.Mathlib.Omega.{arith}
 use lib.ListN.{length, get_or, take, drop, take-append-drop}
-use Rattle.dlx.specs.Choice.{when◌then◌else◌}
 use Rattle.dlx.specs.Parts.{inner, outer}
 use Rattle.dlx.proofs.Kept.{either}
 use Rattle.dlx.proofs.Parts.{inner_length, outer_length, inner_outer, outer_each, part_each, parts_apart}

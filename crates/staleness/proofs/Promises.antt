@@ -1,17 +1,16 @@
 -- What an audit is worth: a theorem for each statement of specs/Promises.antt, in its order.
 use mathlib.Core.Path.{◌≡◌, refl, sym, ap, subst, ◌∙◌}
-use mathlib.Core.Bool.{true, false}
+use mathlib.Core.Bool.{false}
 use mathlib.Core.List.{List, [], ◌∷◌}
 use Prim.Native.Nat.{ℕ, ◌<◌, ◌≤◌}
 use native.Mathlib.Omega.{arith}
 use borrow.Author.Tests.{eq-eqb, ne_eqb, ltb-true}
-use lib.Dec.{eqb, ltb}
-use lib.ListN.{length, replicate}
-use Rattle.dlx.specs.Choice.{when◌then◌else◌}
+use lib.Dec.{ltb}
+use lib.ListN.{replicate}
 use Rattle.dlx.proofs.Tests.{by_test, by_eq}
 use Rattle.addresses.specs.Walk.{entries}
 use Rattle.house.specs.Boot.{verdict, sum, booted_house}
-use Rattle.house.specs.Turns.{World, world, stale_at, host_step, host_steps}
+use Rattle.house.specs.Turns.{World, stale_at, host_step, host_steps}
 use Rattle.house.specs.Sound.{Shaped, Typed, Ready}
 use Rattle.house.specs.Calls.{Answered, answered}
 use Rattle.house.proofs.Damage.Denied.{undamaged_from}
@@ -23,8 +22,8 @@ use Rattle.demands.specs.Histories.{Boot, booted, history, Grown}
 use Rattle.demands.proofs.Demands.{never_damaged}
 use Rattle.demands.proofs.Histories.Grown.{standing, grown_after}
 use Rattle.demands.proofs.Histories.Landings.{lands}
-use Rattle.demands.proofs.Histories.Standing.{Standing, Firm, step_of, firm_step}
-use Rattle.staleness.specs.Audit.{audit_verdict, finding, first_stale, audit_call, stale_count, count_at, stale_counts, counts_call, counts, mended, mended_to, mend_call}
+use Rattle.demands.proofs.Histories.Standing.{Firm, step_of, firm_step}
+use Rattle.staleness.specs.Audit.{audit_verdict, first_stale, audit_call, count_at, stale_counts, counts, mended, mended_to, mend_call}
 use Rattle.staleness.specs.Promises.{Passes, GrownPass, Use, called, audited, tallied, mended_in, used, uses, StillGrown, NamesFirst, Names, PassesRight, CountsStale, Mends, MendsAll, MendRefused, PassedSteps, PassedReach, PassesOn}
 use Rattle.staleness.specs.declared.Finding.{Finding}
 use Rattle.staleness.proofs.Counting.{count_none, count_some}

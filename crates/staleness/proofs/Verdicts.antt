@@ -1,22 +1,18 @@
 -- What the audit's verdict says, and what the calls answer by it.
-use mathlib.Core.Path.{◌≡◌, refl, sym, ap, ◌∙◌}
+use mathlib.Core.Path.{◌≡◌, sym}
 use mathlib.Core.Bool.{false}
-use mathlib.Core.List.{List, ◌∷◌}
 use Prim.Native.Nat.{ℕ}
 use native.Mathlib.Omega.{arith}
 use borrow.Author.Tests.{eqb-true, not-false, ne_eqb, eq-eqb}
-use lib.Dec.{eqb}
 use lib.ListN.{length, replicate}
 use Rattle.house.specs.Damage.{damaged}
 use Rattle.house.specs.Boot.{first_of}
-use Rattle.house.specs.Turns.{World, world}
+use Rattle.house.specs.Turns.{World}
 use Rattle.house.specs.Sound.{Shaped}
 use Rattle.house.proofs.Calls.Verdicts.{passed}
 use Rattle.house.proofs.Damage.Undamaged.{count_within, sound_partition}
 use Rattle.hypervisor.proofs.Refusals.{Plain, plain_case, plain_done}
 use Rattle.staleness.specs.Audit.{audit_verdict, finding, first_stale, audit_call, counts, stale_counts, counts_call, Walkable}
-use Rattle.staleness.specs.declared.Finding.{Finding}
-use Rattle.staleness.specs.declared.Counts.{Counts}
 
 -- an audit that is done
 pub record AuditDone (w : World) : Type 0 where

@@ -9,7 +9,6 @@ use Rattle.dlx.specs.declared.partition.Partition.{Partition}
 use Rattle.addresses.specs.Walk.{entries}
 use Rattle.house.specs.Lists.{list_from, any}
 use Rattle.house.specs.House.{no_partition, no_house, shadow_of, layout, guests, turn, with_layout, with_turn, with_guests}
-use Rattle.house.specs.Boot.{sum}
 use Rattle.house.specs.Turns.{World, world}
 use Rattle.house.specs.declared.House.{House}
 use Rattle.staleness.specs.Audit.{first_stale, audit_call, stale_counts, counts_call, mended, mend_call}

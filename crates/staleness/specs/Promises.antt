@@ -1,15 +1,14 @@
 -- What an audit is worth, as statements about the definitions that the calls' contracts cite. proofs/Promises.antt proves each.
-use Rattle.std.specs.Prelude.{◌≡◌, Bool, true, false, List, [], ◌∷◌, ℕ, ◌^◌, ◌<◌, length, get_or, replicate}
+use Rattle.std.specs.Prelude.{◌≡◌, Bool, true, false, List, [], ◌∷◌, ℕ, ◌^◌, ◌<◌, get_or, replicate}
 use Rattle.addresses.specs.Walk.{entries}
 use Rattle.house.specs.House.{with_shadows, shadow_of}
-use Rattle.house.specs.Damage.{damaged}
 use Rattle.house.specs.Boot.{verdict}
 use Rattle.house.specs.Turns.{World, world, stale_at, host_step, host_steps}
 use Rattle.house.specs.Sound.{Shaped, Typed, Stays}
 use Rattle.house.specs.Calls.{answered}
 use Rattle.demands.specs.Histories.{Boot, booted, Call, after, Grown}
 use Rattle.demands.specs.Demands.{StepOf, by_shadow, by_table}
-use Rattle.staleness.specs.Audit.{finding, audit_call, stale_count, stale_counts, counts_call, counts, kept_at, mended, mend_call}
+use Rattle.staleness.specs.Audit.{finding, audit_call, stale_count, counts_call, counts, kept_at, mend_call}
 use Rattle.staleness.specs.declared.Finding.{Finding}
 
 -- nothing is refused, and nothing is found

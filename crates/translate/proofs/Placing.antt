@@ -7,7 +7,7 @@ use native.Mathlib.Omega.{arith}
 use borrow.Author.Tests.{eqb-true}
 use lib.Pow.{pow_pos, shl_exact}
 use Rattle.dlx.specs.Fields.{field, put, place, aligned, storing, width, placed}
-use Rattle.dlx.proofs.Fields.{field_lt, put_word, put_whole, by_store, inside_word}
+use Rattle.dlx.proofs.Fields.{put_word, put_whole, by_store, inside_word}
 
 module _ (w k v x : ℕ) (inside : k + w ≤ 32) where
   -- nothing is shifted out of the word

@@ -4,7 +4,6 @@ use lib.ListN.{length}
 use Rattle.house.specs.Boot.{Verdict}
 use Rattle.house.specs.Calls.{boot_call}
 use Rattle.boot.proofs.Places.{fitting}
-use borrow.Author.Rules.{rules}
 use Rattle.boot.proofs.boot.Goals as goal
 
 pub returns-then-v-ne0 : goal.returns-then-v-ne0

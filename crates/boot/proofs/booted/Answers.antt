@@ -1,5 +1,4 @@
 use Rattle.house.specs.Boot.{booted_house}
-use borrow.Author.Rules.{rules}
 use Rattle.boot.proofs.booted.Goals as goal
 
 pub returns : goal.returns

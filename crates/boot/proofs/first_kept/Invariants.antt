@@ -1,15 +1,9 @@
-use mathlib.Core.Path.{◌≡◌, refl, sym}
+use mathlib.Core.Path.{◌≡◌}
 use mathlib.Core.Bool.{false}
-use Prim.Native.Nat.{◌-◌, ◌≤◌, zero-le}
-use native.Mathlib.Nat.{le_antisymm}
-use native.Mathlib.Omega.{arith}
-use borrow.Author.Rules.{rules}
+use Prim.Native.Nat.{◌-◌, ◌≤◌}
 use lib.ListN.{length}
-use borrow.Author.Tests.{eq-eqb, ne_eqb}
 use Rattle.house.specs.Lists.{any}
 use Rattle.house.specs.Boot.{frame_kept}
-use Rattle.house.proofs.Lists.Bounded.{any_more}
-use Rattle.house.proofs.Lists.ByRule.{first_is, first_none}
 use Rattle.boot.proofs.first_kept.Given as goal
 
 abbrev pub invariant-loop-i : goal.invariant-loop-i

@@ -1,12 +1,11 @@
 use mathlib.Core.Path.{sym, ◌∙◌}
-use borrow.Author.Tests.{not-true, not-false, eq-eqb, ne_eqb, leb-true}
+use borrow.Author.Tests.{eq-eqb, ne_eqb, leb-true}
 use lib.Dec.{leb}
 use lib.ListN.{length}
 use Rattle.house.specs.Boot.{pages_wrong, frame_outside, frame_kept, stood_earlier, first_of, boot_verdict}
 use Rattle.house.proofs.Lists.Bounded.{and_right}
 use Rattle.house.proofs.Lists.ByRule.{any_found, any_missed}
 use Rattle.boot.proofs.Places.{few, below}
-use borrow.Author.Rules.{rules}
 use Rattle.boot.proofs.first_refusal.Goals as goal
 
 pub returns-then-not-within : goal.returns-then-not-within

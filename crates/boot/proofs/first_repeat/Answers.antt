@@ -1,5 +1,4 @@
 use mathlib.Core.Path.{◌∙◌}
-use borrow.Author.Rules.{rules}
 use lib.ListN.{length}
 use Rattle.marks.proofs.Marked.{first_unowned}
 use Rattle.boot.proofs.first_repeat.Goals as goal

@@ -1,13 +1,9 @@
 use mathlib.Core.Path.{◌≡◌}
-use Prim.Native.Nat.{◌-◌, ◌≤◌, zero-le}
-use native.Mathlib.Nat.{le_antisymm}
-use native.Mathlib.Omega.{arith}
-use borrow.Author.Rules.{rules}
+use Prim.Native.Nat.{◌-◌, ◌≤◌}
 use lib.ListN.{length, get_or}
 use Rattle.dlx.specs.Processor.{fresh_of}
 use Rattle.house.specs.House.{no_partition}
 use Rattle.boot.specs.Places.{filled}
-use Rattle.boot.proofs.Places.{filled_none, filled_more}
 use Rattle.boot.proofs.fresh_parts.Given as goal
 
 abbrev pub invariant-loop-i : goal.invariant-loop-i

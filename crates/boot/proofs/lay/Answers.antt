@@ -1,9 +1,7 @@
-use mathlib.Core.Path.{◌≡◌, refl, ◌∙◌}
-use Prim.Native.Nat.{◌*◌, ◌-◌, ◌≤◌, zero-le}
+use mathlib.Core.Path.{refl, ◌∙◌}
+use Prim.Native.Nat.{◌*◌, zero-le}
 use native.Mathlib.Omega.{arith}
-use lib.ListN.{length}
 use Rattle.house.specs.Boot.{offset, laid}
-use Rattle.boot.specs.Places.{filled}
 use Rattle.house.proofs.Boot.Offsets.{laid_after}
 use Rattle.boot.proofs.Places.{filled_none, filled_whole}
 use Rattle.boot.proofs.lay.Goals as goal

@@ -1,11 +1,8 @@
-use mathlib.Core.Path.{◌≡◌, refl, ◌∙◌}
-use Prim.Native.Nat.{◌*◌, ◌-◌, ◌≤◌, zero-le}
-use native.Mathlib.Omega.{arith}
+use mathlib.Core.Path.{◌≡◌}
+use Prim.Native.Nat.{◌*◌, ◌-◌, ◌≤◌}
 use lib.ListN.{length}
 use Rattle.house.specs.Boot.{offset, laid}
 use Rattle.boot.specs.Places.{filled}
-use Rattle.house.proofs.Boot.Offsets.{laid_after}
-use Rattle.boot.proofs.Places.{filled_none, filled_whole}
 use Rattle.boot.proofs.lay.Given as goal
 
 abbrev pub invariant-loop-i : goal.invariant-loop-i

@@ -1,11 +1,9 @@
 use mathlib.Core.Path.{◌≡◌, ◌∙◌}
-use Prim.Native.Nat.{◌+◌, ◌*◌, ◌-◌, ◌<◌, ◌≤◌, zero-le}
+use Prim.Native.Nat.{◌+◌, ◌*◌, ◌<◌, zero-le}
 use native.Mathlib.Nat.{le_antisymm}
 use native.Mathlib.Omega.{arith}
-use borrow.Author.Rules.{rules}
-use lib.ListN.{length, get_or}
+use lib.ListN.{get_or}
 use Rattle.house.specs.Boot.{laid}
-use Rattle.boot.specs.Places.{filled}
 use Rattle.house.proofs.Boot.Offsets.{offset_more, offset_in, laid_page, laid_behind}
 use Rattle.boot.proofs.Places.{filled_more, filled_rest}
 use Rattle.boot.proofs.lay_one.Goals as goal

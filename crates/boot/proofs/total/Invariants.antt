@@ -1,11 +1,7 @@
-use mathlib.Core.Path.{◌≡◌, refl, sym, ap, ◌∙◌}
-use Prim.Native.Nat.{◌*◌, ◌-◌, ◌≤◌, zero-le}
-use native.Mathlib.Nat.{le_antisymm}
-use native.Mathlib.Omega.{arith}
-use borrow.Author.Rules.{rules}
+use mathlib.Core.Path.{◌≡◌}
+use Prim.Native.Nat.{◌*◌, ◌-◌, ◌≤◌}
 use lib.ListN.{length}
 use Rattle.house.specs.Boot.{offset}
-use Rattle.house.proofs.Boot.Offsets.{offset_more, offset_sum}
 use Rattle.boot.proofs.total.Given as goal
 
 abbrev pub invariant-loop-i : goal.invariant-loop-i

@@ -1,5 +1,4 @@
 use borrow.Author.Tests.{eq-eqb, ne_eqb}
-use borrow.Author.Rules.{rules}
 use Rattle.boot.proofs.whole.Goals as goal
 
 pub returns-then-words-ne0 : goal.returns-then-words-ne0

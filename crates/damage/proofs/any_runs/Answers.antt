@@ -1,7 +1,7 @@
 use Rattle.house.proofs.Lists.Bounded.{any_more, any_yes}
 use Rattle.house.specs.Lists.{any}
 use lib.ListN.{get_or}
-use Prim.Native.Nat.{ℕ, ◌≤◌, ◌-◌, zero-le}
+use Prim.Native.Nat.{ℕ, zero-le}
 use mathlib.Core.Bool.{false}
 use mathlib.Core.Path.{◌≡◌, refl, sym, subst}
 use native.Mathlib.Nat.{le_antisymm}

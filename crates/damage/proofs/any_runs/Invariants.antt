@@ -1,11 +1,8 @@
-use Rattle.house.proofs.Lists.Bounded.{any_more, any_yes}
 use Rattle.house.specs.Lists.{any}
 use lib.ListN.{get_or}
-use Prim.Native.Nat.{ℕ, ◌≤◌, ◌-◌, zero-le}
+use Prim.Native.Nat.{◌≤◌, ◌-◌}
 use mathlib.Core.Bool.{false}
-use mathlib.Core.Path.{◌≡◌, refl, sym, subst}
-use native.Mathlib.Nat.{le_antisymm}
-use native.Mathlib.Omega.{arith}
+use mathlib.Core.Path.{◌≡◌}
 use Rattle.damage.proofs.any_runs.Given as goal
 
 abbrev pub invariant-loop-i : goal.invariant-loop-i

@@ -1,5 +1,4 @@
 use mathlib.Core.Path.{◌∙◌, sym}
-use borrow.Author.Rules.{rules}
 use Rattle.damage.proofs.Marks.{behind_none, behind_gathered}
 use Rattle.damage.proofs.behind_used.Goals as goal
 

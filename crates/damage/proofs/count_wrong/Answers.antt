@@ -1,6 +1,5 @@
 use borrow.Author.Tests.{lt-ltb, le-ltb, lt-leb, le-leb}
 use native.Mathlib.Omega.{arith}
-use borrow.Author.Rules.{rules}
 use Rattle.damage.proofs.count_wrong.Goals as goal
 
 pub returns-then-n-gt32 : goal.returns-then-n-gt32

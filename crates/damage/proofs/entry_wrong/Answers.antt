@@ -5,7 +5,6 @@ use lib.ListN.{get_or}
 use mathlib.Core.Bool.{not}
 use mathlib.Core.Path.{ap, ◌∙◌}
 use native.Mathlib.Omega.{arith}
-use borrow.Author.Rules.{rules}
 use Rattle.damage.proofs.entry_wrong.Goals as goal
 
 pub returns-then-e-eq0 : goal.returns-then-e-eq0

@@ -1,11 +1,7 @@
-use native.Mathlib.Omega.{arith}
-use native.Mathlib.Nat.{le_antisymm}
 use mathlib.Core.Bool.{false}
-use mathlib.Core.Path.{◌≡◌, refl, sym}
-use Prim.Native.Nat.{◌≤◌, ◌-◌, zero-le}
-use borrow.Author.Tests.{eq-eqb, ne_eqb, le-leb, lt-leb}
+use mathlib.Core.Path.{◌≡◌}
+use Prim.Native.Nat.{◌≤◌, ◌-◌}
 use Rattle.house.specs.Lists.{any}
-use Rattle.house.proofs.Lists.Bounded.{or_none, any_more, any_yes}
 use Rattle.damage.specs.Marks.{barred_at}
 use Rattle.damage.proofs.frame_barred.Given as goal
 

@@ -1,5 +1,4 @@
 use mathlib.Core.Path.{◌∙◌, sym}
-use borrow.Author.Rules.{rules}
 use Rattle.damage.proofs.Marks.{group_empty}
 use Rattle.damage.proofs.group_wrong.Goals as goal
 

@@ -2,7 +2,6 @@ use native.Mathlib.Omega.{arith}
 use lib.ListN.{length}
 use mathlib.Core.Path.{refl, ◌∙◌, ap, sym}
 use Rattle.damage.proofs.Marks.{owners_length, twice_found, turn_found, registers_found, shadow_found, unused_found}
-use borrow.Author.Rules.{rules}
 use Rattle.damage.proofs.inside_wrong.Goals as goal
 
 pub mark_all-requires : goal.mark_all-requires

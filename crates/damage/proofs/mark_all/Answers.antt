@@ -1,11 +1,10 @@
 use Rattle.damage.proofs.Marks.{part_is, mark_part, owners_length}
-use borrow.Author.Rules.{rules}
 use native.Mathlib.Omega.{arith}
 use native.Mathlib.Nat.{le_antisymm, add-sub_cancel_left}
 use lib.ListN.{length}
-use mathlib.Core.Bool.{true, false}
-use mathlib.Core.Path.{◌≡◌, refl, ◌∙◌, ap, sym}
-use Prim.Native.Nat.{◌≤◌, ◌-◌, ◌+◌, zero-le}
+use mathlib.Core.Bool.{true}
+use mathlib.Core.Path.{refl, ◌∙◌, ap, sym}
+use Prim.Native.Nat.{zero-le}
 use Rattle.dlx.specs.Parts.{inner}
 use Rattle.house.specs.Lists.{any}
 use Rattle.house.proofs.Lists.Bounded.{any_more, any_yes}

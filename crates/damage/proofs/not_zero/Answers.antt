@@ -1,11 +1,8 @@
 use native.Mathlib.Omega.{arith}
 use native.Mathlib.Nat.{le_antisymm}
-use lib.Dec.{eqb}
-use mathlib.Core.Bool.{not}
-use mathlib.Core.Path.{◌≡◌, refl}
-use Prim.Native.Nat.{◌≤◌, ◌-◌, zero-le}
+use mathlib.Core.Path.{refl}
+use Prim.Native.Nat.{zero-le}
 use Rattle.house.specs.Lists.{any}
-use Rattle.house.specs.Damage.{not_zero}
 use Rattle.damage.proofs.Marks.{gathered_on}
 use Rattle.damage.proofs.not_zero.Goals as goal
 

@@ -1,12 +1,8 @@
-use native.Mathlib.Omega.{arith}
-use native.Mathlib.Nat.{le_antisymm}
 use lib.Dec.{eqb}
 use mathlib.Core.Bool.{not}
-use mathlib.Core.Path.{◌≡◌, refl}
-use Prim.Native.Nat.{◌≤◌, ◌-◌, zero-le}
-use Rattle.house.specs.Lists.{any}
+use mathlib.Core.Path.{◌≡◌}
+use Prim.Native.Nat.{◌≤◌, ◌-◌}
 use Rattle.house.specs.Damage.{not_zero}
-use Rattle.damage.proofs.Marks.{gathered_on}
 use Rattle.damage.proofs.not_zero.Given as goal
 
 -- the gathered bits are 0 exactly where all places so far are

@@ -3,7 +3,6 @@ use native.Mathlib.Omega.{arith}
 use mathlib.Core.Path.{◌∙◌, sym}
 use borrow.Author.Tests.{eq-eqb, ne_eqb, le-leb, lt-leb}
 use Rattle.damage.proofs.Marks.{pages_within}
-use borrow.Author.Rules.{rules}
 use Rattle.damage.proofs.outside_limits.Goals as goal
 
 pub returns-then-count-lt1 : goal.returns-then-count-lt1

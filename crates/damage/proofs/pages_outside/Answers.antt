@@ -1,8 +1,7 @@
 use native.Mathlib.Omega.{arith}
 use native.Mathlib.Nat.{le_antisymm}
-use mathlib.Core.Bool.{false}
-use mathlib.Core.Path.{◌≡◌, refl, sym}
-use Prim.Native.Nat.{◌≤◌, ◌-◌, zero-le}
+use mathlib.Core.Path.{refl, sym}
+use Prim.Native.Nat.{zero-le}
 use borrow.Author.Tests.{le-leb, lt-leb}
 use Rattle.house.specs.Lists.{any}
 use Rattle.house.proofs.Lists.Bounded.{any_more, any_yes}

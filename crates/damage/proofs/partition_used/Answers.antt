@@ -1,5 +1,4 @@
 use Rattle.damage.proofs.Marks.{number_used, counter_used}
-use borrow.Author.Rules.{rules}
 use Rattle.damage.proofs.partition_used.Goals as goal
 
 pub returns-then-not_zero : goal.returns-then-not_zero

@@ -1,5 +1,4 @@
 use mathlib.Core.Path.{◌∙◌, sym}
-use borrow.Author.Rules.{rules}
 use Rattle.damage.proofs.queue_wrong.Goals as goal
 
 pub returns-then-count_wrong : goal.returns-then-count_wrong

@@ -1,11 +1,7 @@
-use native.Mathlib.Omega.{arith}
-use native.Mathlib.Nat.{le_antisymm, add-zero}
 use mathlib.Core.Bool.{false}
-use mathlib.Core.Path.{◌≡◌, refl, ◌∙◌, sym}
-use Prim.Native.Nat.{◌≤◌, ◌-◌, ◌*◌, zero-le}
+use mathlib.Core.Path.{◌≡◌}
+use Prim.Native.Nat.{◌≤◌, ◌-◌}
 use Rattle.house.specs.Lists.{any}
-use Rattle.house.proofs.Lists.Bounded.{any_more, any_yes}
-use Rattle.dlx.proofs.Parts.{part_at}
 use Rattle.damage.specs.Marks.{registers_at}
 use Rattle.damage.proofs.registers_wrong.Given as goal
 

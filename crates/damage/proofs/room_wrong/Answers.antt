@@ -4,7 +4,6 @@ use Prim.Native.Nat.{◌*◌}
 use Rattle.dlx.specs.Parts.{inner}
 use Rattle.dlx.proofs.Parts.{inner_length}
 use borrow.Author.Tests.{lt-ltb, le-ltb}
-use borrow.Author.Rules.{rules}
 use Rattle.damage.proofs.room_wrong.Goals as goal
 
 pub returns-then-i-count : goal.returns-then-i-count

@@ -3,7 +3,7 @@ use native.Mathlib.Nat.{le_antisymm}
 use lib.ListN.{get_or}
 use mathlib.Core.Bool.{false}
 use mathlib.Core.Path.{◌≡◌, refl, ◌∙◌, sym, subst}
-use Prim.Native.Nat.{ℕ, ◌%◌, ◌≤◌, ◌-◌, zero-le}
+use Prim.Native.Nat.{ℕ, zero-le}
 use Rattle.addresses.specs.Walk.{entries}
 use Rattle.house.specs.Lists.{any}
 use Rattle.damage.specs.Marks.{entry_marked}

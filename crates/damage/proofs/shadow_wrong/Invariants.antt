@@ -1,13 +1,10 @@
-use native.Mathlib.Omega.{arith}
-use native.Mathlib.Nat.{le_antisymm}
 use lib.ListN.{get_or}
 use mathlib.Core.Bool.{false}
-use mathlib.Core.Path.{◌≡◌, refl, ◌∙◌, sym, subst}
-use Prim.Native.Nat.{ℕ, ◌%◌, ◌≤◌, ◌-◌, zero-le}
+use mathlib.Core.Path.{◌≡◌}
+use Prim.Native.Nat.{◌%◌, ◌≤◌, ◌-◌}
 use Rattle.addresses.specs.Walk.{entries}
 use Rattle.house.specs.Lists.{any}
 use Rattle.damage.specs.Marks.{entry_marked}
-use Rattle.damage.proofs.Marks.{group_found, group_more}
 use Rattle.damage.proofs.shadow_wrong.Given as goal
 
 -- whole groups are looked through

@@ -1,5 +1,4 @@
 use borrow.Author.Tests.{lt-leb, le-leb, eq-eqb, ne_eqb}
-use borrow.Author.Rules.{rules}
 use Rattle.damage.proofs.turn_wrong.Goals as goal
 
 pub returns-then-current-ne0 : goal.returns-then-current-ne0

@@ -2,8 +2,8 @@ use native.Mathlib.Omega.{arith}
 use native.Mathlib.Nat.{le_antisymm}
 use lib.ListN.{get_or}
 use mathlib.Core.Bool.{false}
-use mathlib.Core.Path.{◌≡◌, refl, ◌∙◌, sym}
-use Prim.Native.Nat.{◌≤◌, ◌-◌, zero-le}
+use mathlib.Core.Path.{refl, ◌∙◌, sym}
+use Prim.Native.Nat.{zero-le}
 use Rattle.house.specs.Lists.{any}
 use Rattle.house.specs.House.{no_partition}
 use Rattle.house.proofs.Lists.Bounded.{any_more, any_yes}

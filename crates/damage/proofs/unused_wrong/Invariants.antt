@@ -1,12 +1,9 @@
-use native.Mathlib.Omega.{arith}
-use native.Mathlib.Nat.{le_antisymm}
 use lib.ListN.{get_or}
 use mathlib.Core.Bool.{false}
-use mathlib.Core.Path.{◌≡◌, refl, ◌∙◌, sym}
-use Prim.Native.Nat.{◌≤◌, ◌-◌, zero-le}
+use mathlib.Core.Path.{◌≡◌}
+use Prim.Native.Nat.{◌≤◌, ◌-◌}
 use Rattle.house.specs.Lists.{any}
 use Rattle.house.specs.House.{no_partition}
-use Rattle.house.proofs.Lists.Bounded.{any_more, any_yes}
 use Rattle.damage.specs.Marks.{room_wrong}
 use Rattle.damage.proofs.unused_wrong.Given as goal
 

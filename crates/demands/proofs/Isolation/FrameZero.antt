@@ -1,8 +1,8 @@
 -- A run neither reads nor changes frame 0: it is no partition's, in any house that is not damaged.
 use mathlib.Core.Path.{◌≡◌, sym, ap, subst, ◌∙◌}
-use mathlib.Core.Bool.{Bool, true, false}
+use mathlib.Core.Bool.{Bool}
 use mathlib.Core.List.{List}
-use Prim.Native.Nat.{ℕ, ◌+◌, ◌*◌, ◌/◌, ◌%◌, ◌<◌, ◌≤◌}
+use Prim.Native.Nat.{ℕ, ◌+◌, ◌*◌, ◌/◌, ◌%◌, ◌<◌}
 use native.Mathlib.Omega.{arith}
 use lib.ListN.{length, get_or}
 use Rattle.dlx.proofs.Tests.{by_test}
@@ -12,7 +12,7 @@ use Rattle.house.specs.Damage.{stands}
 use Rattle.house.specs.Turns.{World, world}
 use Rattle.house.specs.Sound.{Shaped, Undamaged}
 use Rattle.house.specs.Calls.{run_call}
-use Rattle.demands.specs.Demands.{AgreeOn, AgreeBeyondFrame0, KeepsFrame0, ApartInFrame0}
+use Rattle.demands.specs.Demands.{AgreeOn, AgreeBeyondFrame0, ApartInFrame0}
 use Rattle.house.specs.declared.House.{House}
 use Rattle.house.proofs.Lists.Bounded.{one_way, any_at, any_none}
 use Rattle.house.proofs.Damage.Conditions.{stands_own, own_stands}

@@ -1,4 +1,4 @@
-use Rattle.std.proofs.Common.{ℕ, List, ap, rules, eq-eqb, ne_eqb}
+use Rattle.std.proofs.Common.{ℕ, List, ap, eq-eqb, ne_eqb}
 use Rattle.dlx.specs.Machine.{accessed, loaded, stored, after_read, after_write, request_of}
 use Rattle.tickets.specs.Queues.{Queues, desk}
 use Rattle.engine.proofs.Parts.{load_is}

@@ -1,6 +1,4 @@
 use Rattle.engine.proofs.Leads.{advanced}
-use Rattle.std.proofs.Common.{arith, rules}
-use Rattle.processor.proofs.timer.sink.Reads as sink-reads
 use Rattle.engine.proofs.advance.Goals as goal
 
 pub processor_of-requires : goal.processor_of-requires

@@ -1,8 +1,7 @@
-use Rattle.engine.specs.Answers.{Leads}
 use Rattle.addresses.specs.Premises.{Placed}
-use Rattle.engine.proofs.Parts.{not_true, not_false}
+use Rattle.engine.proofs.Parts.{not_false}
 use Rattle.engine.proofs.Leads.{leads_none, leads_then}
-use Rattle.std.proofs.Common.{◌≡◌, length, sym, refl, ◌∙◌, subst, arith, rules}
+use Rattle.std.proofs.Common.{sym, refl, ◌∙◌, subst, arith}
 use Rattle.engine.proofs.ahead.Goals as goal
 
 pub loop-left-init : goal.loop-left-init

@@ -1,8 +1,5 @@
 use Rattle.engine.specs.Answers.{Leads}
-use Rattle.addresses.specs.Premises.{Placed}
-use Rattle.engine.proofs.Parts.{not_true, not_false}
-use Rattle.engine.proofs.Leads.{leads_none, leads_then}
-use Rattle.std.proofs.Common.{◌≡◌, length, sym, refl, ◌∙◌, subst, arith, rules}
+use Rattle.std.proofs.Common.{◌≡◌, length}
 use Rattle.engine.proofs.ahead.Given as goal
 
 abbrev pub invariant-loop-left : goal.invariant-loop-left

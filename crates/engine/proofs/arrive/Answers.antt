@@ -1,7 +1,4 @@
 use Rattle.engine.proofs.Leads.{still, falls, fires, masked}
-use Rattle.std.proofs.Common.{arith, rules}
-use Rattle.processor.proofs.timer.sink.Reads as sink-reads
-use Rattle.processor.proofs.interrupt.interrupt.Reads as interrupt-reads
 use Rattle.engine.proofs.arrive.Goals as goal
 
 pub processor_of-requires : goal.processor_of-requires

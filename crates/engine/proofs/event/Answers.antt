@@ -1,10 +1,6 @@
 use Rattle.engine.proofs.Leads.{returning, trapping}
-use Rattle.std.proofs.Common.{◌≡◌, refl, true≢false, arith, rules}
+use Rattle.std.proofs.Common.{refl, true≢false, arith}
 use mathlib.Core.Bool.{false≢true}
-use Rattle.processor.proofs.timer.sink.Reads as sink-reads
-use Rattle.processor.proofs.interrupt.return_from_exception.Reads as return-from-exception-reads
-use Rattle.processor.proofs.words.extend.Reads as extend-reads
-use Rattle.processor.proofs.interrupt.interrupt.Reads as interrupt-reads
 use Rattle.engine.proofs.event.Goals as goal
 
 pub processor_of-p-requires : goal.processor_of-p-requires

@@ -1,6 +1,6 @@
 use Rattle.dlx.proofs.Kept.{instruction_formed}
 use Rattle.dlx.specs.Machine.{fetched, executed, after_read}
-use Rattle.std.proofs.Common.{rules, eq-eqb, ne_eqb}
+use Rattle.std.proofs.Common.{eq-eqb, ne_eqb}
 use Rattle.engine.proofs.fetch.Goals as goal
 
 -- src/lib.rt:51:9

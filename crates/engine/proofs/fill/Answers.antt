@@ -1,5 +1,5 @@
 use Rattle.engine.proofs.Leads.{filled}
-use Rattle.std.proofs.Common.{arith, length-set, rules}
+use Rattle.std.proofs.Common.{arith, length-set}
 use Rattle.engine.proofs.fill.Goals as goal
 
 pub bounds-s-4 : goal.bounds-s-4

@@ -1,7 +1,6 @@
 use Rattle.tickets.specs.Queues.{queues, desk}
 use Rattle.engine.proofs.Parts.{step_is, after_passed}
-use Rattle.std.proofs.Common.{◌≡◌, refl, arith, rules}
-use Rattle.processor.proofs.execute.settle.Reads as settle-reads
+use Rattle.std.proofs.Common.{refl, arith, rules}
 use Rattle.engine.proofs.general.Goals as goal
 
 pub step-s-requires : goal.step-s-requires

@@ -1,8 +1,7 @@
-use Rattle.engine.proofs.Parts.{room_is, not_true, not_false}
+use Rattle.engine.proofs.Parts.{room_is}
 use Rattle.engine.proofs.Leads.{numbered_as, roomy_at, goes_at, found_at, list_long, calm_at, some_left, leads_then, leads_part, leads_arrived}
-use Rattle.std.proofs.Common.{◌≡◌, sym, refl, ◌∙◌, true≢false, arith, rules}
+use Rattle.std.proofs.Common.{◌∙◌, arith}
 use mathlib.Core.Bool.{false≢true}
-use Rattle.quick.proofs.plain.Reads as plain-reads
 use Rattle.engine.proofs.leap.Goals as goal
 
 pub processor_of-p-requires : goal.processor_of-p-requires

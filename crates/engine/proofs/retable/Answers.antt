@@ -1,5 +1,4 @@
 use Rattle.dlx.specs.Machine.{retabled}
-use Rattle.std.proofs.Common.{rules}
 use Rattle.engine.proofs.retable.Goals as goal
 
 pub returns-in-Plain : goal.returns-in-Plain

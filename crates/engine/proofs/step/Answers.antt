@@ -1,7 +1,6 @@
 use Rattle.tickets.specs.Queues.{queues, desk}
 use Rattle.engine.proofs.Parts.{passed_is, after_fetch, after_access}
-use Rattle.std.proofs.Common.{refl, rules}
-use Rattle.processor.proofs.execute.pass.Reads as pass-reads
+use Rattle.std.proofs.Common.{refl}
 use Rattle.engine.proofs.step.Goals as goal
 
 -- src/lib.rt:196:9

@@ -1,6 +1,6 @@
-use Rattle.tickets.specs.Queues.{queues, desk}
+use Rattle.tickets.specs.Queues.{queues}
 use Rattle.engine.proofs.Leads.{list_long, stretched_is}
-use Rattle.std.proofs.Common.{◌≡◌, refl, arith, rules}
+use Rattle.std.proofs.Common.{refl}
 use Rattle.engine.proofs.stretch.Goals as goal
 
 pub fill-requires : goal.fill-requires

@@ -1,12 +1,7 @@
-use Rattle.engine.specs.Answers.{processor_at, table_at, timer_at}
 use Rattle.engine.proofs.Parts.{stretch_done}
 use Rattle.engine.proofs.Leads.{list_long, leads_first, leads_within, called_at, on_at, whole_at}
-use Rattle.addresses.proofs.Steps.{Whole}
 use Rattle.addresses.specs.Premises.{Placed}
-use Rattle.addresses.specs.Memory.{host, host_memory}
-use Rattle.tickets.specs.Queues.{queues, desk, Seated}
-use Rattle.dlx.specs.Machine.{core, stretch_from}
-use Rattle.std.proofs.Common.{◌≡◌, ◌-◌, ◌≤◌, length, sym, refl, ◌∙◌, subst, arith, rules}
+use Rattle.std.proofs.Common.{sym, refl, ◌∙◌, subst, arith}
 use Rattle.engine.proofs.turn.Goals as goal
 
 pub ahead-rest-requires : goal.ahead-rest-requires

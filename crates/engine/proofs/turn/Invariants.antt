@@ -1,12 +1,9 @@
 use Rattle.engine.specs.Answers.{processor_at, table_at, timer_at}
-use Rattle.engine.proofs.Parts.{stretch_done}
-use Rattle.engine.proofs.Leads.{list_long, leads_first, leads_within, called_at, on_at, whole_at}
 use Rattle.addresses.proofs.Steps.{Whole}
-use Rattle.addresses.specs.Premises.{Placed}
 use Rattle.addresses.specs.Memory.{host, host_memory}
 use Rattle.tickets.specs.Queues.{queues, desk, Seated}
 use Rattle.dlx.specs.Machine.{core, stretch_from}
-use Rattle.std.proofs.Common.{◌≡◌, ◌-◌, ◌≤◌, length, sym, refl, ◌∙◌, subst, arith, rules}
+use Rattle.std.proofs.Common.{◌≡◌, ◌-◌, ◌≤◌, length}
 use Rattle.engine.proofs.turn.Given as goal
 
 abbrev pub invariant-loop-rest : goal.invariant-loop-rest

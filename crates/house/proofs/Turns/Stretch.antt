@@ -10,7 +10,7 @@ use lib.Dec.{eqb, ltb}
 use lib.ListN.{length, set}
 use lib.Seq.{set-set}
 use Rattle.dlx.specs.declared.partition.Partition.{Partition}
-use Rattle.dlx.specs.Machine.{Ops, Core, core, Outcome, Desk, step_at, Stretch, stretch_from}
+use Rattle.dlx.specs.Machine.{Ops, Core, Outcome, Desk, step_at, Stretch, stretch_from}
 use Rattle.dlx.specs.Processor.{with_counter}
 use Rattle.dlx.proofs.Kept.{either}
 use Rattle.addresses.specs.Walk.{entries}

@@ -1,5 +1,5 @@
 use Rattle.housefile.specs.Reader.{completed}
-use Rattle.std.proofs.Common.{rules, eq-eqb, ne_eqb}
+use Rattle.std.proofs.Common.{eq-eqb, ne_eqb}
 use Rattle.housefile.proofs.complete.Goals as goal
 
 pub returns-then-n-ne2 : goal.returns-then-n-ne2

@@ -1,5 +1,4 @@
-use Rattle.std.proofs.Common.{◌≡◌, ◌-◌, ◌≤◌, length, drop, refl, ◌∙◌, zero-le, arith, rules}
-use Rattle.housefile.specs.Reader.{read, fed}
+use Rattle.std.proofs.Common.{refl, ◌∙◌, zero-le, arith}
 use Rattle.housefile.proofs.Parts.{fed_on, fed_done}
 use Rattle.housefile.proofs.feed.Goals as goal
 

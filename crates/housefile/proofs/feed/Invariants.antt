@@ -1,6 +1,5 @@
-use Rattle.std.proofs.Common.{◌≡◌, ◌-◌, ◌≤◌, length, drop, refl, ◌∙◌, zero-le, arith, rules}
+use Rattle.std.proofs.Common.{◌≡◌, ◌-◌, ◌≤◌, length, drop}
 use Rattle.housefile.specs.Reader.{read, fed}
-use Rattle.housefile.proofs.Parts.{fed_on, fed_done}
 use Rattle.housefile.proofs.feed.Given as goal
 
 abbrev pub invariant-loop-i : goal.invariant-loop-i

@@ -1,5 +1,4 @@
 use Rattle.housefile.specs.Reader.{further}
-use Rattle.std.proofs.Common.{rules}
 use Rattle.housefile.proofs.further.Goals as goal
 
 pub returns : goal.returns

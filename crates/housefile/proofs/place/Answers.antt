@@ -1,4 +1,4 @@
-use Rattle.std.proofs.Common.{arith, rules, le-ltb, lt-ltb, eq-eqb, ne_eqb}
+use Rattle.std.proofs.Common.{arith, le-ltb, lt-ltb, eq-eqb, ne_eqb}
 use Rattle.housefile.specs.Reader.{placed}
 use Rattle.housefile.proofs.place.Goals as goal
 

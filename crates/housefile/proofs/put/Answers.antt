@@ -1,5 +1,5 @@
 use lib.Seq.{set_out}
-use Rattle.std.proofs.Common.{sym, rules}
+use Rattle.std.proofs.Common.{sym}
 use Rattle.housefile.proofs.put.Goals as goal
 
 pub returns-then-list-i : goal.returns-then-list-i

@@ -1,4 +1,4 @@
-use Rattle.std.proofs.Common.{sym, ◌∙◌, rules}
+use Rattle.std.proofs.Common.{sym, ◌∙◌}
 use Rattle.housefile.proofs.Parts.{settled_spoiled, settled_within, settled_whole}
 use Rattle.housefile.proofs.settle.Goals as goal
 

@@ -1,6 +1,6 @@
 use mathlib.Core.Bool.{or-false}
 use Rattle.housefile.specs.Reader.{spoils}
-use Rattle.std.proofs.Common.{rules, ne_eqb}
+use Rattle.std.proofs.Common.{ne_eqb}
 use Rattle.housefile.proofs.spoils.Goals as goal
 
 pub returns-then-n-eq6 : goal.returns-then-n-eq6

@@ -1,4 +1,4 @@
-use Rattle.std.proofs.Common.{rules, eq-eqb, ne_eqb}
+use Rattle.std.proofs.Common.{eq-eqb, ne_eqb}
 use Rattle.housefile.specs.Reader.{took}
 use Rattle.housefile.proofs.take.Goals as goal
 

@@ -1,14 +1,9 @@
-use native.Mathlib.Omega.{arith}
-use native.Mathlib.Nat.{le_antisymm}
-use lib.ListN.{length, length-set}
+use lib.ListN.{length}
 use mathlib.Core.Bool.{false}
-use mathlib.Core.Path.{◌≡◌, refl, sym, ap, ◌∙◌}
-use Prim.Native.Nat.{◌≤◌, ◌-◌, zero-le}
+use mathlib.Core.Path.{◌≡◌}
+use Prim.Native.Nat.{◌≤◌, ◌-◌}
 use Rattle.house.specs.Lists.{any}
-use Rattle.house.proofs.Lists.Bounded.{any_more, any_yes}
-use Rattle.house.proofs.Lists.ByRule.{first_is, first_none}
 use Rattle.marks.specs.Marked.{marked, twice_marked}
-use Rattle.marks.proofs.Marked.{marked_more, mark_found, mark_free}
 use Rattle.marks.proofs.mark.Given as goal
 
 abbrev pub invariant-loop-k : goal.invariant-loop-k

@@ -1,8 +1,6 @@
 use Rattle.dlx.specs.Execute.{operated, overflows_of, value_of}
-use Rattle.std.proofs.Common.{◌≡◌, sym, refl, ◌∙◌, true≢false, rules, eq-eqb, ne_eqb}
+use Rattle.std.proofs.Common.{sym, refl, ◌∙◌, true≢false, eq-eqb, ne_eqb}
 use mathlib.Core.Bool.{false≢true}
-use Rattle.processor.proofs.words.sum_overflows.Reads as sum-overflows-reads
-use Rattle.std.proofs.num.wrapping_add_u32.Reads as wrapping-add-u32-reads
 use Rattle.plain.proofs.add.Goals as goal
 
 -- src/lib.rt:191:13

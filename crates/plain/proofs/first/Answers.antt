@@ -1,4 +1,3 @@
-use Rattle.std.proofs.Common.{rules}
 use Rattle.plain.proofs.first.Goals as goal
 
 pub returns : goal.returns

@@ -1,6 +1,5 @@
 use Rattle.plain.specs.Plain.{held_of}
-use Rattle.std.proofs.Common.{rules, le-ltb, lt-ltb}
-use Rattle.dlx.proofs.words.wide.Reads as wide-reads
+use Rattle.std.proofs.Common.{le-ltb, lt-ltb}
 use Rattle.plain.proofs.held.Goals as goal
 
 -- src/lib.rt:58:9

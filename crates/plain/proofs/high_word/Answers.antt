@@ -1,4 +1,4 @@
-use Rattle.std.proofs.Common.{arith, rules}
+use Rattle.std.proofs.Common.{arith}
 use Rattle.plain.proofs.high_word.Goals as goal
 
 pub put-requires : goal.put-requires

@@ -1,4 +1,4 @@
-use Rattle.std.proofs.Common.{refl, arith, rules}
+use Rattle.std.proofs.Common.{refl, arith}
 use Rattle.plain.proofs.near.Goals as goal
 
 pub extend-requires : goal.extend-requires

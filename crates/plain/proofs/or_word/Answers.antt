@@ -1,5 +1,5 @@
 use Rattle.dlx.specs.Execute.{value_of}
-use Rattle.std.proofs.Common.{arith, rules}
+use Rattle.std.proofs.Common.{arith}
 use Rattle.plain.proofs.or_word.Goals as goal
 
 pub bounds-regs-rs1 : goal.bounds-regs-rs1

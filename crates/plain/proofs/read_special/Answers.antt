@@ -1,7 +1,6 @@
-use Rattle.std.proofs.Common.{◌≡◌, ℕ, ◌<◌, get_or, sym, refl, ap, ◌∙◌, true≢false, arith, rules, eq-eqb, ne_eqb}
+use Rattle.std.proofs.Common.{ℕ, ◌<◌, get_or, sym, refl, ap, ◌∙◌, true≢false, arith, ne_eqb}
 use mathlib.Core.Bool.{false≢true}
 use Rattle.dlx.specs.Execute.{written}
-use Rattle.dlx.proofs.words.wide.Reads as wide-reads
 use Rattle.plain.proofs.read_special.Goals as goal
 
 -- src/lib.rt:230:9

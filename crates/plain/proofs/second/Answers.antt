@@ -1,4 +1,3 @@
-use Rattle.std.proofs.Common.{rules}
 use Rattle.plain.proofs.second.Goals as goal
 
 pub returns : goal.returns

@@ -1,8 +1,6 @@
 use Rattle.plain.specs.Plain.{seen_of}
-use Rattle.std.proofs.Common.{◌≡◌, ◌/◌, get_or, arith, rules}
+use Rattle.std.proofs.Common.{◌≡◌, ◌/◌, get_or, arith}
 use lib.ListN.{get_or-eq_default}
-use Rattle.dlx.proofs.words.wide.Reads as wide-reads
-use Rattle.translate.proofs.straight.Reads as straight-reads
 use Rattle.plain.proofs.seen.Goals as goal
 
 -- src/lib.rt:44:13

@@ -4,11 +4,8 @@ use Rattle.plain.proofs.Laws.{seen_inside, store_does, not_held, fits_left}
 use Rattle.processor.proofs.Opcodes.{or_right}
 use Rattle.dlx.specs.Fields.{loading, storing}
 use Rattle.addresses.proofs.Entries.{placed_listed}
-use Rattle.std.proofs.Common.{◌≡◌, ◌+◌, ◌*◌, ◌/◌, ◌%◌, ◌^◌, sym, refl, ◌∙◌, true≢false, arith, rules, eq-eqb, ne_eqb}
+use Rattle.std.proofs.Common.{◌+◌, ◌*◌, ◌/◌, ◌%◌, ◌^◌, sym, refl, true≢false, arith, eq-eqb, ne_eqb}
 use mathlib.Core.Bool.{false≢true}
-use Rattle.dlx.proofs.words.wide.Reads as wide-reads
-use Rattle.translate.proofs.place.Reads as place-reads
-use Rattle.std.proofs.num.wrapping_add_u32.Reads as wrapping-add-u32-reads
 use Rattle.plain.proofs.store.Goals as goal
 
 -- src/lib.rt:166:9

@@ -1,4 +1,4 @@
-use Rattle.std.proofs.Common.{arith, rules}
+use Rattle.std.proofs.Common.{arith}
 use Rattle.plain.proofs.store_word.Goals as goal
 
 pub bounds-regs-rs1 : goal.bounds-regs-rs1

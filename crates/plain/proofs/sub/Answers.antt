@@ -1,9 +1,7 @@
 use Rattle.dlx.specs.Execute.{operated, overflows_of, value_of}
 use Rattle.dlx.specs.Words.{minus}
-use Rattle.std.proofs.Common.{◌≡◌, sym, refl, ◌∙◌, true≢false, arith, rules, eq-eqb, ne_eqb}
+use Rattle.std.proofs.Common.{◌≡◌, sym, refl, ◌∙◌, true≢false, arith, eq-eqb, ne_eqb}
 use mathlib.Core.Bool.{false≢true}
-use Rattle.processor.proofs.words.difference_overflows.Reads as difference-overflows-reads
-use Rattle.std.proofs.num.wrapping_sub_u32.Reads as wrapping-sub-u32-reads
 use Rattle.plain.proofs.sub.Goals as goal
 
 -- src/lib.rt:206:13

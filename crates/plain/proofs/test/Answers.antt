@@ -1,7 +1,6 @@
 use Rattle.plain.proofs.Signed.{less, test_less, test_greater, test_same}
 use Rattle.dlx.specs.Words.{test_of, reading_of}
-use Rattle.std.proofs.Common.{◌≡◌, ◌/◌, ◌%◌, subst, arith, rules}
-use Rattle.std.proofs.num.wrapping_add_u32.Reads as wrapping-add-u32-reads
+use Rattle.std.proofs.Common.{◌≡◌, ◌/◌, ◌%◌, subst, arith}
 use Rattle.plain.proofs.test.Goals as goal
 
 -- src/lib.rt:219:9

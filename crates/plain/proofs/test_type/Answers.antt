@@ -1,4 +1,4 @@
-use Rattle.std.proofs.Common.{◌≡◌, sym, refl, ap, ◌∙◌, true≢false, arith, rules}
+use Rattle.std.proofs.Common.{sym, refl, ◌∙◌, true≢false, arith}
 use mathlib.Core.Bool.{false≢true}
 use Rattle.plain.proofs.test_type.Goals as goal
 

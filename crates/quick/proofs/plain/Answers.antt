@@ -1,9 +1,7 @@
 use Rattle.quick.proofs.Laws.{goes_none, goes_more, found_none, cached_here, numbered_pair}
-use Rattle.plain.specs.Plain.{pair_of}
-use Rattle.quick.specs.Quick.{Goes}
 use Rattle.addresses.specs.Premises.{Placed}
 use Rattle.addresses.proofs.Entries.{placed_listed}
-use Rattle.std.proofs.Common.{◌≡◌, length, sym, refl, ◌∙◌, subst, arith, rules, eq-eqb}
+use Rattle.std.proofs.Common.{sym, refl, ◌∙◌, subst, arith, eq-eqb}
 use Rattle.quick.proofs.plain.Goals as goal
 
 pub loop-rest-init : goal.loop-rest-init

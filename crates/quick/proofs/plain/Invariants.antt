@@ -1,9 +1,6 @@
-use Rattle.quick.proofs.Laws.{goes_none, goes_more, found_none, cached_here, numbered_pair}
 use Rattle.plain.specs.Plain.{pair_of}
 use Rattle.quick.specs.Quick.{Goes}
-use Rattle.addresses.specs.Premises.{Placed}
-use Rattle.addresses.proofs.Entries.{placed_listed}
-use Rattle.std.proofs.Common.{◌≡◌, length, sym, refl, ◌∙◌, subst, arith, rules, eq-eqb}
+use Rattle.std.proofs.Common.{◌≡◌, length}
 use Rattle.quick.proofs.plain.Given as goal
 
 abbrev pub invariant-loop-rest : goal.invariant-loop-rest

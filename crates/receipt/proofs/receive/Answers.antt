@@ -1,7 +1,6 @@
 use Rattle.dlx.specs.Machine.{received}
 use native.Mathlib.Omega.{arith}
 use borrow.Author.Tests.{eq-eqb, ne_eqb}
-use borrow.Author.Rules.{rules}
 use Rattle.receipt.proofs.receive.Goals as goal
 
 pub take-reply-requires : goal.take-reply-requires

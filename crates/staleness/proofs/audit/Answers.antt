@@ -2,7 +2,6 @@ use mathlib.Core.Path.{refl, sym, ◌∙◌}
 use Rattle.house.specs.Turns.{world}
 use Rattle.hypervisor.proofs.Refusals.{shaped}
 use Rattle.staleness.proofs.Verdicts.{audit_done, walkable, audit_refused, audit_found}
-use borrow.Author.Rules.{rules}
 use Rattle.staleness.proofs.audit.Goals as goal
 
 pub returns-then-number-ne0 : goal.returns-then-number-ne0

@@ -1,12 +1,11 @@
-use mathlib.Core.Path.{◌≡◌, refl, sym, ap, ◌∙◌}
-use Prim.Native.Nat.{ℕ, ◌-◌, ◌≤◌, zero-le}
+use mathlib.Core.Path.{◌≡◌, sym, ◌∙◌}
+use Prim.Native.Nat.{zero-le}
 use native.Mathlib.Omega.{arith}
-use borrow.Author.Rules.{rules}
 use borrow.Author.Tests.{lt-ltb, le-ltb}
 use Rattle.house.specs.Turns.{world}
 use Rattle.house.proofs.Lists.ByRule.{list_from_replicate}
 use Rattle.staleness.specs.Audit.{stale_count, count_at, stale_counts}
-use Rattle.staleness.proofs.SoFar.{so_far, far_none, far_all, far_set}
+use Rattle.staleness.proofs.SoFar.{far_none, far_all, far_set}
 use Rattle.staleness.proofs.count_each.Goals as goal
 
 pub loop-i-init : goal.loop-i-init

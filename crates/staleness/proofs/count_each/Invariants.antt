@@ -1,12 +1,8 @@
-use mathlib.Core.Path.{◌≡◌, refl, sym, ap, ◌∙◌}
-use Prim.Native.Nat.{ℕ, ◌-◌, ◌≤◌, zero-le}
-use native.Mathlib.Omega.{arith}
-use borrow.Author.Rules.{rules}
-use borrow.Author.Tests.{lt-ltb, le-ltb}
+use mathlib.Core.Path.{◌≡◌}
+use Prim.Native.Nat.{◌-◌, ◌≤◌}
 use Rattle.house.specs.Turns.{world}
-use Rattle.house.proofs.Lists.ByRule.{list_from_replicate}
-use Rattle.staleness.specs.Audit.{stale_count, count_at, stale_counts}
-use Rattle.staleness.proofs.SoFar.{so_far, far_none, far_all, far_set}
+use Rattle.staleness.specs.Audit.{count_at}
+use Rattle.staleness.proofs.SoFar.{so_far}
 use Rattle.staleness.proofs.count_each.Given as goal
 
 abbrev pub invariant-loop-i : goal.invariant-loop-i

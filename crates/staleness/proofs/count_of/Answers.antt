@@ -1,14 +1,13 @@
 use Rattle.house.specs.House.{pages_of}
 use Rattle.staleness.specs.Audit.{count_of}
 use native.Mathlib.Omega.{arith}
-use mathlib.Core.Path.{◌≡◌, refl, ap, ◌∙◌}
+use mathlib.Core.Path.{ap, ◌∙◌}
 use mathlib.Core.Bool.{Bool}
 use Prim.Native.Nat.{ℕ}
 use Rattle.addresses.specs.Walk.{entries}
 use Rattle.hypervisor.proofs.Read.{lent_placed}
 use Rattle.hypervisor.proofs.Refusals.{shaped}
 use Rattle.staleness.proofs.Lent.{shadow_long, stale_lent}
-use borrow.Author.Rules.{rules}
 use Rattle.staleness.proofs.count_of.Goals as goal
 
 pub slice_bounds-count_stale-end : goal.slice_bounds-count_stale-end

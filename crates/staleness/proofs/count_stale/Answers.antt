@@ -2,10 +2,9 @@ use lib.ListN.{get_or}
 use Rattle.addresses.specs.Memory.{stale}
 use Rattle.staleness.proofs.Counting.{one_most, count_more}
 use mathlib.Core.Path.{◌≡◌, refl, sym, ap, ◌∙◌}
-use Prim.Native.Nat.{ℕ, ◌+◌, ◌-◌, ◌≤◌, zero-le}
+use Prim.Native.Nat.{zero-le}
 use native.Mathlib.Nat.{le_antisymm}
 use native.Mathlib.Omega.{arith}
-use borrow.Author.Rules.{rules}
 use Rattle.addresses.specs.Walk.{entries}
 use Rattle.staleness.specs.Audit.{stale_in, count_of}
 use Rattle.staleness.proofs.count_stale.Goals as goal

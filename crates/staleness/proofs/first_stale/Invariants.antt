@@ -1,16 +1,9 @@
-use mathlib.Core.Path.{◌≡◌, refl, sym, ap, ◌∙◌}
-use mathlib.Core.Bool.{true, false}
-use Prim.Native.Nat.{ℕ, ◌-◌, ◌≤◌, zero-le}
-use native.Mathlib.Nat.{le_antisymm}
-use native.Mathlib.Omega.{arith}
-use borrow.Author.Rules.{rules}
-use borrow.Author.Tests.{le-ltb}
-use Rattle.addresses.specs.Walk.{entries}
+use mathlib.Core.Path.{◌≡◌}
+use mathlib.Core.Bool.{false}
+use Prim.Native.Nat.{◌-◌, ◌≤◌}
 use Rattle.house.specs.Lists.{any}
 use Rattle.house.specs.Turns.{world}
-use Rattle.house.proofs.Lists.Bounded.{any_more}
-use Rattle.staleness.specs.Audit.{finding, first_page, has_stale}
-use Rattle.staleness.proofs.Searching.{first_found, none_found}
+use Rattle.staleness.specs.Audit.{has_stale}
 use Rattle.staleness.proofs.first_stale.Given as goal
 
 abbrev pub invariant-loop-i : goal.invariant-loop-i

@@ -1,6 +1,5 @@
 use borrow.Author.Tests.{eq-eqb, ne_eqb}
 use Rattle.addresses.specs.Memory.{stale}
-use borrow.Author.Rules.{rules}
 use Rattle.staleness.proofs.is_stale.Goals as goal
 
 pub returns-then-e-ne1 : goal.returns-then-e-ne1

@@ -1,5 +1,4 @@
 use mathlib.Core.Path.{sym, ◌∙◌}
-use borrow.Author.Rules.{rules}
 use Rattle.staleness.proofs.kept.Goals as goal
 
 pub returns-then-is_stale : goal.returns-then-is_stale

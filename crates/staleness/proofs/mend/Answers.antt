@@ -1,4 +1,4 @@
-use mathlib.Core.Path.{◌≡◌, refl, sym, ap, ◌∙◌}
+use mathlib.Core.Path.{refl, sym, ap, ◌∙◌}
 use Prim.Native.Nat.{ℕ}
 use Rattle.house.specs.Boot.{verdict, sum}
 use Rattle.house.specs.Turns.{world}
@@ -6,7 +6,6 @@ use Rattle.house.specs.Calls.{answered}
 use Rattle.hypervisor.proofs.Refusals.{shaped, leaves_given, leaves_done}
 use Rattle.staleness.specs.Audit.{audit_verdict, stale_counts, mended, mend_call}
 use Rattle.staleness.proofs.Verdicts.{audit_done, audit_plain, walkable}
-use borrow.Author.Rules.{rules}
 use Rattle.staleness.proofs.mend.Goals as goal
 
 pub returns-then-number-ne0 : goal.returns-then-number-ne0

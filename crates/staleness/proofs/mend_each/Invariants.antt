@@ -1,12 +1,7 @@
-use mathlib.Core.Path.{◌≡◌, refl, sym, ap, ◌∙◌}
-use Prim.Native.Nat.{ℕ, ◌-◌, ◌≤◌, zero-le}
-use native.Mathlib.Nat.{le_antisymm}
-use native.Mathlib.Numerals.{add-one}
-use native.Mathlib.Omega.{arith}
-use borrow.Author.Rules.{rules}
-use Rattle.house.specs.Turns.{World, world}
-use Rattle.staleness.specs.Audit.{mended_one, mended_to, mended}
-use Rattle.staleness.proofs.Mending.{mended_placed}
+use mathlib.Core.Path.{◌≡◌}
+use Prim.Native.Nat.{◌-◌, ◌≤◌}
+use Rattle.house.specs.Turns.{world}
+use Rattle.staleness.specs.Audit.{mended_to}
 use Rattle.staleness.proofs.mend_each.Given as goal
 
 abbrev pub invariant-loop-i : goal.invariant-loop-i

@@ -3,13 +3,11 @@ use Rattle.dlx.specs.Parts.{inner, outer}
 use Rattle.staleness.specs.Audit.{mended_one}
 use Rattle.staleness.proofs.Lent.{shadow_long}
 use native.Mathlib.Omega.{arith}
-use mathlib.Core.Path.{◌≡◌, refl, ap, ◌∙◌}
+use mathlib.Core.Path.{ap}
 use Prim.Native.Nat.{ℕ}
-use Rattle.addresses.specs.Walk.{entries}
 use Rattle.hypervisor.proofs.Read.{lent_placed}
 use Rattle.hypervisor.proofs.Refusals.{shaped}
 use Rattle.house.specs.House.{pages_of}
-use borrow.Author.Rules.{rules}
 use Rattle.staleness.proofs.mend_of.Goals as goal
 
 pub slice_bounds-mend_shadow-end : goal.slice_bounds-mend_shadow-end

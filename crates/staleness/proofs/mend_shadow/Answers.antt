@@ -1,10 +1,9 @@
-use Rattle.staleness.proofs.SoFar.{so_far, list_from_self, far_none, far_all, kept_more}
-use Rattle.staleness.specs.Audit.{stale_in, kept_in}
-use mathlib.Core.Path.{◌≡◌, refl, sym, ap, subst, ◌∙◌}
-use Prim.Native.Nat.{ℕ, ◌+◌, ◌-◌, ◌≤◌, zero-le}
+use Rattle.staleness.proofs.SoFar.{list_from_self, far_none, far_all, kept_more}
+use Rattle.staleness.specs.Audit.{kept_in}
+use mathlib.Core.Path.{sym, ◌∙◌}
+use Prim.Native.Nat.{zero-le}
 use native.Mathlib.Omega.{arith}
-use borrow.Author.Rules.{rules}
-use lib.ListN.{length, get_or, length-set}
+use lib.ListN.{get_or, length-set}
 use Rattle.addresses.specs.Walk.{entries}
 use Rattle.staleness.proofs.mend_shadow.Goals as goal
 

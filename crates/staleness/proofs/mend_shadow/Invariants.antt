@@ -1,10 +1,8 @@
-use Rattle.staleness.proofs.SoFar.{so_far, list_from_self, far_none, far_all, kept_more}
-use Rattle.staleness.specs.Audit.{stale_in, kept_in}
-use mathlib.Core.Path.{◌≡◌, refl, sym, ap, subst, ◌∙◌}
-use Prim.Native.Nat.{ℕ, ◌+◌, ◌-◌, ◌≤◌, zero-le}
-use native.Mathlib.Omega.{arith}
-use borrow.Author.Rules.{rules}
-use lib.ListN.{length, get_or, length-set}
+use Rattle.staleness.proofs.SoFar.{so_far}
+use Rattle.staleness.specs.Audit.{kept_in}
+use mathlib.Core.Path.{◌≡◌}
+use Prim.Native.Nat.{◌-◌, ◌≤◌}
+use lib.ListN.{length, get_or}
 use Rattle.addresses.specs.Walk.{entries}
 use Rattle.staleness.proofs.mend_shadow.Given as goal
 

@@ -2,7 +2,6 @@ use mathlib.Core.Path.{sym, ◌∙◌}
 use borrow.Author.Tests.{eq-eqb, ne_eqb}
 use Rattle.house.specs.Boot.{first_of}
 use Rattle.staleness.specs.Audit.{audit_verdict}
-use borrow.Author.Rules.{rules}
 use Rattle.staleness.proofs.refusal.Goals as goal
 
 pub returns-then-damaged : goal.returns-then-damaged

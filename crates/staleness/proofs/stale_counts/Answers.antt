@@ -5,7 +5,6 @@ use Rattle.house.specs.Turns.{world}
 use Rattle.hypervisor.proofs.Refusals.{shaped}
 use Rattle.staleness.specs.Audit.{counts}
 use Rattle.staleness.proofs.Verdicts.{audit_done, walkable, counts_refused, counts_found}
-use borrow.Author.Rules.{rules}
 use Rattle.staleness.proofs.stale_counts.Goals as goal
 
 pub returns-then-number-ne0 : goal.returns-then-number-ne0

@@ -1,11 +1,6 @@
-use mathlib.Core.Path.{◌≡◌, refl, sym, ap, ◌∙◌}
-use Prim.Native.Nat.{◌*◌, ◌-◌, ◌^◌, ◌≤◌, zero-le}
-use native.Mathlib.Omega.{arith}
-use native.Mathlib.Nat.{le_antisymm}
-use borrow.Author.Rules.{rules}
-use lib.ListN.{length}
+use mathlib.Core.Path.{◌≡◌}
+use Prim.Native.Nat.{◌*◌, ◌-◌, ◌^◌, ◌≤◌}
 use Rattle.house.specs.Boot.{offset}
-use Rattle.house.proofs.Boot.Offsets.{offset_more, offset_sum}
 use Rattle.staleness.proofs.total.Given as goal
 
 abbrev pub invariant-loop-i : goal.invariant-loop-i

@@ -1,8 +1,8 @@
 use borrow.Author.Count.{below_more, below_none}
 use lib.Seq.{get_or-set_same, get_or-set_other, ext_get_or}
-use lib.ListN.{length, get_or, set, length-set}
+use lib.ListN.{get_or, set, length-set}
 use mathlib.Core.Path.{◌≡◌, refl, ◌∙◌}
-use Prim.Native.Nat.{ℕ, ◌≤◌, ◌<◌, ◌-◌, zero-le}
+use Prim.Native.Nat.{ℕ, zero-le}
 use native.Mathlib.Omega.{arith}
 use Rattle.translate.proofs.copy.Goals as goal
 

@@ -1,9 +1,6 @@
-use borrow.Author.Count.{below_more, below_none}
-use lib.Seq.{get_or-set_same, get_or-set_other, ext_get_or}
-use lib.ListN.{length, get_or, set, length-set}
-use mathlib.Core.Path.{◌≡◌, refl, ◌∙◌}
-use Prim.Native.Nat.{ℕ, ◌≤◌, ◌<◌, ◌-◌, zero-le}
-use native.Mathlib.Omega.{arith}
+use lib.ListN.{length, get_or}
+use mathlib.Core.Path.{◌≡◌}
+use Prim.Native.Nat.{ℕ, ◌≤◌, ◌<◌, ◌-◌}
 use Rattle.translate.proofs.copy.Given as goal
 
 abbrev pub invariant-loop-i : goal.invariant-loop-i

@@ -1,6 +1,5 @@
 use Rattle.addresses.specs.Memory.{emptied}
 use borrow.Author.Tests.{lt-ltb, le-ltb, eq-eqb, ne_eqb}
-use borrow.Author.Rules.{rules}
 use Rattle.translate.proofs.empty_entry.Goals as goal
 
 pub returns-then-pto-pages : goal.returns-then-pto-pages

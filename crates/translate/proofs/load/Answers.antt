@@ -2,7 +2,6 @@ use Rattle.translate.proofs.Served.{served_inside}
 use Rattle.addresses.specs.Memory.{host_reads, host_read}
 use native.Mathlib.Omega.{arith}
 use borrow.Author.Tests.{eq-eqb, ne_eqb}
-use borrow.Author.Rules.{rules}
 use Rattle.translate.proofs.load.Goals as goal
 
 pub bounds-words-wide : goal.bounds-words-wide

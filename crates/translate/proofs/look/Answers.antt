@@ -2,7 +2,6 @@ use mathlib.Core.Path.{sym}
 use Rattle.translate.proofs.Served.{looked_none}
 use Rattle.addresses.specs.Memory.{looked, filled}
 use borrow.Author.Tests.{eq-eqb, ne_eqb}
-use borrow.Author.Rules.{rules}
 use Rattle.translate.proofs.look.Goals as goal
 
 pub returns-then-px-ge-LIMIT : goal.returns-then-px-ge-LIMIT

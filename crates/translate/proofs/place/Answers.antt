@@ -1,5 +1,4 @@
 use native.Mathlib.Omega.{arith}
-use borrow.Author.Rules.{rules}
 use Rattle.translate.proofs.Placing.{half, byte, places_word, places_less, places_lt, places_field}
 use Rattle.translate.proofs.place.Goals as goal
 

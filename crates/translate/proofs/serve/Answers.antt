@@ -1,6 +1,5 @@
 use Rattle.addresses.proofs.Entries.{placed_listed}
 use Rattle.addresses.specs.Memory.{served}
-use borrow.Author.Rules.{rules}
 use Rattle.translate.proofs.serve.Goals as goal
 
 pub returns-then-user : goal.returns-then-user

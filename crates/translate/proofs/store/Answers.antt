@@ -7,7 +7,6 @@ use Rattle.dlx.specs.Fields.{placed}
 use Rattle.addresses.specs.Memory.{host_writes, host_written}
 use native.Mathlib.Omega.{arith}
 use borrow.Author.Tests.{eq-eqb, ne_eqb}
-use borrow.Author.Rules.{rules}
 use Rattle.translate.proofs.store.Goals as goal
 
 pub returns-then-e-ne1 : goal.returns-then-e-ne1

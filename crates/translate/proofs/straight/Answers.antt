@@ -3,7 +3,6 @@ use Rattle.addresses.specs.Walk.{direct}
 use Prim.Native.Nat.{◌*◌}
 use native.Mathlib.Omega.{arith}
 use borrow.Author.Tests.{lt-ltb, le-ltb}
-use borrow.Author.Rules.{rules}
 use Rattle.translate.proofs.straight.Goals as goal
 
 pub returns-then-page-pages : goal.returns-then-page-pages

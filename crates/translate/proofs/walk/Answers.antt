@@ -4,7 +4,6 @@ use Rattle.addresses.specs.Walk.{walked}
 use Rattle.addresses.specs.Entries.{judged}
 use native.Mathlib.Omega.{arith}
 use borrow.Author.Tests.{lt-leb, le-leb, eq-eqb, ne_eqb}
-use borrow.Author.Rules.{rules}
 use Rattle.translate.proofs.walk.Goals as goal
 
 pub returns-then-px-t : goal.returns-then-px-t

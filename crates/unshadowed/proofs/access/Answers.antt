@@ -1,11 +1,7 @@
-use Rattle.std.proofs.Common.{ℕ, List, ap, rules, eq-eqb, ne_eqb}
+use Rattle.std.proofs.Common.{ℕ, List, ap, eq-eqb, ne_eqb}
 use Rattle.dlx.specs.Machine.{accessed, loaded, stored, after_read, after_write, request_of}
 use Rattle.tickets.specs.Queues.{Queues, desk}
 use Rattle.unshadowed.proofs.Parts.{load_is}
-use Rattle.processor.proofs.fields.bring.Reads as bring-reads
-use Rattle.std.proofs.num.wrapping_add_u32.Reads as wrapping-add-u32-reads
-use Rattle.tickets.proofs.send.Reads as send-reads
-use Rattle.receipt.proofs.receive.Reads as receive-reads
 use Rattle.unshadowed.proofs.access.Goals as goal
 
 -- src/lib.rt:163:50

@@ -1,8 +1,6 @@
 use Rattle.dlx.proofs.Kept.{instruction_formed}
 use Rattle.dlx.specs.Machine.{fetched, executed, after_read}
-use Rattle.std.proofs.Common.{rules, eq-eqb, ne_eqb}
-use Rattle.processor.proofs.execute.execute.Reads as execute-reads
-use Rattle.processor.proofs.instruction.read_instruction.Reads as read-instruction-reads
+use Rattle.std.proofs.Common.{eq-eqb, ne_eqb}
 use Rattle.unshadowed.proofs.fetch.Goals as goal
 
 -- src/lib.rt:107:9

@@ -1,7 +1,6 @@
 use Rattle.unshadowed.proofs.Parts.{sought_inside}
 use Rattle.unshadowed.specs.Memory.{sought_read}
-use Rattle.std.proofs.Common.{arith, rules, eq-eqb, ne_eqb}
-use Rattle.dlx.proofs.words.wide.Reads as wide-reads
+use Rattle.std.proofs.Common.{arith, eq-eqb, ne_eqb}
 use Rattle.unshadowed.proofs.load.Goals as goal
 
 -- src/lib.rt:58:29

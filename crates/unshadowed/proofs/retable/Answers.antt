@@ -1,5 +1,4 @@
 use Rattle.dlx.specs.Machine.{retabled}
-use Rattle.std.proofs.Common.{rules}
 use Rattle.unshadowed.proofs.retable.Goals as goal
 
 -- src/lib.rt:185:1

@@ -1,8 +1,5 @@
 use Rattle.addresses.proofs.Entries.{placed_listed}
 use Rattle.unshadowed.specs.Memory.{sought}
-use Rattle.std.proofs.Common.{rules}
-use Rattle.translate.proofs.straight.Reads as straight-reads
-use Rattle.translate.proofs.walk.Reads as walk-reads
 use Rattle.unshadowed.proofs.seek.Goals as goal
 
 -- src/lib.rt:46:9

@@ -1,8 +1,5 @@
 use Rattle.tickets.specs.Queues.{queues, desk}
 use Rattle.unshadowed.proofs.Parts.{step_is, after_fetch, after_access}
-use Rattle.std.proofs.Common.{rules}
-use Rattle.processor.proofs.execute.pass.Reads as pass-reads
-use Rattle.processor.proofs.execute.settle.Reads as settle-reads
 use Rattle.unshadowed.proofs.step.Goals as goal
 
 -- src/lib.rt:216:9

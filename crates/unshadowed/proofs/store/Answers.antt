@@ -2,9 +2,7 @@ use Rattle.unshadowed.proofs.Parts.{sought_inside, written_is}
 use Rattle.translate.proofs.Served.{update_mid}
 use Rattle.unshadowed.specs.Memory.{sought_written}
 use Rattle.dlx.specs.Fields.{placed}
-use Rattle.std.proofs.Common.{◌+◌, ◌-◌, ◌*◌, ◌∙◌, arith, length-drop, length-take, rules, eq-eqb, ne_eqb}
-use Rattle.dlx.proofs.words.wide.Reads as wide-reads
-use Rattle.translate.proofs.put.Reads as put_reads
+use Rattle.std.proofs.Common.{◌+◌, ◌-◌, ◌*◌, ◌∙◌, arith, length-drop, length-take, eq-eqb, ne_eqb}
 use Rattle.unshadowed.proofs.store.Goals as goal
 
 -- src/lib.rt:79:9

@@ -1,9 +1,6 @@
 use Rattle.unshadowed.proofs.Parts.{stretch_done, stretch_called, stretch_on, after_step}
-use Rattle.unshadowed.specs.Memory.{unshadowed, unshadowed_memory}
 use Rattle.addresses.specs.Premises.{Placed}
-use Rattle.tickets.specs.Queues.{queues, desk, Seated}
-use Rattle.dlx.specs.Machine.{core, stretch_from}
-use Rattle.std.proofs.Common.{◌≡◌, ◌-◌, ◌≤◌, length, sym, refl, ◌∙◌, subst, le_refl, arith}
+use Rattle.std.proofs.Common.{sym, refl, ◌∙◌, subst, le_refl, arith}
 use native.Mathlib.Nat.{sub_self}
 use Rattle.unshadowed.proofs.stretch.Goals as goal
 

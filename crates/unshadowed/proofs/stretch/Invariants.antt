@@ -1,10 +1,7 @@
-use Rattle.unshadowed.proofs.Parts.{stretch_done, stretch_called, stretch_on, after_step}
 use Rattle.unshadowed.specs.Memory.{unshadowed, unshadowed_memory}
-use Rattle.addresses.specs.Premises.{Placed}
 use Rattle.tickets.specs.Queues.{queues, desk, Seated}
 use Rattle.dlx.specs.Machine.{core, stretch_from}
-use Rattle.std.proofs.Common.{◌≡◌, ◌-◌, ◌≤◌, length, sym, refl, ◌∙◌, subst, le_refl, arith}
-use native.Mathlib.Nat.{sub_self}
+use Rattle.std.proofs.Common.{◌≡◌, ◌-◌, ◌≤◌, length}
 use Rattle.unshadowed.proofs.stretch.Given as goal
 
 abbrev pub invariant-loop-rest : goal.invariant-loop-rest

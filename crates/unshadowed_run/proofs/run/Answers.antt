@@ -1,14 +1,11 @@
-use Rattle.std.proofs.Common.{sym, refl, ap, ◌∙◌, rules}
+use Rattle.std.proofs.Common.{sym, refl, ◌∙◌}
 use Rattle.house.specs.Turns.{world}
 use Rattle.house.specs.Calls.{run_verdict}
-use Rattle.house.specs.declared.House.{House}
 use Rattle.house.proofs.Calls.Verdicts.{run_done}
 use Rattle.hypervisor.proofs.Refusals.{shaped, run_plain, leaves_given, leaves_done}
 use Rattle.unshadowed.specs.Turns.{unshadowed_steps, all_empty}
 use Rattle.unshadowed_run.specs.Calls.{unshadowed_call}
 use Rattle.unshadowed_run.proofs.Calls.{steady_run, no_steps, emptied_is}
-use Rattle.hypervisor.proofs.calls.refused.Reads as refused-reads
-use Rattle.hypervisor.proofs.calls.run_refusal.Reads as run-refusal-reads
 use Rattle.unshadowed_run.proofs.run.Goals as goal
 
 -- src/lib.rt:95:9

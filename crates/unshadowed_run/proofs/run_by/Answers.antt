@@ -1,5 +1,4 @@
 use Rattle.unshadowed_run.specs.Calls.{run_by}
-use Rattle.std.proofs.Common.{rules}
 use Rattle.unshadowed_run.proofs.run_by.Goals as goal
 
 pub returns-then-unshadowed : goal.returns-then-unshadowed

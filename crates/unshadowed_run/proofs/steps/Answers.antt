@@ -1,17 +1,10 @@
-use Rattle.std.proofs.Common.{◌≡◌, ℕ, ◌-◌, ◌<◌, ◌≤◌, length, sym, refl, ap, ◌∙◌, subst, zero-le, le_trans, le_antisymm, arith, rules}
+use Rattle.std.proofs.Common.{ℕ, ◌-◌, ◌<◌, ◌≤◌, sym, refl, ap, ◌∙◌, subst, zero-le, le_trans, le_antisymm, arith}
 use Rattle.unshadowed_run.proofs.Turn.{asked_turned, after_turn, asked_sound, joined}
 use Rattle.unshadowed_run.specs.Steady.{Steady}
 use Rattle.unshadowed_run.proofs.Stretch.{empty_steady}
 use Rattle.hypervisor.proofs.Turn.{limited, current_few, still_some, fits, fits_on, fits_words, starts, ends}
 use Rattle.unshadowed.specs.Turns.{unshadowed_steps, all_empty}
-use Rattle.house.specs.Turns.{World, world, house_at}
-use Rattle.house.specs.House.{with_queues}
-use Rattle.tickets.specs.Queues.{queues}
-use Rattle.dlx.proofs.words.wide.Reads as wide-reads
-use Rattle.hypervisor.proofs.run.limit.Reads as limit-reads
-use Rattle.hypervisor.proofs.run.turn.Reads as turn-reads
-use Rattle.std.proofs.num.wrapping_add_u64.Reads as wrapping-add-u64-reads
-use Rattle.unshadowed.proofs.stretch.Reads as stretch-reads
+use Rattle.house.specs.Turns.{world}
 use Rattle.unshadowed_run.proofs.steps.Goals as goal
 
 -- src/lib.rt:42:5
@@ -96,9 +89,13 @@ bounds-parts-i-in-loop-made c = (let inside' : c.wide-i.result < 8 = let o = c.l
 
 -- src/lib.rt:75:13
 pub turn-t-requires : goal.turn-t-requires
-turn-t-requires c = record { fact_1 = c.loop-made.invariant.1.sound.few; fact_2 = c.loop-made.invariant.1.sound.here; fact_3 = ((let made_some' : (0 < c.stretch-s.result.made) × (c.stretch-s.result.made ≤ c.loop-made.left) × (c.stretch-s.result.made ≤ c.args.k - c.loop-made.made) = let u = limited _ _ _ c.limit-n.ensures c.loop-made.invariant.1.sound.left (still_some _ _ c.loop-made-test.true) in
-    let d = asked_turned c.args.h _ _ _ _ c.args.h.shadows _ _ _ _ _ _ _ _ _ _ _ c.wide-i.ensures c.stretch-s.ensures c.loop-made.invariant.1 u.0 u.1 in
-    (d.some, le_trans d.most u.1, le_trans d.most u.2) in made_some')).1 }
+turn-t-requires c = record {
+  fact_1 = c.loop-made.invariant.1.sound.few;
+  fact_2 = c.loop-made.invariant.1.sound.here;
+  fact_3 = ((let made_some' : (0 < c.stretch-s.result.made) × (c.stretch-s.result.made ≤ c.loop-made.left) × (c.stretch-s.result.made ≤ c.args.k - c.loop-made.made) = let u = limited _ _ _ c.limit-n.ensures c.loop-made.invariant.1.sound.left (still_some _ _ c.loop-made-test.true) in
+      let d = asked_turned c.args.h _ _ _ _ c.args.h.shadows _ _ _ _ _ _ _ _ _ _ _ c.wide-i.ensures c.stretch-s.ensures c.loop-made.invariant.1 u.0 u.1 in
+      (d.some, le_trans d.most u.1, le_trans d.most u.2) in made_some')).1;
+}
 
 -- src/lib.rt:78:9
 pub overflow_add-made : goal.overflow_add-made

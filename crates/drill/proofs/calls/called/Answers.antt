@@ -4,7 +4,7 @@ use Rattle.drill.proofs.calls.called.Goals as goal
 
 pub booted-requires : goal.booted-requires
 booted-requires c =
-    let n : length c.args.pages.now ≡ 16 = search (rules, c.booted-arg-in-1-1, c.booted-arg-1) in record { fact_1 = c.requires.fact_1 c.in-1.is; fact_2 = omega (arith, n); fact_3 = c.requires.fact_2 }
+    let n : length c.args.pages.now ≡ 16 = search rules in record { fact_1 = c.requires.fact_1 c.in-1.is; fact_2 = omega (arith, n); fact_3 = c.requires.fact_2 }
 
 pub returns-in-1 : goal.returns-in-1
 unfolding called_of

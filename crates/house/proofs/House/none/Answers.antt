@@ -1,5 +1,4 @@
 use Rattle.house.specs.House.{fresh_shadows}
-use borrow.Author.Rules.{rules}
 use Rattle.house.proofs.House.none.Goals as goal
 
 pub returns : goal.returns

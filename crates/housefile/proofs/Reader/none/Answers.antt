@@ -1,4 +1,3 @@
-use Rattle.std.proofs.Common.{rules}
 use Rattle.housefile.proofs.Reader.none.Goals as goal
 
 pub returns : goal.returns

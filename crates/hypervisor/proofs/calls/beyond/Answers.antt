@@ -1,4 +1,4 @@
-use Rattle.std.proofs.Common.{◌+◌, ◌*◌, arith, rules, lt-ltb, eq-eqb, ne_eqb}
+use Rattle.std.proofs.Common.{◌+◌, ◌*◌, arith, lt-ltb, eq-eqb, ne_eqb}
 use Rattle.hypervisor.proofs.calls.beyond.Goals as goal
 
 pub returns-then-address-ne0 : goal.returns-then-address-ne0

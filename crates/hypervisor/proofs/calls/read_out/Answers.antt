@@ -1,4 +1,4 @@
-use Rattle.std.proofs.Common.{sym, refl, ◌∙◌, rules}
+use Rattle.std.proofs.Common.{sym, refl, ◌∙◌}
 use Rattle.hypervisor.proofs.Refusals.{output_given, output_done}
 use Rattle.hypervisor.proofs.calls.read_out.Goals as goal
 

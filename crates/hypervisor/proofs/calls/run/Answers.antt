@@ -1,4 +1,4 @@
-use Rattle.std.proofs.Common.{sym, refl, ◌∙◌, rules}
+use Rattle.std.proofs.Common.{sym, refl, ◌∙◌}
 use Rattle.house.specs.Turns.{world, host_steps}
 use Rattle.house.specs.Calls.{run_verdict, run_call}
 use Rattle.house.proofs.Damage.Undamaged.{sound}

@@ -1,4 +1,4 @@
-use Rattle.std.proofs.Common.{sym, ◌∙◌, rules, le-ltb, lt-ltb, eq-eqb, ne_eqb}
+use Rattle.std.proofs.Common.{sym, ◌∙◌, le-ltb, lt-ltb, eq-eqb, ne_eqb}
 use Rattle.house.specs.Boot.{first_of}
 use Rattle.house.specs.Calls.{run_verdict}
 use Rattle.hypervisor.proofs.calls.run_refusal.Goals as goal

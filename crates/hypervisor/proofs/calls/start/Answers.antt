@@ -1,4 +1,4 @@
-use Rattle.std.proofs.Common.{sym, ap, ◌∙◌, arith, rules}
+use Rattle.std.proofs.Common.{sym, ap, ◌∙◌, arith}
 use Rattle.house.specs.Turns.{world}
 use Rattle.house.specs.Calls.{one_verdict, started, start_call}
 use Rattle.house.proofs.Damage.Undamaged.{count_within}

@@ -1,4 +1,4 @@
-use Rattle.std.proofs.Common.{sym, ap, ◌∙◌, rules}
+use Rattle.std.proofs.Common.{sym, ap, ◌∙◌}
 use Rattle.house.specs.Turns.{world}
 use Rattle.house.specs.Calls.{one_verdict, stopped, stop_call}
 use Rattle.house.proofs.Damage.Undamaged.{count_within}

@@ -1,5 +1,4 @@
 use Rattle.house.specs.Turns.{later_of}
-use Rattle.std.proofs.Common.{rules}
 use Rattle.hypervisor.proofs.run.later.Goals as goal
 
 pub returns-then-alone : goal.returns-then-alone

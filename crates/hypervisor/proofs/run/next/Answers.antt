@@ -1,6 +1,5 @@
 use Rattle.house.proofs.Turns.Kept.{following_below, next_done, next_found, next_on}
-use Rattle.house.specs.Turns.{next_from}
-use Rattle.std.proofs.Common.{◌≡◌, ◌-◌, ◌<◌, ◌≤◌, ◌∙◌, zero-le, arith, rules}
+use Rattle.std.proofs.Common.{◌∙◌, zero-le, arith}
 use native.Mathlib.Nat.{sub-zero}
 use Rattle.hypervisor.proofs.run.next.Goals as goal
 

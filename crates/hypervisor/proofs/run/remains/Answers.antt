@@ -1,5 +1,5 @@
 use Rattle.house.specs.Turns.{left_alone}
-use Rattle.std.proofs.Common.{◌-◌, mod-lt, arith, rules, le-ltb, lt-ltb}
+use Rattle.std.proofs.Common.{◌-◌, mod-lt, arith, le-ltb, lt-ltb}
 use Rattle.hypervisor.proofs.run.remains.Goals as goal
 
 pub returns-then-called : goal.returns-then-called

@@ -1,5 +1,4 @@
 use Rattle.house.specs.Turns.{span_of}
-use Rattle.std.proofs.Common.{rules}
 use Rattle.hypervisor.proofs.run.span.Goals as goal
 
 pub returns-then-alone : goal.returns-then-alone

@@ -1,12 +1,10 @@
-use Rattle.std.proofs.Common.{◌≡◌, ℕ, ◌-◌, ◌<◌, ◌≤◌, true, eqb, length, sym, refl, ap, ◌∙◌, subst, zero-le, le_trans, le_antisymm, arith, rules}
+use Rattle.std.proofs.Common.{ℕ, ◌-◌, ◌<◌, eqb, sym, refl, ap, ◌∙◌, subst, zero-le, le_trans, le_antisymm, arith}
 use Rattle.hypervisor.proofs.Turn.{asked_turned, after_turn, asked_sound, Within, lent_for_lem, alone_told, still_alone, current_few, still_some, fits, fits_on, fits_words, starts, ends}
 use Rattle.addresses.specs.Walk.{entries}
 use Rattle.house.proofs.Turns.Stretch.{steps_add}
 use Rattle.house.proofs.Turns.Kept.{sound_steps}
 use Rattle.house.specs.Sound.{Sound}
-use Rattle.house.specs.Turns.{world, next_of, host_steps, house_at}
-use Rattle.tickets.specs.Queues.{queues}
-use Rattle.house.specs.House.{with_queues}
+use Rattle.house.specs.Turns.{world, host_steps}
 use Rattle.hypervisor.proofs.run.steps.Goals as goal
 
 pub next-requires : goal.next-requires
@@ -92,9 +90,14 @@ pub bounds-parts-i-in-loop-made : goal.bounds-parts-i-in-loop-made
 bounds-parts-i-in-loop-made c = (let inside' : c.wide-i.result < 8 = current_few _ _ _ c.wide-i.ensures c.loop-made.invariant.1.here c.loop-made.invariant.1.few in inside')
 
 pub later-t-requires : goal.later-t-requires
-later-t-requires c = let o = c.loop-made.invariant.1 in record { fact_1 = o.few; fact_2 = o.here; fact_3 = o.turns; fact_4 = ((let made_some' : Within (eqb c.next.result c.args.h.current) c.loop-made.left (c.args.k - c.loop-made.made) c.stretch-s.result.made = let u = (let asked_for' : Within (eqb c.next.result c.args.h.current) c.loop-made.left (c.args.k - c.loop-made.made) c.span-n.result = lent_for_lem _ _ _ _ c.span-n.ensures c.loop-made.invariant.1.left (still_some _ _ c.loop-made-test.true) in asked_for') in
-    let d = asked_turned c.args.h _ _ _ _ _ _ _ _ _ _ _ _ _ _ _ _ _ _ c.wide-i.ensures c.stretch-s.ensures c.loop-made.invariant.1 u.some c.loop-made.invariant.4 u.turn in
-    record { some = d.some; turn = λ e. le_trans d.most (u.turn e); most = le_trans d.most u.most } in made_some')).turn }
+later-t-requires c = let o = c.loop-made.invariant.1 in record {
+  fact_1 = o.few;
+  fact_2 = o.here;
+  fact_3 = o.turns;
+  fact_4 = ((let made_some' : Within (eqb c.next.result c.args.h.current) c.loop-made.left (c.args.k - c.loop-made.made) c.stretch-s.result.made = let u = (let asked_for' : Within (eqb c.next.result c.args.h.current) c.loop-made.left (c.args.k - c.loop-made.made) c.span-n.result = lent_for_lem _ _ _ _ c.span-n.ensures c.loop-made.invariant.1.left (still_some _ _ c.loop-made-test.true) in asked_for') in
+      let d = asked_turned c.args.h _ _ _ _ _ _ _ _ _ _ _ _ _ _ _ _ _ _ c.wide-i.ensures c.stretch-s.ensures c.loop-made.invariant.1 u.some c.loop-made.invariant.4 u.turn in
+      record { some = d.some; turn = λ e. le_trans d.most (u.turn e); most = le_trans d.most u.most } in made_some')).turn;
+}
 
 pub overflow_add-made : goal.overflow_add-made
 overflow_add-made c = let d = (let made_some' : Within (eqb c.next.result c.args.h.current) c.loop-made.left (c.args.k - c.loop-made.made) c.stretch-s.result.made = let u = (let asked_for' : Within (eqb c.next.result c.args.h.current) c.loop-made.left (c.args.k - c.loop-made.made) c.span-n.result = lent_for_lem _ _ _ _ c.span-n.ensures c.loop-made.invariant.1.left (still_some _ _ c.loop-made-test.true) in asked_for') in

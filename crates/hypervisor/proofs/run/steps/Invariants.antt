@@ -1,8 +1,4 @@
-use Rattle.std.proofs.Common.{◌≡◌, ℕ, ◌-◌, ◌<◌, ◌≤◌, true, eqb, length, sym, refl, ap, ◌∙◌, subst, zero-le, le_trans, le_antisymm, arith, rules}
-use Rattle.hypervisor.proofs.Turn.{asked_turned, after_turn, asked_sound, Within, lent_for_lem, alone_told, still_alone, current_few, still_some, fits, fits_on, fits_words, starts, ends}
-use Rattle.addresses.specs.Walk.{entries}
-use Rattle.house.proofs.Turns.Stretch.{steps_add}
-use Rattle.house.proofs.Turns.Kept.{sound_steps}
+use Rattle.std.proofs.Common.{◌≡◌, ◌-◌, ◌≤◌, true, length}
 use Rattle.house.specs.Sound.{Sound}
 use Rattle.house.specs.Turns.{world, next_of, host_steps, house_at}
 use Rattle.tickets.specs.Queues.{queues}

@@ -1,5 +1,5 @@
 use Rattle.house.specs.Turns.{turn_of}
-use Rattle.std.proofs.Common.{rules, eq-eqb, ne_eqb}
+use Rattle.std.proofs.Common.{eq-eqb, ne_eqb}
 use Rattle.hypervisor.proofs.run.turn.Goals as goal
 
 pub returns-then-left-made : goal.returns-then-left-made

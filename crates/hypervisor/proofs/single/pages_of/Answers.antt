@@ -1,4 +1,4 @@
-use Rattle.std.proofs.Common.{ℕ, ap, rules}
+use Rattle.std.proofs.Common.{ℕ, ap}
 use Rattle.house.specs.House.{pages_of}
 use Rattle.hypervisor.proofs.single.pages_of.Goals as goal
 

@@ -1,7 +1,6 @@
-use Rattle.hypervisor.proofs.Read.{word_more}
 use Rattle.house.specs.Lists.{list_from}
 use Rattle.addresses.specs.Memory.{host_word}
-use Rattle.std.proofs.Common.{◌≡◌, ℕ, ◌+◌, ◌-◌, ◌/◌, ◌≤◌, ◌++◌, length, drop, refl, ap, ◌∙◌, zero-le, le_antisymm, arith, length-set, rules}
+use Rattle.std.proofs.Common.{◌≡◌, ◌+◌, ◌-◌, ◌≤◌, ◌++◌, length, drop}
 use Rattle.hypervisor.proofs.single.read.Given as goal
 
 abbrev pub invariant-loop-j : goal.invariant-loop-j

@@ -1,4 +1,4 @@
-use Rattle.std.proofs.Common.{arith, rules}
+use Rattle.std.proofs.Common.{arith}
 use Rattle.house.specs.Turns.{world}
 use Rattle.house.proofs.Damage.Undamaged.{count_within, sound_partition}
 use Rattle.house.proofs.Calls.Verdicts.{read_done}

@@ -1,5 +1,5 @@
 use Rattle.house.specs.Calls.{started}
-use Rattle.std.proofs.Common.{rules, eq-eqb, ne_eqb}
+use Rattle.std.proofs.Common.{eq-eqb, ne_eqb}
 use Rattle.hypervisor.proofs.single.start.Goals as goal
 
 pub returns-then-h-eq0 : goal.returns-then-h-eq0

@@ -1,5 +1,5 @@
 use Rattle.house.specs.Calls.{stopped}
-use Rattle.std.proofs.Common.{rules, eq-eqb, ne_eqb}
+use Rattle.std.proofs.Common.{eq-eqb, ne_eqb}
 use Rattle.hypervisor.proofs.single.stop.Goals as goal
 
 pub returns-then-h-eq0 : goal.returns-then-h-eq0
