@@ -1,6 +1,5 @@
 -- Which text an answer gives.
 use mathlib.Core.Path.{◌≡◌, sym}
-use mathlib.Core.List.{List}
 use Prim.Native.Nat.{ℕ}
 use borrow.Author.Tests.{eq-eqb, ne_eqb}
 use Rattle.house.specs.Boot.{verdict}

@@ -1,5 +1,5 @@
 -- Worked examples: each some bytes, and the text that they are. proofs/Checked.antt checks them by a single claim.
-use Rattle.std.specs.Prelude.{true, false, List, [], ◌∷◌, ◌++◌, ℕ, ◌+◌, ◌-◌, ◌^◌, replicate}
+use Rattle.std.specs.Prelude.{true, false, List, [], ◌∷◌, ℕ, ◌+◌, ◌-◌, ◌^◌}
 use Prim.Native.String.{String}
 use Rattle.dlx.specs.Processor.{fresh_of}
 use Rattle.dlx.specs.declared.partition.Partition.{Partition}
@@ -7,9 +7,9 @@ use Rattle.house.specs.Lists.{list_from}
 use Rattle.house.specs.House.{no_house, layout, guests, turn, with_layout, with_turn, with_guests}
 use Rattle.house.specs.declared.House.{House}
 use Rattle.house.specs.Boot.{verdict, booted_house}
-use Rattle.house.specs.Turns.{World, world}
+use Rattle.house.specs.Turns.{world}
 use Rattle.house.specs.Calls.{answered}
-use Rattle.look.specs.Look.{cause_of, fault_of, head_of, interrupt_of, fault_line_of, registers_from, look_of, printed}
+use Rattle.look.specs.Look.{head_of, interrupt_of, fault_line_of, look_of, printed}
 
 -- why a partition was interrupted last, by ECA
 unfoldable pub interrupts : List (List ℕ × String)

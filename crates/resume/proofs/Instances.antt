@@ -9,7 +9,7 @@ use Rattle.house.specs.Boot.{verdict}
 use Rattle.house.specs.Turns.{World, host_steps}
 use Rattle.house.specs.Calls.{answered, run_call}
 use Rattle.demands.specs.Histories.{history}
-use Rattle.demands.proofs.Instances.ClosedCalls.{Fit, run_verdict_lem}
+use Rattle.demands.proofs.Instances.ClosedCalls.{run_verdict_lem}
 use Rattle.demands.proofs.Histories.Grown.{standing}
 use Rattle.staleness.proofs.Promises.{grown_pass}
 use Rattle.engines.proofs.Promises.{steps_alike}

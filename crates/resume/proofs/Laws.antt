@@ -4,18 +4,16 @@ use mathlib.Core.Bool.{true, false}
 use mathlib.Core.List.{List, ◌++◌}
 use Prim.Native.Nat.{ℕ, zero, suc, ◌-◌, ◌*◌, ◌/◌, ◌<◌, ◌≤◌}
 use native.Mathlib.Omega.{arith}
-use borrow.Author.Tests.{eq-eqb, ne_eqb, ltb-true, ltb-false}
+use borrow.Author.Tests.{ne_eqb, ltb-true, ltb-false}
 use lib.Dec.{ltb}
 use lib.ListN.{length, take}
 use lib.Seq.{take_at}
-use Rattle.dlx.specs.Choice.{when◌then◌else◌}
 use Rattle.dlx.proofs.Tests.{by_test}
 use Rattle.house.specs.Boot.{verdict}
 use Rattle.house.specs.Turns.{World, world}
 use Rattle.house.specs.Calls.{Answered, answered, run_call}
 use Rattle.house.specs.declared.House.{House}
-use Rattle.night_run.specs.Ran.{none_ran, after_boot, saved_file, answer_in, handed, Handed}
-use Rattle.night_run.specs.declared.input.Taken.{Taken}
+use Rattle.night_run.specs.Ran.{after_boot, saved_file, answer_in, handed, Handed}
 use Rattle.night_run.specs.declared.Ran.{Ran}
 use Rattle.resume.specs.Resumed.{full_runs, resumed, resumed_file}
 

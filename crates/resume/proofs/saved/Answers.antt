@@ -1,4 +1,3 @@
-use borrow.Author.Rules.{rules}
 use Rattle.resume.proofs.saved.Goals as goal
 
 pub save_left-requires : goal.save_left-requires
