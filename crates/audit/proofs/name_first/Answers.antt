@@ -4,7 +4,6 @@ use Rattle.audit.specs.Printed.{first_line, named}
 use Rattle.report.proofs.Texts.{put_as, put_there}
 use Rattle.night_run.specs.Ran.{either_file, Told}
 use Rattle.audit.proofs.Texts.{named_first}
-use borrow.Author.Rules.{rules}
 use Rattle.audit.proofs.name_first.Goals as goal
 
 pub say_first-requires : goal.say_first-requires

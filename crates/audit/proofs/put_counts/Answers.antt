@@ -1,13 +1,10 @@
-use mathlib.Core.Path.{◌≡◌, refl}
+use mathlib.Core.Path.{refl}
 use mathlib.Core.List.{[], ◌∷◌}
-use Prim.Native.Nat.{ℕ, ◌*◌, ◌-◌, ◌≤◌, zero-le}
+use Prim.Native.Nat.{ℕ, zero-le}
 use native.Mathlib.Omega.{arith}
-use borrow.Author.Rules.{rules}
-use lib.ListN.{length, get_or}
-use Rattle.decimal.specs.Texts.{Puts}
+use lib.ListN.{get_or}
 use Rattle.decimal.proofs.Texts.{roomy, parts_begin, parts_on, parts_end}
 use Rattle.report.specs.Report.{line}
-use Rattle.audit.specs.Printed.{lines_to}
 use Rattle.audit.proofs.put_counts.Goals as goal
 
 pub loop-i-init : goal.loop-i-init

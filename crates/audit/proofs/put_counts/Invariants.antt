@@ -1,12 +1,7 @@
-use mathlib.Core.Path.{◌≡◌, refl}
-use mathlib.Core.List.{[], ◌∷◌}
-use Prim.Native.Nat.{ℕ, ◌*◌, ◌-◌, ◌≤◌, zero-le}
-use native.Mathlib.Omega.{arith}
-use borrow.Author.Rules.{rules}
-use lib.ListN.{length, get_or}
+use mathlib.Core.Path.{◌≡◌}
+use Prim.Native.Nat.{◌*◌, ◌-◌, ◌≤◌}
+use lib.ListN.{length}
 use Rattle.decimal.specs.Texts.{Puts}
-use Rattle.decimal.proofs.Texts.{roomy, parts_begin, parts_on, parts_end}
-use Rattle.report.specs.Report.{line}
 use Rattle.audit.specs.Printed.{lines_to}
 use Rattle.audit.proofs.put_counts.Given as goal
 

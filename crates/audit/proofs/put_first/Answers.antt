@@ -2,7 +2,6 @@ use native.Mathlib.Omega.{arith}
 use Rattle.decimal.specs.Texts.{ascii}
 use Rattle.decimal.proofs.Texts.{puts, ◌then◌}
 use Rattle.audit.specs.Printed.{first_line}
-use borrow.Author.Rules.{rules}
 use Rattle.audit.proofs.put_first.Goals as goal
 
 pub returns : goal.returns

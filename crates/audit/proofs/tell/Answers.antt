@@ -2,7 +2,6 @@ use mathlib.Core.Path.{sym, subst}
 use Rattle.audit.specs.Printed.{printed}
 use Rattle.report.proofs.Texts.{put_there}
 use Rattle.night_run.specs.Ran.{either_file, Told}
-use borrow.Author.Rules.{rules}
 use Rattle.audit.proofs.tell.Goals as goal
 
 pub show-requires : goal.show-requires

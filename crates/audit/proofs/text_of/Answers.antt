@@ -1,6 +1,5 @@
 use Rattle.report.proofs.Texts.{put_as}
 use Rattle.audit.proofs.Texts.{text_refused, text_unaudited, text_audited, few}
-use borrow.Author.Rules.{rules}
 use Rattle.audit.proofs.text_of.Goals as goal
 
 pub returns-then-number-ne0 : goal.returns-then-number-ne0

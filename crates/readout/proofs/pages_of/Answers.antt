@@ -1,7 +1,6 @@
 use mathlib.Core.Path.{ap}
 use Prim.Native.Nat.{ℕ}
 use Rattle.house.specs.House.{pages_of}
-use borrow.Author.Rules.{rules}
 use Rattle.readout.proofs.pages_of.Goals as goal
 
 pub returns : goal.returns

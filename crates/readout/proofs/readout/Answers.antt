@@ -3,7 +3,6 @@ use Rattle.readout.specs.Printed.{printed, refusal_of}
 use lib.Seq.{length-take-le}
 use Rattle.night_run.specs.Ran.{either_file, no_frames}
 use Rattle.night_run.proofs.Files.{told_answer}
-use borrow.Author.Rules.{rules}
 use Rattle.readout.proofs.readout.Goals as goal
 
 pub read_file-x-requires : goal.read_file-x-requires

@@ -1,7 +1,6 @@
 use native.Mathlib.Omega.{arith}
 use Rattle.report.proofs.Texts.{put_there}
 use Rattle.readout.proofs.Texts.{behind_told}
-use borrow.Author.Rules.{rules}
 use Rattle.readout.proofs.show_words.Goals as goal
 
 pub put_words-k-requires : goal.put_words-k-requires

@@ -2,7 +2,6 @@ use mathlib.Core.Path.{sym, subst}
 use Rattle.readout.specs.Printed.{printed, refusal_of}
 use Rattle.night_run.specs.Ran.{either_file, Told}
 use Rattle.readout.proofs.Texts.{text_refused, text_told, text_done, text_read}
-use borrow.Author.Rules.{rules}
 use Rattle.readout.proofs.tell.Goals as goal
 
 pub tell_refusal-requires : goal.tell_refusal-requires

@@ -1,5 +1,4 @@
 use mathlib.Core.Path.{◌≡◌, sym, subst}
-use native.Mathlib.Omega.{arith}
 use lib.ListN.{length}
 use Rattle.readout.specs.Printed.{printed, refusal_of}
 use Rattle.night_run.specs.Ran.{either_file, Told}

@@ -4,7 +4,6 @@ use Rattle.report.specs.Report.{refused_text}
 use Rattle.report.proofs.Texts.{put_as, put_there}
 use Rattle.night_run.specs.Ran.{either_file, Told}
 use Rattle.readout.proofs.Texts.{text_shown}
-use borrow.Author.Rules.{rules}
 use Rattle.readout.proofs.tell_refusal.Goals as goal
 
 pub say-requires : goal.say-requires

@@ -1,5 +1,4 @@
 use mathlib.Core.Path.{ap}
-use Prim.Native.Nat.{◌≤◌, ◌-◌}
 use native.Mathlib.Omega.{arith}
 use Rattle.readout.specs.declared.shown.Shown.{Shown}
 use Rattle.readout.proofs.tell_words.Goals as goal

@@ -1,11 +1,8 @@
-use mathlib.Core.Path.{◌≡◌, refl, sym, ap, ◌∙◌}
-use mathlib.Core.Bool.{true, false, false≢true}
+use mathlib.Core.Path.{◌≡◌, refl}
+use mathlib.Core.Bool.{false≢true}
 use native.Mathlib.Omega.{arith}
 use borrow.Author.Rules.{rules}
-use borrow.Author.Tests.{not-true, not-false}
-use Prim.Native.Nat.{◌-◌, ◌≤◌, zero-le}
-use lib.ListN.{length}
-use Rattle.noon.specs.Noon.{Laid}
+use Prim.Native.Nat.{zero-le}
 use Rattle.noon.proofs.Steps.{laid_on, laid_none}
 use Rattle.noon.proofs.images.lay_all.Goals as goal
 

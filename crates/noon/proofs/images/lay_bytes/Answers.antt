@@ -1,8 +1,7 @@
-use mathlib.Core.Path.{◌≡◌, refl, sym, ap, ◌∙◌}
+use mathlib.Core.Path.{refl}
 use native.Mathlib.Omega.{arith}
-use mathlib.Core.Bool.{true, false, false≢true}
+use mathlib.Core.Bool.{false≢true}
 use Rattle.noon.proofs.Steps.{next_laid}
-use borrow.Author.Rules.{rules}
 use Rattle.noon.proofs.images.lay_bytes.Goals as goal
 
 -- src/images.rt:49:9

@@ -1,6 +1,5 @@
-use mathlib.Core.Bool.{true, false, false≢true}
+use mathlib.Core.Bool.{false≢true}
 use Rattle.noon.proofs.Steps.{counts_front}
-use borrow.Author.Rules.{rules}
 use Rattle.noon.proofs.images.lay_next.Goals as goal
 
 -- src/images.rt:109:19
@@ -18,4 +17,3 @@ returns-in-Err c = λ e. absurd (false≢true e)
 -- src/images.rt:114:32
 pub slice_bounds-lay_open-end : goal.slice_bounds-lay_open-end
 slice_bounds-lay_open-end c = counts_front c.name_length-n.result c.word-length.result _ c.name_length-n.ensures.upper_bound
-

@@ -1,7 +1,5 @@
-use mathlib.Core.Path.{◌≡◌, refl, sym, ap, ◌∙◌}
 use native.Mathlib.Omega.{arith}
-use mathlib.Core.Bool.{true, false, false≢true}
-use borrow.Author.Rules.{rules}
+use mathlib.Core.Bool.{false≢true}
 use Rattle.noon.proofs.images.lay_open.Goals as goal
 
 -- src/images.rt:87:13

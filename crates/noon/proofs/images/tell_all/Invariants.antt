@@ -1,6 +1,4 @@
-use borrow.Author.Rules.{rules}
-use native.Mathlib.Omega.{arith}
-use Prim.Native.Nat.{◌-◌, ◌≤◌, zero-le}
+use Prim.Native.Nat.{◌-◌, ◌≤◌}
 use Rattle.noon.proofs.images.tell_all.Given as goal
 
 abbrev pub invariant-loop-k : goal.invariant-loop-k

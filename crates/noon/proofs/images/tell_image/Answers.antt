@@ -1,8 +1,7 @@
-use mathlib.Core.Path.{◌≡◌, refl, sym, ap, ◌∙◌}
+use mathlib.Core.Path.{◌∙◌}
 use Prim.Native.Nat.{ℕ}
-use lib.ListN.{length, length-replicate}
+use lib.ListN.{length-replicate}
 use Rattle.noon.proofs.Steps.{counts, counts_front, slip_there}
-use borrow.Author.Rules.{rules}
 use Rattle.noon.proofs.images.tell_image.Goals as goal
 
 -- src/images.rt:167:34

@@ -1,7 +1,5 @@
 use mathlib.Core.Path.{◌≡◌, refl}
 use Prim.Native.Nat.{ℕ}
-use native.Mathlib.Omega.{arith}
-use borrow.Author.Tests.{not-false}
 use lib.ListN.{length, length-replicate}
 use Rattle.noon.proofs.Refused.{none_refused}
 use borrow.Author.Rules.{rules}

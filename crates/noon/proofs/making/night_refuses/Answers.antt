@@ -1,8 +1,6 @@
-use mathlib.Core.Path.{◌≡◌, refl, sym, ap, ◌∙◌}
-use lib.ListN.{length, length-replicate}
+use lib.ListN.{length-replicate}
 use Prim.Native.Nat.{ℕ}
 use Rattle.noon.proofs.Refused.{boot_refuses, run_refuses, boot_lists}
-use borrow.Author.Rules.{rules}
 use Rattle.noon.proofs.making.night_refuses.Goals as goal
 
 -- src/making.rt:43:9

@@ -1,9 +1,7 @@
-use mathlib.Core.Path.{◌≡◌, refl, sym, ap, ◌∙◌}
+use mathlib.Core.Path.{sym, ap, ◌∙◌}
 use lib.Seq.{take_at}
-use lib.ListN.{take, drop, length}
+use lib.ListN.{take}
 use Rattle.report.specs.Report.{refusal, refused_text}
-use Rattle.house.specs.Boot.{Verdict}
-use borrow.Author.Rules.{rules}
 use Rattle.noon.proofs.making.tell_refusal.Goals as goal
 
 -- src/making.rt:66:5

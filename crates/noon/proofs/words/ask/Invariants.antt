@@ -1,13 +1,7 @@
-use borrow.Author.Rules.{rules}
-use mathlib.Core.Path.{◌≡◌, refl, sym, ap, ◌∙◌}
-use mathlib.Core.Bool.{true, false, false≢true}
-use native.Mathlib.Omega.{arith}
-use borrow.Author.Tests.{not-true, not-false}
-use mathlib.Core.List.{[]}
+use mathlib.Core.Path.{◌≡◌}
 use Prim.Native.Nat.{◌-◌, ◌≤◌}
-use lib.ListN.{length, length-replicate}
+use lib.ListN.{length}
 use Rattle.noon.specs.Noon.{Asks}
-use Rattle.noon.proofs.Steps.{asks_on, asks_none}
 use Rattle.noon.proofs.words.ask.Given as goal
 
 abbrev pub invariant-loop-i : goal.invariant-loop-i

@@ -1,9 +1,7 @@
-use mathlib.Core.Path.{◌≡◌, refl}
-use Prim.Native.Nat.{ℕ, ◌≤◌, ◌-◌, ◌*◌, ◌+◌}
-use lib.ListN.{length, get_or}
+use mathlib.Core.Path.{refl}
+use Prim.Native.Nat.{ℕ, ◌+◌}
+use lib.ListN.{get_or}
 use native.Mathlib.Omega.{arith}
-use borrow.Author.Rules.{rules}
-use Rattle.decimal.specs.Texts.{Puts, joined}
 use Rattle.decimal.proofs.Texts.{parts_begin, parts_on, parts_end}
 use Rattle.readout.specs.Printed.{word_text, words_from}
 use Rattle.readout.proofs.words.put_each.Goals as goal

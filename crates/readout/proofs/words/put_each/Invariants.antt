@@ -1,11 +1,8 @@
-use mathlib.Core.Path.{◌≡◌, refl}
-use Prim.Native.Nat.{ℕ, ◌≤◌, ◌-◌, ◌*◌, ◌+◌}
+use mathlib.Core.Path.{◌≡◌}
+use Prim.Native.Nat.{◌≤◌, ◌-◌, ◌*◌, ◌+◌}
 use lib.ListN.{length, get_or}
-use native.Mathlib.Omega.{arith}
-use borrow.Author.Rules.{rules}
 use Rattle.decimal.specs.Texts.{Puts, joined}
-use Rattle.decimal.proofs.Texts.{parts_begin, parts_on, parts_end}
-use Rattle.readout.specs.Printed.{word_text, words_from}
+use Rattle.readout.specs.Printed.{word_text}
 use Rattle.readout.proofs.words.put_each.Given as goal
 
 abbrev pub invariant-loop-i : goal.invariant-loop-i

@@ -1,7 +1,6 @@
 use native.Mathlib.Omega.{arith}
 use Rattle.decimal.proofs.Texts.{roomy}
 use Rattle.readout.specs.Printed.{word_text}
-use borrow.Author.Rules.{rules}
 use Rattle.readout.proofs.words.put_one.Goals as goal
 
 pub returns-then-want : goal.returns-then-want

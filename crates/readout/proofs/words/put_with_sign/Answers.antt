@@ -1,6 +1,5 @@
 use native.Mathlib.Omega.{arith}
 use Rattle.decimal.proofs.Texts.{exactly, signed_puts, ◌then◌}
-use borrow.Author.Rules.{rules}
 use Rattle.readout.proofs.words.put_with_sign.Goals as goal
 
 pub returns : goal.returns
