@@ -1,16 +1,15 @@
 -- What the night refuses of a file that says this.
-use mathlib.Core.Path.{◌≡◌, refl, sym, ap, subst, ◌∙◌}
-use mathlib.Core.Bool.{Bool, true, false}
+use mathlib.Core.Path.{◌≡◌, sym, ap, ◌∙◌}
+use mathlib.Core.Bool.{true, false}
 use mathlib.Core.List.{List}
-use Prim.Native.Nat.{ℕ, ◌<◌, ◌≤◌}
+use Prim.Native.Nat.{ℕ, ◌≤◌}
 use native.Mathlib.Omega.{arith}
 use borrow.Author.Tests.{eq-eqb, ne_eqb, eqb-true, eqb-false}
 use lib.Dec.{eqb}
 use lib.ListN.{length}
-use Rattle.dlx.specs.Choice.{when◌then◌else◌}
 use Rattle.dlx.proofs.Tests.{by_test}
 use Rattle.house.specs.Boot.{Verdict, verdict, boot_verdict, booted_house}
-use Rattle.house.specs.Turns.{World, world}
+use Rattle.house.specs.Turns.{world}
 use Rattle.house.specs.Calls.{Answered, answered, boot_call, run_verdict, run_call}
 use Rattle.house.specs.declared.House.{House}
 use Rattle.housefile.specs.Records.{File, file, Reading, right}

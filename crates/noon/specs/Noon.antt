@@ -1,11 +1,11 @@
 -- What noon refuses, and what it may write and tell: from its words and from what it read of the images.
-use Rattle.std.specs.Prelude.{◌≡◌, Bool, true, List, ℕ, ◌+◌, ◌<◌, min, eqb, length, get_or, take, set}
+use Rattle.std.specs.Prelude.{◌≡◌, true, List, ℕ, ◌+◌, ◌<◌, min, eqb, length, get_or, take, set}
 use Rattle.dlx.specs.Choice.{when◌then◌else◌}
 use Rattle.house.specs.Boot.{Verdict, verdict}
 use Rattle.house.specs.Calls.{Answered}
-use Rattle.housefile.specs.Records.{File, file, right, reading_of}
+use Rattle.housefile.specs.Records.{File, file, reading_of}
 use Rattle.night_run.specs.Ran.{ran_of}
-use Rattle.contents.specs.Contents.{contents_file, Listed}
+use Rattle.contents.specs.Contents.{contents_file}
 use Rattle.asked.specs.Asked.{Going, going, took_word, took_words, at_first}
 use Rattle.asked.specs.declared.asked.Asked.{Asked}
 use Rattle.laying.specs.Laid.{count_of, sum_words, laid_image, memory_of}

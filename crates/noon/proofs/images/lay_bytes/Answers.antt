@@ -1,0 +1,17 @@
+use mathlib.Core.Path.{refl}
+use native.Mathlib.Omega.{arith}
+use mathlib.Core.Bool.{false≢true}
+use Rattle.noon.proofs.Steps.{next_laid}
+use Rattle.noon.proofs.images.lay_bytes.Goals as goal
+
+-- src/images.rt:49:9
+pub fault_of-fault-requires : goal.fault_of-fault-requires
+fault_of-fault-requires c = let p = c.requires in record { fact_1 = p.fact_2; fact_2 = omega (arith, p.fact_3); fact_3 = p.fact_4; fact_4 = p.fact_5 }
+
+-- src/images.rt:52:9
+pub returns-then-fault-ne0 : goal.returns-then-fault-ne0
+returns-then-fault-ne0 c = λ e. absurd (false≢true e)
+
+-- src/images.rt:35:1
+pub returns : goal.returns
+returns c = λ e. let a = c.args in next_laid a.pages.now a.frames.now a.table.now a.counts.now a.sums.now a.memory.now _ _ _ a.bytes.now a.k c.wide-at.result _ _ c.wide-at.ensures refl c.lay_image-sum.ensures.memory_after c.lay_image-sum.ensures.value c.put_at.ensures c.put_at-2.ensures

@@ -1,0 +1,14 @@
+use native.Mathlib.Omega.{arith}
+use Rattle.housefile.specs.Records.{file}
+use Rattle.noon.proofs.Refused.{night_runs}
+use Rattle.noon.proofs.Steps.{counts}
+use borrow.Author.Rules.{rules}
+use Rattle.noon.proofs.making.write_file.Goals as goal
+
+-- src/making.rt:104:66
+pub slice_bounds-put_file-end : goal.slice_bounds-put_file-end
+slice_bounds-put_file-end c = counts c.put_contents-n.result _ c.put_contents-n.ensures.upper_bound
+
+-- src/making.rt:104:5
+pub put_file-requires : goal.put_file-requires
+put_file-requires c = let a = c.args in let p = c.requires in (record { given = p.fact_3; laid = p.fact_4; runs = night_runs (file a.q a.run a.pages.now a.frames.now a.memory.now) (record { q = search rules; run = search rules; listed = p.fact_1; frames = λ i. omega (arith, c.shared_slice_known-2-1.given i); size = p.fact_2; memory = λ i. omega (arith, c.shared_slice_known-4-1.given i) }) p.fact_5 }, c.put_contents-n.ensures.out_after)
