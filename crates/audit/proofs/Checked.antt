@@ -1,7 +1,6 @@
 -- The examples hold: the single claim about the rules.
 use mathlib.Core.Path.{◌≡◌, refl}
 use mathlib.Core.Bool.{true}
-use Prim.Native.Nat.{ℕ}
 use Rattle.decimal.specs.Decimals.{decimal_in, decimal}
 use Rattle.decimal.specs.Texts.{ascii, same, joined}
 use Rattle.decimal.specs.Examples.{all}
