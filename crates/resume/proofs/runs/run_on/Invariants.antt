@@ -1,0 +1,13 @@
+use mathlib.Core.Path.{◌≡◌, refl, sym, ◌∙◌}
+use lib.ListN.{length}
+use Rattle.house.specs.Turns.{world}
+use native.Mathlib.Omega.{arith}
+use borrow.Author.Rules.{rules}
+use Rattle.resume.proofs.Laws.{on, on_more, on_refused, on_last}
+use Rattle.resume.proofs.runs.run_on.Given as goal
+
+abbrev pub invariant-loop-left : goal.invariant-loop-left
+invariant-loop-left l = (on (world l.h l.memory) l.left ≡ on (world l.initial.h l.initial.memory) l.initial.left) × (length l.memory ≡ length l.initial.memory)
+
+abbrev pub decreases-loop-left : goal.decreases-loop-left
+decreases-loop-left l = l.left
