@@ -1,5 +1,5 @@
 -- Saving and reading back: what is kept, and what is told.
-use Rattle.std.proofs.Common.{◌≡◌, ℕ, List, [], ◌++◌, take, drop, sym, refl, ap, ◌∙◌, subst, eq-eqb, ne_eqb}
+use Rattle.std.proofs.Common.{◌≡◌, ℕ, List, [], ◌++◌, take, drop, sym, ap, ◌∙◌, subst, eq-eqb, ne_eqb}
 use Rattle.house.specs.declared.House.{House}
 use Rattle.house.specs.Boot.{verdict}
 use Rattle.house.specs.Turns.{world}
@@ -10,7 +10,7 @@ use Rattle.save.specs.Calls.{read_piece, finished}
 use Rattle.restore.specs.declared.Reader.{Reader}
 use Rattle.restore.specs.Standing.{progress_at, reading_at}
 use Rattle.drill_script.specs.declared.commands.Command.{Command}
-use Rattle.drill.specs.Told.{most_told, most_read, told_of}
+use Rattle.drill.specs.Told.{most_told, told_of}
 use Rattle.drill.specs.Saving.{save_text_of, begun_by, piece_of, detail_of, piece_text_of, finish_text_of, apart, Keeps, keeps, kept_of, saving_text_of}
 
 -- a piece: the memory of the reading before it does not matter

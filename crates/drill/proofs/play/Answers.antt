@@ -1,4 +1,4 @@
-use Rattle.std.proofs.Common.{◌≡◌, ℕ, length, sym, refl, subst, arith, rules}
+use Rattle.std.proofs.Common.{ℕ, length, sym, refl, subst, arith}
 use Rattle.drill.specs.Fit.{Stands}
 use Rattle.drill.specs.Goes.{Goes}
 use Rattle.drill.proofs.play.Goals as goal

@@ -1,5 +1,4 @@
-use Rattle.std.proofs.Common.{◌≡◌, ℕ, length, sym, refl, subst, arith, rules}
-use Rattle.drill.specs.Fit.{Stands}
+use Rattle.std.proofs.Common.{◌≡◌, length}
 use Rattle.drill.specs.Goes.{Goes}
 use Rattle.drill.proofs.play.Given as goal
 

@@ -2,6 +2,7 @@ use mathlib.Core.Path.{refl, sym, ap, ◌∙◌}
 use native.Mathlib.Omega.{arith}
 use lib.ListN.{length}
 use Rattle.list.proofs.Pieces.{lines_in, told}
+use borrow.Author.Rules.{rules}
 use Rattle.list.proofs.list_piece.Goals as goal
 
 pub slice_bounds-out-end : goal.slice_bounds-out-end

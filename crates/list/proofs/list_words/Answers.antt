@@ -1,4 +1,6 @@
 use native.Mathlib.Omega.{arith}
+use borrow.Author.Rules.{rules}
+use Rattle.list.specs.Words.{Behind}
 use Rattle.list.proofs.Pieces.{behind_none, behind_more}
 use Rattle.list.proofs.list_words.Goals as goal
 

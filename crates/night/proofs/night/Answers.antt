@@ -4,6 +4,7 @@ use lib.Seq.{length-take-le}
 use Rattle.night_run.specs.Ran.{house_file_by, no_frames}
 use Rattle.night_run.proofs.Files.{told_by_lem, told_answer, left_world}
 use Rattle.night.proofs.Texts.{printed_by}
+use borrow.Author.Rules.{rules}
 use Rattle.night.proofs.night.Goals as goal
 
 pub run_file-x-requires : goal.run_file-x-requires

@@ -2,6 +2,7 @@ use mathlib.Core.Path.{sym, subst}
 use Rattle.report.specs.Printed.{printed}
 use Rattle.report.proofs.Texts.{put_there}
 use Rattle.night_run.specs.Ran.{house_file, Told}
+use borrow.Author.Rules.{rules}
 use Rattle.night.proofs.tell.Goals as goal
 
 pub show-requires : goal.show-requires

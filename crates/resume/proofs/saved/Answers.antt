@@ -1,3 +1,4 @@
+use borrow.Author.Rules.{rules}
 use Rattle.resume.proofs.saved.Goals as goal
 
 pub save_left-requires : goal.save_left-requires

@@ -1,4 +1,4 @@
-use Rattle.std.proofs.Common.{refl, rules}
+use Rattle.std.proofs.Common.{refl}
 use Rattle.drill.proofs.Shown.{audit_refused, audit_told}
 use Rattle.drill.proofs.calls.audit.Goals as goal
 

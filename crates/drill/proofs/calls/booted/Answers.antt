@@ -1,5 +1,5 @@
 use Rattle.drill.proofs.Taken.{front_count}
-use Rattle.std.proofs.Common.{◌*◌, drop, sym, refl, ap, ◌∙◌, arith, rules}
+use Rattle.std.proofs.Common.{◌*◌, drop, sym, refl, ap, ◌∙◌, arith}
 use Rattle.drill.specs.Player.{boot_of}
 use Rattle.drill.proofs.Taken.{front_length, front_taken, from_front}
 use Rattle.drill.proofs.calls.booted.Goals as goal

@@ -1,4 +1,4 @@
-use Rattle.std.proofs.Common.{ap, rules}
+use Rattle.std.proofs.Common.{ap}
 use Rattle.house.specs.Calls.{Answered}
 use Rattle.drill.specs.Player.{call_text_of}
 use Rattle.drill.proofs.calls.call.Goals as goal

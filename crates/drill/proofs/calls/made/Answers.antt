@@ -1,4 +1,4 @@
-use Rattle.std.proofs.Common.{◌≡◌, length, take, sym, ◌∙◌, arith, length-take-le, rules, eq-eqb, ne_eqb}
+use Rattle.std.proofs.Common.{◌≡◌, length, take, sym, ◌∙◌, arith, length-take-le, eq-eqb, ne_eqb}
 use Rattle.decimal.proofs.Texts.{roomy}
 use Rattle.drill.specs.Told.{most_read}
 use Rattle.drill.specs.Player.{made_of, made_text_of}

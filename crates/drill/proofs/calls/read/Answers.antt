@@ -1,4 +1,4 @@
-use Rattle.std.proofs.Common.{arith, rules}
+use Rattle.std.proofs.Common.{arith}
 use Rattle.decimal.proofs.Texts.{◌then◌, roomy}
 use Rattle.drill.specs.Told.{most_read}
 use Rattle.drill.specs.Player.{read_text_of}

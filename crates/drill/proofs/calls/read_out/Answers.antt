@@ -1,5 +1,4 @@
 use Rattle.drill.specs.Player.{read_out_of}
-use Rattle.std.proofs.Common.{rules}
 use Rattle.drill.proofs.calls.read_out.Goals as goal
 
 pub returns : goal.returns

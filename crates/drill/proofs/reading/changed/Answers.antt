@@ -1,4 +1,4 @@
-use Rattle.std.proofs.Common.{ℕ, List, ◌++◌, drop, sym, ap, length-take-le, rules, eq-eqb, ne_eqb}
+use Rattle.std.proofs.Common.{ℕ, List, ◌++◌, drop, sym, ap, length-take-le, eq-eqb, ne_eqb}
 use Rattle.drill.specs.Player.{lent_of, changed_of}
 use Rattle.drill.proofs.reading.changed.Goals as goal
 

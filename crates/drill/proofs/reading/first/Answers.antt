@@ -1,4 +1,4 @@
-use Rattle.std.proofs.Common.{refl, arith, rules}
+use Rattle.std.proofs.Common.{refl, arith}
 use Rattle.drill_script.specs.Commands.{size_of}
 use Rattle.drill.proofs.reading.first.Goals as goal
 

@@ -1,4 +1,4 @@
-use Rattle.std.proofs.Common.{◌-◌, ◌≤◌, length, take, drop, refl, arith, length-drop, length-take, rules}
+use Rattle.std.proofs.Common.{◌-◌, ◌≤◌, length, take, drop, refl, arith, length-drop, length-take}
 use Rattle.drill.proofs.Commands.{command_sized, command_inside}
 use Rattle.drill.proofs.reading.found.Goals as goal
 

@@ -1,4 +1,4 @@
-use Rattle.std.proofs.Common.{◌≡◌, ℕ, ◌≤◌, length, sym, refl, subst, arith, rules}
+use Rattle.std.proofs.Common.{ℕ, length, sym, refl, subst, arith}
 use Rattle.drill.specs.Fit.{Stands}
 use Rattle.drill.proofs.Commands.{stands_still, lent_within}
 use Rattle.drill.proofs.reading.settle.Goals as goal

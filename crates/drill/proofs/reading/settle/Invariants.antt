@@ -1,6 +1,5 @@
-use Rattle.std.proofs.Common.{◌≡◌, ℕ, ◌≤◌, length, sym, refl, subst, arith, rules}
+use Rattle.std.proofs.Common.{◌≡◌, ◌≤◌, length}
 use Rattle.drill.specs.Fit.{Stands}
-use Rattle.drill.proofs.Commands.{stands_still, lent_within}
 use Rattle.drill.proofs.reading.settle.Given as goal
 
 abbrev pub invariant-loop-turns : goal.invariant-loop-turns

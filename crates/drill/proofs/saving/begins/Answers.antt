@@ -1,6 +1,5 @@
-use Rattle.std.proofs.Common.{[], rules, eq-eqb, ne_eqb}
+use Rattle.std.proofs.Common.{[], eq-eqb, ne_eqb}
 use Rattle.drill.specs.Saving.{begun_by}
-use Rattle.restore.proofs.reading.begin.Reads as begin-reads
 use Rattle.drill.proofs.saving.begins.Goals as goal
 
 -- src/saving.rt:94:9

@@ -1,6 +1,5 @@
-use Rattle.std.proofs.Common.{[], rules, eq-eqb, ne_eqb}
+use Rattle.std.proofs.Common.{[], eq-eqb, ne_eqb}
 use Rattle.drill.specs.Saving.{cleared_by}
-use Rattle.restore.proofs.reading.begin.Reads as begin-reads
 use Rattle.drill.proofs.saving.cleared.Goals as goal
 
 -- src/saving.rt:158:9

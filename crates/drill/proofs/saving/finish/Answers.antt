@@ -1,4 +1,4 @@
-use Rattle.std.proofs.Common.{[], rules}
+use Rattle.std.proofs.Common.{[]}
 use Rattle.restore.specs.Standing.{reading_at}
 use Rattle.drill.proofs.Keeps.{finish_told}
 use Rattle.drill.proofs.saving.finish.Goals as goal

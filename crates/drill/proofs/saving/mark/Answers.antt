@@ -1,5 +1,5 @@
-use Rattle.std.proofs.Common.{◌≡◌, ◌-◌, ◌%◌, ◌≤◌, length, set, refl, ap, ◌∙◌, arith, length-set, rules}
-use Rattle.drill_script.proofs.Filling.{set_to, set_none, set_on, set_end, set_all}
+use Rattle.std.proofs.Common.{◌%◌, length, set, refl, ap, ◌∙◌, arith, length-set}
+use Rattle.drill_script.proofs.Filling.{set_none, set_on, set_end, set_all}
 use Rattle.drill.specs.Saving.{marked_bytes}
 use Rattle.drill.proofs.saving.mark.Goals as goal
 

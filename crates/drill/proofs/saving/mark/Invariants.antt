@@ -1,6 +1,5 @@
-use Rattle.std.proofs.Common.{◌≡◌, ◌-◌, ◌%◌, ◌≤◌, length, set, refl, ap, ◌∙◌, arith, length-set, rules}
-use Rattle.drill_script.proofs.Filling.{set_to, set_none, set_on, set_end, set_all}
-use Rattle.drill.specs.Saving.{marked_bytes}
+use Rattle.std.proofs.Common.{◌≡◌, ◌-◌, ◌%◌, ◌≤◌, length}
+use Rattle.drill_script.proofs.Filling.{set_to}
 use Rattle.drill.proofs.saving.mark.Given as goal
 
 abbrev pub invariant-loop-i : goal.invariant-loop-i

@@ -1,4 +1,4 @@
-use Rattle.std.proofs.Common.{◌≡◌, ℕ, [], length, take, sym, refl, ap, ◌∙◌, arith, length-take-le, rules}
+use Rattle.std.proofs.Common.{◌≡◌, [], length, take, sym, refl, ap, ◌∙◌, arith, length-take-le}
 use Rattle.decimal.proofs.Texts.{roomy}
 use Rattle.restore.specs.Standing.{reading_at}
 use Rattle.drill.specs.Told.{most_read}

@@ -1,4 +1,4 @@
-use Rattle.std.proofs.Common.{◌≡◌, ◌+◌, ◌*◌, ap, ◌∙◌, rules}
+use Rattle.std.proofs.Common.{◌+◌, ◌*◌, ap, ◌∙◌}
 use Rattle.house.specs.Turns.{world}
 use Rattle.save.specs.Calls.{save_call}
 use Rattle.drill.specs.Saving.{saved_of}

@@ -1,4 +1,4 @@
-use Rattle.std.proofs.Common.{◌≡◌, [], sym, arith, length-take-le, rules}
+use Rattle.std.proofs.Common.{[], sym, arith, length-take-le}
 use Rattle.restore.specs.Standing.{reading_at}
 use Rattle.drill.proofs.Keeps.{taken_is}
 use Rattle.drill.proofs.saving.taken.Goals as goal

@@ -1,4 +1,3 @@
-use Rattle.std.proofs.Common.{rules}
 use Rattle.drill.proofs.told.flushed.Goals as goal
 
 pub written-requires : goal.written-requires

@@ -1,4 +1,4 @@
-use Rattle.std.proofs.Common.{arith, rules}
+use Rattle.std.proofs.Common.{arith}
 use Rattle.decimal.specs.Texts.{ascii}
 use Rattle.decimal.proofs.Texts.{exactly, decimal_puts, ◌then◌}
 use Rattle.drill.proofs.told.wrong.Goals as goal

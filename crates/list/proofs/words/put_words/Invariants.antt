@@ -1,9 +1,12 @@
-use mathlib.Core.Path.{◌≡◌}
+use mathlib.Core.Path.{◌≡◌, refl}
 use Prim.Native.Nat.{◌-◌, ◌≤◌}
+use native.Mathlib.Omega.{arith}
+use borrow.Author.Rules.{rules}
 use lib.ListN.{length, drop}
 use Rattle.decimal.specs.Texts.{text, put}
 use Rattle.lines.specs.Listings.{listing}
 use Rattle.list.specs.Words.{rest_behind, words_behind}
+use Rattle.list.proofs.Pieces.{rest_on, rest_done, lines_on, lines_done}
 use Rattle.list.proofs.words.put_words.Given as goal
 
 abbrev pub invariant-loop-i : goal.invariant-loop-i

@@ -1,9 +1,12 @@
 use mathlib.Core.Bool.{false}
-use Prim.Native.Nat.{◌*◌, ◌-◌, ◌≤◌}
+use Prim.Native.Nat.{ℕ, ◌*◌, ◌-◌, ◌≤◌}
+use native.Mathlib.Omega.{arith}
 use lib.ListN.{get_or}
 use Rattle.decimal.specs.Texts.{Puts, joined}
+use Rattle.decimal.proofs.Texts.{parts_begin, parts_on, parts_end}
 use Rattle.house.specs.House.{no_partition}
 use Rattle.look.specs.Look.{block_of}
+use borrow.Author.Rules.{rules}
 use Rattle.look.proofs.lines.put_partitions.Given as goal
 
 abbrev pub invariant-loop-i : goal.invariant-loop-i

@@ -1,8 +1,10 @@
-use Prim.Native.Nat.{ℕ, ◌+◌, ◌*◌}
+use Prim.Native.Nat.{ℕ, ◌+◌, ◌*◌, ◌-◌, ◌≤◌}
 use native.Mathlib.Omega.{arith}
 use lib.ListN.{get_or}
+use Rattle.decimal.specs.Texts.{Puts, joined}
 use Rattle.decimal.proofs.Texts.{parts_begin, parts_on, parts_end}
 use Rattle.look.specs.Look.{register_of, registers_from}
+use borrow.Author.Rules.{rules}
 use Rattle.look.proofs.lines.put_registers.Goals as goal
 
 pub loop-j-init : goal.loop-j-init

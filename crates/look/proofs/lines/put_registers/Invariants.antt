@@ -1,7 +1,10 @@
-use Prim.Native.Nat.{◌+◌, ◌*◌, ◌-◌, ◌≤◌}
+use Prim.Native.Nat.{ℕ, ◌+◌, ◌*◌, ◌-◌, ◌≤◌}
+use native.Mathlib.Omega.{arith}
 use lib.ListN.{get_or}
 use Rattle.decimal.specs.Texts.{Puts, joined}
-use Rattle.look.specs.Look.{register_of}
+use Rattle.decimal.proofs.Texts.{parts_begin, parts_on, parts_end}
+use Rattle.look.specs.Look.{register_of, registers_from}
+use borrow.Author.Rules.{rules}
 use Rattle.look.proofs.lines.put_registers.Given as goal
 
 abbrev pub invariant-loop-j : goal.invariant-loop-j

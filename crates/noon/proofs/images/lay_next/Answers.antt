@@ -1,4 +1,3 @@
-use mathlib.Core.Bool.{false≢true}
 use Rattle.noon.proofs.Steps.{counts_front}
 use Rattle.noon.proofs.images.lay_next.Goals as goal
 
@@ -11,8 +10,8 @@ pub slice_bounds-fail-end : goal.slice_bounds-fail-end
 slice_bounds-fail-end c = counts_front c.name_length-n.result c.word-length.result _ c.name_length-n.ensures.upper_bound
 
 -- src/images.rt:112:9
-pub returns-in-Err : goal.returns-in-Err
-returns-in-Err c = λ e. absurd (false≢true e)
+pub returns-in-Ok : goal.returns-in-Ok
+returns-in-Ok c = c.lay_open.ensures
 
 -- src/images.rt:114:32
 pub slice_bounds-lay_open-end : goal.slice_bounds-lay_open-end

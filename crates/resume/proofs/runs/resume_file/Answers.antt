@@ -1,4 +1,5 @@
 use mathlib.Core.Path.{sym, ◌∙◌}
+use borrow.Author.Rules.{rules}
 use Rattle.resume.proofs.Laws.{resume_failed, resume_refused}
 use Rattle.resume.proofs.runs.resume_file.Goals as goal
 
