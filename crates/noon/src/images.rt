@@ -6,9 +6,11 @@ ghost use Rattle.noon.specs.Noon.{Laid, LaidNext};
 
 use asked::words::{name_length, put_at};
 use command::{fail, open, put_out, wrong};
+use decimal::is;
 use dlx::words::wide;
 use files::{Source, print};
 use laying::{fault_of, lay_image, put_slip};
+use std::io;
 
 // ---- one image
 
@@ -103,6 +105,46 @@ fn lay_open(
     )
 }
 
+// The system's number of an error: the input is closed.
+const CLOSED: i32 = 9;
+
+// Image k is read from standard input.
+fn is_input(rt: &HostRuntime, k: u32, table: &[u32]) -> bool
+    requires at_most_64 { k < 64 }
+    requires rows { length table.now ≡ 192 }
+{
+    let mut word = files::buffer();
+    let length = files::word(rt, wide(table[3 * wide(k) + 2]), &mut word);
+    let n = name_length(&word[..length]);
+    is(&word[..n], b"-")
+}
+
+// One of the images before image k was.
+fn was_read(rt: &HostRuntime, k: u32, table: &[u32]) -> bool
+    requires at_most_64 { k < 64 }
+    requires rows { length table.now ≡ 192 }
+{
+    for j in 0..k {
+        if is_input(rt, j, table) {
+            return true;
+        }
+    }
+    false
+}
+
+// Opens what image k is read from. Standard input is read once, and closed then.
+fn open_image(rt: &HostRuntime, k: u32, table: &[u32], name: &[u8]) -> io::Result<Source>
+    requires at_most_64 { k < 64 }
+    requires rows { length table.now ≡ 192 }
+{
+    if is(name, b"-") {
+        if was_read(rt, k, table) {
+            return Err(io::Error::from_raw_os_error(CLOSED));
+        }
+    }
+    open(rt, name)
+}
+
 // Image k, by its name.
 fn lay_next(
     rt: &HostRuntime,
@@ -123,7 +165,7 @@ fn lay_next(
     let mut word = files::buffer();
     let length = files::word(rt, wide(table[3 * wide(k) + 2]), &mut word);
     let n = name_length(&word[..length]);
-    match open(rt, &word[..n]) {
+    match open_image(rt, k, table, &word[..n]) {
         Ok(mut source) => lay_open(
             rt,
             k,

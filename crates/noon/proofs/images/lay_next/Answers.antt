@@ -2,8 +2,8 @@ use Rattle.noon.proofs.Steps.{counts_front}
 use Rattle.noon.proofs.images.lay_next.Goals as goal
 
 -- src/images.rt:109:19
-pub slice_bounds-open-end : goal.slice_bounds-open-end
-slice_bounds-open-end c = counts_front c.name_length-n.result c.word-length.result _ c.name_length-n.ensures.upper_bound
+pub slice_bounds-open_image-end : goal.slice_bounds-open_image-end
+slice_bounds-open_image-end c = counts_front c.name_length-n.result c.word-length.result _ c.name_length-n.ensures.upper_bound
 
 -- src/images.rt:111:14
 pub slice_bounds-fail-end : goal.slice_bounds-fail-end
