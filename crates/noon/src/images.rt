@@ -64,7 +64,7 @@ fn at_end(source: &mut Source) -> bool {
     source.read(&mut buffer) == 0
 }
 
-// Image k, which is open as fd. More than 64 KiB are beyond any partition's pages.
+// Image k, from its source. More than 64 KiB are beyond any partition's pages.
 fn lay_open(
     rt: &HostRuntime,
     k: u32,

@@ -169,10 +169,20 @@ pub fn put(rt: &HostRuntime, w: Writing, path: &[u8], piece: &[u8]) -> Writing
     if size > u64::MAX - w.bytes {
         return w.spoiled();
     }
-    let bytes = w.bytes + size;
+    let before = w.bytes;
     let mut file = w.file;
-    let good = written(rt, &mut file, path, piece);
-    Writing { file, bytes, good }
+    if !written(rt, &mut file, path, piece) {
+        return Writing {
+            file,
+            bytes: before,
+            good: false,
+        };
+    }
+    Writing {
+        file,
+        bytes: before + size,
+        good: true,
+    }
 }
 
 // ---- the end
