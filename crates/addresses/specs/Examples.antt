@@ -1,14 +1,12 @@
 -- Worked examples, as one list that proofs/Checked.antt checks by a single claim. Each row of the rules stands in square brackets, as docs/EXAMPLES.md
 -- lists them. What is compared is the answer with the whole table, memory and shadow.
-use Rattle.std.specs.Prelude.{Bool, true, false, not, ◌&&◌, List, [], ◌∷◌, ◌++◌, ℕ, zero, suc, ◌+◌, ◌^◌, eqb, set, take, drop, replicate}
+use Rattle.std.specs.Prelude.{Bool, true, false, not, ◌&&◌, List, [], ◌∷◌, ◌++◌, ℕ, zero, suc, ◌+◌, ◌^◌, eqb, set, take, drop, replicate, Result, Ok, Err}
 use mir.Val.{bool_byte}
 use Rattle.dlx.specs.Processor.{fresh_processor, no_timer}
 use Rattle.dlx.specs.Machine.{Core, core, Outcome, reply, step, steps}
 use Rattle.dlx.specs.Examples.{same}
 use Rattle.dlx.specs.declared.partition.Table.{Table}
 use Rattle.dlx.specs.declared.partition.Processor.{Processor}
-use Rattle.dlx.specs.declared.execute.Access.{Access}
-use Rattle.dlx.specs.declared.execute.Access.TheVariants.{Fault, Word}
 use Rattle.addresses.specs.Entries.{composition_of}
 use Rattle.addresses.specs.Walk.{entries}
 use Rattle.addresses.specs.Memory.{Lone, lone, lone_memory, Host, host, host_word, stale, host_memory, emptied, fresh_shadow}
@@ -84,9 +82,9 @@ same_host h k =
     eqb h.table.pto k.table.pto && eqb h.table.ptl k.table.ptl && same h.words k.words && same h.shadow k.shadow
 
 -- a word, or 0 and the fault's number
-unfoldable pub answer : Access → List ℕ
-answer (Fault n) = 0 ∷ n ∷ []
-answer (Word v) = v ∷ []
+unfoldable pub answer : Result ℕ ℕ → List ℕ
+answer (Err n) = 0 ∷ n ∷ []
+answer (Ok v) = v ∷ []
 
 -- a load answers this word, and leaves the shadow sh and all else as it was
 unfoldable pub gives : Host → Bool → ℕ → ℕ → List ℕ → Bool

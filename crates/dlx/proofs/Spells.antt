@@ -1,4 +1,5 @@
 -- A stretch is its first spell, and what is behind it.
+use Rattle.std.specs.Prelude.{Result, Ok, Err}
 use mathlib.Core.Path.{◌≡◌, refl, sym, ap, subst, ◌∙◌}
 use mathlib.Core.Bool.{Bool, true, false}
 use Prim.Native.Nat.{ℕ, zero, suc, ◌+◌, ◌-◌, ◌<◌, ◌≤◌}
@@ -14,8 +15,6 @@ use Rattle.dlx.specs.Timer.{ticked, raised}
 use Rattle.dlx.specs.Machine.{Ops, Core, Outcome, outcome, after_read, after_write, fetched, accessed, left, changed, settled, retabled, step, request_of, asked, Desk, Stretch, stretch_from, Places}
 use Rattle.dlx.specs.Spells.{sunk, timed, plainly, passed, ended, Spell, spell, passed_at, spell_from, leg_at}
 use Rattle.dlx.specs.declared.partition.Timer.{Timer}
-use Rattle.dlx.specs.declared.execute.Access.{Access}
-use Rattle.dlx.specs.declared.execute.Access.TheVariants.{Fault, Word}
 use Rattle.dlx.specs.declared.execute.Change.{Change}
 use Rattle.dlx.specs.declared.execute.Change.TheVariants.{Plain, Special, Retable, Cause, Return}
 use Rattle.dlx.specs.declared.execute.Effect.{Effect}
@@ -30,10 +29,10 @@ Within k n = 0 < k.tcount → n ≤ k.tcount
 
 -- ---- fetch and access leave the timer alone
 
-after_read_timer : (c : Core) (x : Access) → (after_read c x).timer ≡ c.timer
+after_read_timer : (c : Core) (x : Result ℕ ℕ) → (after_read c x).timer ≡ c.timer
 unfolding after_read
-after_read_timer c (Fault n) = refl
-after_read_timer c (Word w) = refl
+after_read_timer c (Err n) = refl
+after_read_timer c (Ok w) = refl
 
 module _ {S : Type 0} (O : Ops S) where
   fetched_timer : (c : Core) (s : S) → (fetched O (c, s)).0.1.timer ≡ c.timer

@@ -13,7 +13,7 @@ ghost use Rattle.addresses.specs.Premises.{Placed, Shadowed};
 ghost use Rattle.plain.specs.Plain.{pair_of};
 ghost use Rattle.engine.specs.Answers.{Fits, walked_of, room_of, stretch_of, processor_at, table_at, timer_at, list_of, Arrived, Happened, Leads, turned_of};
 
-use dlx::execute::{Access, Change, Effect};
+use dlx::execute::{Change, Effect};
 use dlx::partition::{Partition, Processor, Table, Timer};
 
 // What a step of a spell leaves beside the arrays: its change, made if it is plain.
@@ -65,11 +65,11 @@ fn fetch(
         return Effect::Done(Change::Cause(Partition::MAL, 0));
     }
     match translate::load(words, frames, shadow, pages, t, p.mode == 1, dpc) {
-        Access::Fault(n) => {
+        Err(n) => {
             *latest = n;
             Effect::Done(Change::Cause(Partition::PFF, dpc))
         }
-        Access::Word(w) => processor::execute::execute(
+        Ok(w) => processor::execute::execute(
             p,
             t,
             k,
@@ -114,11 +114,11 @@ fn access(
             p.mode == 1,
             a,
         ) {
-            Access::Fault(n) => {
+            Err(n) => {
                 *latest = n;
                 Change::Cause(Partition::PFLS, a)
             }
-            Access::Word(w) => Change::Plain(rd, processor::fields::bring(o, a, w), next),
+            Ok(w) => Change::Plain(rd, processor::fields::bring(o, a, w), next),
         },
         Effect::Store(o, a, v) => {
             let n = translate::store(words, frames, shadow, pages, t, p.mode == 1, o, a, v);

@@ -10,7 +10,6 @@ ghost use Rattle.addresses.specs.Memory.{updated, host, hosted, given, looked, s
 ghost use Rattle.addresses.specs.Premises.{Listed, Placed, Shadowed};
 
 use addresses::ENTRIES;
-use dlx::execute::Access;
 use dlx::partition::Table;
 use dlx::words::wide;
 
@@ -117,7 +116,7 @@ fn serve(
     straight(frames, pages, a)
 }
 
-// The word at address a, or the fault's number.
+// The word at address a, or the translation fault's number.
 pub fn load(
     words: &[u32],
     frames: &[u32],
@@ -126,16 +125,16 @@ pub fn load(
     t: Table,
     user: bool,
     a: u32,
-) -> Access
+) -> Result<u32, u32>
     requires fact_1 { Placed frames.now pages (length words.now) }
     requires fact_2 { Shadowed frames.now pages shadow.old }
     ensures { (result, host t words.now shadow.new) ≡ host_reads frames.now pages (host t words.now shadow.old) user a }
 {
     let e = serve(words, frames, shadow, pages, t, user, a);
     if e / 2048 % 2 == 1 {
-        return Access::Word(words[wide(e / 4096) * 1024 + wide(a / 4 % 1024)]);
+        return Ok(words[wide(e / 4096) * 1024 + wide(a / 4 % 1024)]);
     }
-    Access::Fault(e)
+    Err(e)
 }
 
 // The word x after a store of v by an opcode at address a. The opcode's bit 1 tells a word, bit 0 a half word.

@@ -31,13 +31,13 @@ unfolding accessed stored loaded after_read after_write request_of desk
 returns-in-Done c = λ _. simp c.in-Done.is
 
 -- src/lib.rt:138:1
-pub returns-in-Fault : goal.returns-in-Fault
+pub returns-in-Err : goal.returns-in-Err
 unfolding accessed stored loaded after_read after_write request_of desk
-returns-in-Fault c = λ _. simp (c.in-Load.is, ← c.load.ensures, c.in-Fault.is)
+returns-in-Err c = λ _. simp (c.in-Load.is, ← c.load.ensures, c.in-Err.is)
 
 -- src/lib.rt:138:1
-pub returns-in-Word : goal.returns-in-Word
-returns-in-Word c = load_is _ _ c.args.count c.args.i c.args.p _ _ _ _ _ _ _ _ _ _ _ _ c.in-Load.is c.load.ensures c.in-Word.is c.bring.ensures c.wrapping_add_u32-next.ensures.value
+pub returns-in-Ok : goal.returns-in-Ok
+returns-in-Ok c = load_is _ _ c.args.count c.args.i c.args.p _ _ _ _ _ _ _ _ _ _ _ _ c.in-Load.is c.load.ensures c.in-Ok.is c.bring.ensures c.wrapping_add_u32-next.ensures.value
 
 -- src/lib.rt:138:1
 pub returns-else-n-eq0 : goal.returns-else-n-eq0
