@@ -1,5 +1,6 @@
 -- The lone memory and the shadowed memory, as two instances of `dlx`'s memory.
 use Rattle.std.specs.Prelude.{Bool, not, ◌&&◌, List, ℕ, ◌+◌, ◌*◌, ◌/◌, ◌%◌, ltb, eqb, get_or, set, replicate, Result, Ok, Err}
+use Prim.{Unit, tt}
 use Rattle.dlx.specs.Choice.{when◌then◌else◌}
 use Rattle.dlx.specs.Machine.{Ops}
 use Rattle.dlx.specs.declared.partition.Table.{Table}
@@ -32,10 +33,10 @@ unfoldable pub lone_read : Lone → ℕ → Found → Result ℕ ℕ
 lone_read s a (fault x) = Err x
 lone_read s a (found k p) = Ok (lone_word s (word_in k a))
 
-unfoldable pub lone_written : Lone → ℕ → (ℕ → ℕ) → Found → ℕ × Lone
-lone_written s a f (fault x) = (x, s)
+unfoldable pub lone_written : Lone → ℕ → (ℕ → ℕ) → Found → Result (Unit {0}) ℕ × Lone
+lone_written s a f (fault x) = (Err x, s)
 lone_written s a f (found k p) =
-    when eqb p 1 then (protected_page, s) else (0, lone s.table (updated s.words (word_in k a) f))
+    when eqb p 1 then (Err protected_page, s) else (Ok tt, lone s.table (updated s.words (word_in k a) f))
 
 abbrev pub lone_memory : ℕ → Ops Lone
 lone_memory n = record {
@@ -97,16 +98,16 @@ emptied fr n t f off sh =
     when ltb t.pto n && eqb (get_or fr t.pto 0) f && ltb off t.ptl && ltb off entries then set sh off 0 else sh
 
 -- the data access, then emptying
-unfoldable pub host_written : List ℕ → ℕ → Host → ℕ → (ℕ → ℕ) → ℕ → ℕ × Host
+unfoldable pub host_written : List ℕ → ℕ → Host → ℕ → (ℕ → ℕ) → ℕ → Result (Unit {0}) ℕ × Host
 host_written fr n s a f e =
-    when not (valid e) then (e, s) else
-    when eqb (protection e) 1 then (protected_page, s) else
-    (0, host s.table (updated s.words (word_in (number e) a) f) (emptied fr n s.table (number e) (a / 4 % 1024) s.shadow))
+    when not (valid e) then (Err e, s) else
+    when eqb (protection e) 1 then (Err protected_page, s) else
+    (Ok tt, host s.table (updated s.words (word_in (number e) a) f) (emptied fr n s.table (number e) (a / 4 % 1024) s.shadow))
 
 unfoldable pub host_reads : List ℕ → ℕ → Host → Bool → ℕ → Result ℕ ℕ × Host
 host_reads fr n s user a = let g = served fr n s user a in (host_read g.1 a g.0, g.1)
 
-unfoldable pub host_writes : List ℕ → ℕ → Host → Bool → ℕ → (ℕ → ℕ) → ℕ × Host
+unfoldable pub host_writes : List ℕ → ℕ → Host → Bool → ℕ → (ℕ → ℕ) → Result (Unit {0}) ℕ × Host
 host_writes fr n s user a f = let g = served fr n s user a in host_written fr n g.1 a f g.0
 
 -- a fresh shadow table

@@ -169,6 +169,11 @@ abbrev pub KeptAccess : Result ℕ ℕ → Type 0
 KeptAccess (Err n) = n < 8
 KeptAccess (Ok w) = w < 2 ^ 32
 
+-- and so of a write's answer
+abbrev pub KeptStore : Result (Unit {0}) ℕ → Type 0
+KeptStore (Err n) = n < 8
+KeptStore (Ok u) = Unit
+
 abbrev pub KeptRequest : Request → Type 0
 KeptRequest nothing = Unit
 KeptRequest (sends v to) = (v < 2 ^ 32) × (to < 2 ^ 32)
@@ -428,7 +433,7 @@ settled_kept c x h k =
 pub record Keeps {S : Type 0} (I : S → Type 0) (O : Ops S) : Type 0 where
   pub tables : (s : S) → I s → KeptTable (O.table s)
   pub reads : (s : S) → I s → (u : Bool) (a : ℕ) → KeptAccess (O.read s u a).0 × I (O.read s u a).1
-  pub writes : (s : S) → I s → (u : Bool) (a : ℕ) (f : ℕ → ℕ) → ((w : ℕ) → w < 2 ^ 32 → f w < 2 ^ 32) → ((O.write s u a f).0 < 8) × I (O.write s u a f).1
+  pub writes : (s : S) → I s → (u : Bool) (a : ℕ) (f : ℕ → ℕ) → ((w : ℕ) → w < 2 ^ 32 → f w < 2 ^ 32) → KeptStore (O.write s u a f).0 × I (O.write s u a f).1
   pub retables : (s : S) → I s → (t : Table) → KeptTable t → I (O.retable s t)
 
 module _ {S : Type 0} (I : S → Type 0) (O : Ops S) (K : Keeps I O) where
@@ -446,9 +451,10 @@ module _ {S : Type 0} (I : S → Type 0) (O : Ops S) (K : Keeps I O) where
   after_read_kept c (Err n) h k = failing_kept c n h k
   after_read_kept c (Ok w) h k = h
 
-  after_write_kept : (c : Core) (n : ℕ) → Kept c → n < 8 → Kept (after_write c n)
+  after_write_kept : (c : Core) (x : Result (Unit {0}) ℕ) → Kept c → KeptStore x → Kept (after_write c x)
   unfolding after_write
-  after_write_kept c n h l = either Kept (eqb n 0) (λ _. h) (λ _. failing_kept c n h l)
+  after_write_kept c (Err n) h k = failing_kept c n h k
+  after_write_kept c (Ok u) h k = h
 
   abbrev KeptFetch : (Effect × Core) × S → Type 0
   KeptFetch f = KeptEffect f.0.0 × Kept f.0.1 × I f.1
@@ -466,10 +472,10 @@ module _ {S : Type 0} (I : S → Type 0) (O : Ops S) (K : Keeps I O) where
   loaded_kept p d a o (Err n) l h = (omega arith, h)
   loaded_kept p d a o (Ok w) l h = (l, brought_word o a w, omega arith)
 
-  stored_kept : (p : Processor) (a n : ℕ) → a < 2 ^ 32 → KeptChange (stored p a n)
+  stored_kept : (p : Processor) (a : ℕ) (x : Result (Unit {0}) ℕ) → a < 2 ^ 32 → KeptChange (stored p a x)
   unfolding stored
-  stored_kept p a n h =
-      either KeptChange (eqb n 0) (λ _. (omega arith, omega arith, omega arith)) (λ _. (omega arith, h))
+  stored_kept p a (Err n) h = (omega arith, h)
+  stored_kept p a (Ok u) h = (omega arith, omega arith, omega arith)
 
   received_kept : (y : Reply) → KeptReply y → (r : List ℕ) → Registers r → Registers (received r y)
   unfolding received

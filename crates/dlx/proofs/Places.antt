@@ -4,7 +4,7 @@ use mathlib.Core.Path.{◌≡◌, refl, ◌∙◌}
 use mathlib.Core.Bool.{true, ◌&&◌}
 use mathlib.Core.List.{List}
 use Prim.Native.Nat.{ℕ, ◌<◌}
-use Prim.{tt}
+use Prim.{Unit, tt}
 use native.Mathlib.Omega.{arith}
 use lib.Dec.{eqb}
 use lib.ListN.{length, set, length-set}
@@ -87,7 +87,11 @@ module _ {S : Type 0} (O : Ops S) where
       go : (x : Result ℕ ℕ) → Places (loaded c.processor d a o x)
       go (Err n) = omega arith
       go (Ok w) = h.0
-  accessed_places y c (Store o a v) s h = either Places (eqb (O.write s (user c.processor) a (placed o a v)).0 0) (λ _. omega arith) (λ _. omega arith)
+  accessed_places y c (Store o a v) s h = go (O.write s (user c.processor) a (placed o a v)).0
+    where
+      go : (x : Result (Unit {0}) ℕ) → Places (stored c.processor a x)
+      go (Err n) = omega arith
+      go (Ok u) = omega arith
 
 -- ---- how many registers there are
 
@@ -126,11 +130,16 @@ unfolding received
 received_count r y =
     either (λ (l : List ℕ). length l ≡ length r) (eqb y.code 0) {x = written r 1 y.ticket} {y = r} (λ _. written_count r 1 y.ticket) (λ _. refl)
 
+after_write_count : (c : Core) (x : Result (Unit {0}) ℕ) → length (after_write c x).registers ≡ length c.registers
+unfolding after_write
+after_write_count c (Err n) = refl
+after_write_count c (Ok u) = refl
+
 pub accessed_count : {S : Type 0} (O : Ops S) (y : Reply) (c : Core) (e : Effect) (s : S) → length (accessed O y c e s).0.1.registers ≡ length c.registers
-unfolding accessed after_write
+unfolding accessed
 accessed_count O y c (Done x) s = refl
 accessed_count O y c (Load d a o) s = after_read_count c _
-accessed_count O y c (Store o a v) s = either (λ (x : Core). length x.registers ≡ length c.registers) (eqb (O.write s (user c.processor) a (placed o a v)).0 0) (λ _. refl) (λ _. refl)
+accessed_count O y c (Store o a v) s = after_write_count c _
 accessed_count O y c (Send v to) s = refl
 accessed_count O y c Take s = received_count c.registers y
 

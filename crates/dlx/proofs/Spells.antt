@@ -1,4 +1,5 @@
 -- A stretch is its first spell, and what is behind it.
+use Prim.{Unit}
 use Rattle.std.specs.Prelude.{Result, Ok, Err}
 use mathlib.Core.Path.{◌≡◌, refl, sym, ap, subst, ◌∙◌}
 use mathlib.Core.Bool.{Bool, true, false}
@@ -34,6 +35,11 @@ unfolding after_read
 after_read_timer c (Err n) = refl
 after_read_timer c (Ok w) = refl
 
+after_write_timer : (c : Core) (x : Result (Unit {0}) ℕ) → (after_write c x).timer ≡ c.timer
+unfolding after_write
+after_write_timer c (Err n) = refl
+after_write_timer c (Ok u) = refl
+
 module _ {S : Type 0} (O : Ops S) where
   fetched_timer : (c : Core) (s : S) → (fetched O (c, s)).0.1.timer ≡ c.timer
   unfolding fetched
@@ -41,10 +47,10 @@ module _ {S : Type 0} (O : Ops S) where
       either (λ (g : (Effect × Core) × S). g.0.1.timer ≡ c.timer) (aligned 32 c.processor.dpc) (λ _. after_read_timer c _) (λ _. refl)
 
   accessed_timer : (y : Reply) (c : Core) (e : Effect) (s : S) → (accessed O y c e s).0.1.timer ≡ c.timer
-  unfolding accessed after_write
+  unfolding accessed
   accessed_timer y c (Done x) s = refl
   accessed_timer y c (Load d a o) s = after_read_timer c _
-  accessed_timer y c (Store o a v) s = either (λ (x : Core). x.timer ≡ c.timer) (eqb (O.write s (user c.processor) a (placed o a v)).0 0) (λ _. refl) (λ _. refl)
+  accessed_timer y c (Store o a v) s = after_write_timer c _
   accessed_timer y c (Send v to) s = refl
   accessed_timer y c Take s = refl
 

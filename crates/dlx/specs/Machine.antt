@@ -20,12 +20,12 @@ use Rattle.dlx.specs.declared.execute.Reply.{Reply}
 -- ---- the memory
 
 -- A memory with states S. An access says whether it is made in user mode, and names the word by any byte address in it. It may change the
--- state (a shadow is filled). A read answers the word, or the number of the translation's fault; a write takes an update of the word, and answers 0 where it
--- is made, else that number. `retable` changes PTO and PTL.
+-- state (a shadow is filled). A read answers the word, or the number of the translation's fault; a write takes an update of the word, and answers that it is
+-- made, or that number. `retable` changes PTO and PTL.
 pub record Ops (S : Type 0) : Type 0 where
   pub table : S → Table
   pub read : S → Bool → ℕ → Result ℕ ℕ × S
-  pub write : S → Bool → ℕ → (ℕ → ℕ) → ℕ × S
+  pub write : S → Bool → ℕ → (ℕ → ℕ) → Result (Unit {0}) ℕ × S
   pub retable : S → Table → S
 
 -- ---- what a guest is beside its memory, and what a step makes of it
@@ -62,8 +62,9 @@ unfoldable pub after_read : Core → Result ℕ ℕ → Core
 after_read c (Err n) = failing c n
 after_read c (Ok w) = c
 
-unfoldable pub after_write : Core → ℕ → Core
-after_write c n = when eqb n 0 then c else failing c n
+unfoldable pub after_write : Core → Result (Unit {0}) ℕ → Core
+after_write c (Err n) = failing c n
+after_write c (Ok u) = c
 
 -- the fetch at DPC, and what its word asks for
 unfoldable pub fetched : {S : Type 0} → Ops S → Core × S → (Effect × Core) × S
@@ -76,8 +77,9 @@ unfoldable pub loaded : Processor → ℕ → ℕ → ℕ → Result ℕ ℕ →
 loaded p d a o (Err n) = Cause pfls a
 loaded p d a o (Ok w) = Plain d (brought o a w) (behind p)
 
-unfoldable pub stored : Processor → ℕ → ℕ → Change
-stored p a n = when eqb n 0 then Plain 0 0 (behind p) else Cause pfls a
+unfoldable pub stored : Processor → ℕ → Result (Unit {0}) ℕ → Change
+stored p a (Err n) = Cause pfls a
+stored p a (Ok u) = Plain 0 0 (behind p)
 
 -- a ticket taken goes to register 1; on any other answer register 1 stays
 unfoldable pub received : List ℕ → Reply → List ℕ

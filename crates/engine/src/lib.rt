@@ -121,12 +121,13 @@ fn access(
             Ok(w) => Change::Plain(rd, processor::fields::bring(o, a, w), next),
         },
         Effect::Store(o, a, v) => {
-            let n = translate::store(words, frames, shadow, pages, t, p.mode == 1, o, a, v);
-            if n == 0 {
-                return Change::Plain(0, 0, next);
+            match translate::store(words, frames, shadow, pages, t, p.mode == 1, o, a, v) {
+                Err(n) => {
+                    *latest = n;
+                    Change::Cause(Partition::PFLS, a)
+                }
+                Ok(()) => Change::Plain(0, 0, next),
             }
-            *latest = n;
-            Change::Cause(Partition::PFLS, a)
         }
         Effect::Send(v, to) => {
             let reply = tickets::send(count, tickets, waiting, v, to);

@@ -56,7 +56,7 @@ fn load(words: &[u32], frames: &[u32], pages: u32, t: Table, user: bool, a: u32)
     Err(e)
 }
 
-// The word at address a after a store of v by an opcode. Answers 0 where the store was made, else the fault's number.
+// The word at address a after a store of v by an opcode, or the translation fault's number.
 fn store(
     words: &mut [u32],
     frames: &[u32],
@@ -66,7 +66,7 @@ fn store(
     o: u32,
     a: u32,
     v: u32,
-) -> u32
+) -> Result<(), u32>
     requires fact_1 { Placed frames.now pages (length words.old) }
     requires fact_2 { storing o ≡ true }
     requires fact_3 { aligned (width o) a ≡ true }
@@ -74,16 +74,16 @@ fn store(
 {
     let e = seek(words, frames, pages, t, user, a);
     if e / 2048 % 2 != 1 {
-        return e;
+        return Err(e);
     }
     if e / 1024 % 2 == 1 {
-        return 6;
+        return Err(6);
     }
     let off = a / 4 % 1024;
     let base = wide(e / 4096) * 1024;
     let end = base + 1024;
     translate::put(&mut words[base..end], wide(off), o, a, v);
-    0
+    Ok(())
 }
 
 // The fetch at DPC, and what its word asks for. A fault is the latest then.
@@ -152,12 +152,13 @@ fn access(
             Ok(w) => Change::Plain(rd, processor::fields::bring(o, a, w), next),
         },
         Effect::Store(o, a, v) => {
-            let n = store(words, frames, pages, t, p.mode == 1, o, a, v);
-            if n == 0 {
-                return Change::Plain(0, 0, next);
+            match store(words, frames, pages, t, p.mode == 1, o, a, v) {
+                Err(n) => {
+                    *latest = n;
+                    Change::Cause(Partition::PFLS, a)
+                }
+                Ok(()) => Change::Plain(0, 0, next),
             }
-            *latest = n;
-            Change::Cause(Partition::PFLS, a)
         }
         Effect::Send(v, to) => {
             let reply = tickets::send(count, tickets, waiting, v, to);
