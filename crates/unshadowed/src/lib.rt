@@ -245,22 +245,19 @@ pub fn stretch(
     let mut processor = p;
     let mut table = t;
     let mut timer = k;
-    let mut rest = n;
-    while rest > 0 {
+    for made in 0..n {
         let s = step(
             processor, table, timer, pages, regs, frames, words, count, i, tickets, waiting, latest,
         );
         processor = s.processor;
         table = s.table;
         timer = s.timer;
-        rest -= 1;
         if s.calls {
-            let made = n - rest;
             return Stretched {
                 processor,
                 table,
                 timer,
-                made,
+                made: made + 1,
                 called: true,
             };
         }
