@@ -127,10 +127,6 @@ pub not_true : (b : Bool) → not b ≡ true → b ≡ false
 not_true true e = sym e
 not_true false e = refl
 
-pub not_false : (b : Bool) → not b ≡ false → b ≡ true
-not_false true e = refl
-not_false false e = sym e
-
 -- ---- a stretch, leg by leg
 
 -- rest of n steps are still to make

@@ -124,6 +124,7 @@ pub fn plain(
     let mut dpc = p.dpc;
     let mut pc = p.pc;
     let mut rest = k;
+    // Not a `for`: the steps in a page are made at once.
     while rest > 0 {
         let e = plain::seen(frames, shadow, pages, p.mode == 1, dpc);
         if e / 2048 % 2 != 1 {
