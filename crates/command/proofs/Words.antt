@@ -42,14 +42,6 @@ unfolding with_digit
 digit_other most None b e = refl
 digit_other most (Some n) b e = simp e
 
-pub digit_most : (most : ℕ) (n : Option ℕ) (b : ℕ) → IfSome (with_digit most n b) (λ v. v ≤ most)
-unfolding with_digit
-digit_most most None b = tt
-digit_most most (Some n) b =
-    let v = n * 10 + (b - 48) in
-    let first = leb 48 b && leb b 57 in
-    either (λ (x : Option ℕ). IfSome x (λ v. v ≤ most)) (first && leb v most) (λ e. leb-true v most (and_right first (leb v most) e)) (λ _. tt)
-
 -- ---- a word's digits: what is left from here is what was to read from the start
 
 pub digits_on : (most : ℕ) (n n' t : Option ℕ) (word : List ℕ) (i : ℕ) → i < length word → with_digits most n (drop i word) ≡ t → n' ≡ with_digit most n (get_or word i 0)

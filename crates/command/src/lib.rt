@@ -20,7 +20,8 @@ pub fn asks_help(word: &[u8]) -> bool
 
 // The number with one digit more; none where the byte is no digit, or the number is too large.
 pub fn with_digit(most: u64, n: Option<u64>, b: u8) -> Option<u64>
-    ensures { result ≡ with_digit most n b }
+    ensures value { result ≡ with_digit most n b }
+    ensures value_le_most { IfSome result (λ v. v ≤ most) }
 {
     if !b.is_ascii_digit() {
         return None;
