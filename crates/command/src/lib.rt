@@ -2,7 +2,7 @@
 // standard error, with `failed: ` before all else.
 #![tactic(auto)]
 
-ghost use Rattle.std.specs.Prelude.{◌≡◌, ◌≤◌, IfSome};
+ghost use Rattle.std.specs.Prelude.{◌≡◌, ◌≤◌, IfSome, is_ok};
 ghost use Rattle.command.specs.Words.{with_digit, number_of, asks_help};
 
 use decimal::is;
@@ -63,15 +63,22 @@ pub fn fail(rt: &HostRuntime, what: &[u8], why: io::Error) {
     say_error(rt, why);
 }
 
-// Writes a text to standard output, and answers whether that could be done. Where it could not, that is told.
-pub fn put_out(rt: &HostRuntime, text: &[u8]) -> bool {
-    match print(rt, text) {
+// Answers whether a read or a write of what is named here was done. Where it was not, that is told.
+pub fn done(rt: &HostRuntime, what: &[u8], outcome: io::Result<()>) -> bool
+    ensures { result ≡ is_ok outcome }
+{
+    match outcome {
         Ok(()) => true,
         Err(why) => {
-            fail(rt, b"standard output", why);
+            fail(rt, what, why);
             false
         }
     }
+}
+
+// Writes a text to standard output, and answers whether that could be done. Where it could not, that is told.
+pub fn put_out(rt: &HostRuntime, text: &[u8]) -> bool {
+    done(rt, b"standard output", print(rt, text))
 }
 
 // The program was given something that it cannot use.
