@@ -7,7 +7,5 @@ use Rattle.house.specs.Boot.{frame_kept}
 use Rattle.boot.proofs.first_kept.Given as goal
 
 abbrev pub invariant-loop-i : goal.invariant-loop-i
-invariant-loop-i l = (any (frame_kept l.frames) l.i ≡ false) × (l.i ≤ length l.frames)
+invariant-loop-i l = (any (frame_kept l.frames) l.i ≡ false)
 
-abbrev pub decreases-loop-i : goal.decreases-loop-i
-decreases-loop-i l = length l.frames - l.i

@@ -7,7 +7,5 @@ use Rattle.house.specs.Boot.{frame_outside}
 use Rattle.boot.proofs.first_outside.Given as goal
 
 abbrev pub invariant-loop-i : goal.invariant-loop-i
-invariant-loop-i l = (any (frame_outside l.frames l.words) l.i ≡ false) × (l.i ≤ length l.frames)
+invariant-loop-i l = (any (frame_outside l.frames l.words) l.i ≡ false)
 
-abbrev pub decreases-loop-i : goal.decreases-loop-i
-decreases-loop-i l = length l.frames - l.i

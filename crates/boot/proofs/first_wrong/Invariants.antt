@@ -7,7 +7,5 @@ use Rattle.house.specs.Boot.{pages_wrong}
 use Rattle.boot.proofs.first_wrong.Given as goal
 
 abbrev pub invariant-loop-i : goal.invariant-loop-i
-invariant-loop-i l = (any (pages_wrong l.pages) l.i ≡ false) × (l.i ≤ length l.pages)
+invariant-loop-i l = (any (pages_wrong l.pages) l.i ≡ false)
 
-abbrev pub decreases-loop-i : goal.decreases-loop-i
-decreases-loop-i l = length l.pages - l.i

@@ -7,7 +7,5 @@ use Rattle.boot.specs.Places.{filled}
 use Rattle.boot.proofs.fresh_parts.Given as goal
 
 abbrev pub invariant-loop-i : goal.invariant-loop-i
-invariant-loop-i l = (l.parts ≡ filled (λ j. fresh_of (get_or l.pages j 0)) no_partition 8 l.i) × (l.i ≤ length l.pages)
+invariant-loop-i l = (l.parts ≡ filled (λ j. fresh_of (get_or l.pages j 0)) no_partition 8 l.i)
 
-abbrev pub decreases-loop-i : goal.decreases-loop-i
-decreases-loop-i l = length l.pages - l.i

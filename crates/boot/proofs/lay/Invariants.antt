@@ -6,7 +6,5 @@ use Rattle.boot.specs.Places.{filled}
 use Rattle.boot.proofs.lay.Given as goal
 
 abbrev pub invariant-loop-i : goal.invariant-loop-i
-invariant-loop-i l = (l.places ≡ filled (laid l.pages l.frames) 0 2048 (l.i * 256)) × (l.from ≡ offset l.pages l.i) × (l.i ≤ length l.pages)
+invariant-loop-i l = (l.places ≡ filled (laid l.pages l.frames) 0 2048 (l.i * 256)) × (l.from ≡ offset l.pages l.i)
 
-abbrev pub decreases-loop-i : goal.decreases-loop-i
-decreases-loop-i l = length l.pages - l.i
