@@ -1,7 +1,7 @@
 -- Laws of boot's loops: what each turn adds, and that all turns together make the house's lists.
-use mathlib.Core.Path.{◌≡◌, sym, ap, subst, ◌∙◌}
-use mathlib.Core.Bool.{true, false}
-use mathlib.Core.List.{List, ◌++◌}
+use mathlib.Core.Path.{◌≡◌, refl, sym, ap, subst, ◌∙◌}
+use mathlib.Core.Bool.{Bool, true, false}
+use mathlib.Core.List.{List, [], ◌∷◌, ◌++◌}
 use Prim.Native.Nat.{ℕ, ◌+◌, ◌-◌, ◌*◌, ◌/◌, ◌%◌, ◌<◌, ◌≤◌}
 use native.Mathlib.Omega.{arith}
 use borrow.Author.Tests.{lt-ltb, le-ltb, ltb-true, ltb-false, leb-true, leb-false}
@@ -9,17 +9,21 @@ use lib.Dec.{ltb, leb, eqb}
 use lib.ListN.{length, get_or, set, take, drop, replicate, get_or-eq_default}
 use lib.Seq.{ext_get_or}
 use borrow.Rule.Slice.PartMut.{put_mid}
+use Rattle.std.specs.Prelude.{Option, None, Some, MatchOption}
+use Rattle.std.specs.Option.{unwrap_or}
+use Rattle.std.specs.List as std
+use Rattle.std.proofs.lemmas.List.Sums.{sum_by-cons}
 use Rattle.std.proofs.lemmas.List.{length-take-le, length-append, length-drop, get_or-take, get_or-drop, get_or-append_right, get_or_append_left}
 use Rattle.dlx.specs.Choice.{when◌then◌else◌}
 use Rattle.dlx.proofs.Tests.{by_test}
 use Rattle.house.specs.Lists.{list_from, any, first_from, between}
 use Rattle.house.specs.Damage.{whole_frames}
-use Rattle.house.specs.Boot.{offset, laid, pages_wrong, frame_outside, boot_verdict}
+use Rattle.house.specs.Boot.{sum, offset, laid, pages_wrong, frame_outside, boot_verdict}
 use Rattle.house.proofs.Lists.Bounded.{any_none, and_right}
 use Rattle.house.proofs.Damage.Conditions.{within}
 use Rattle.house.proofs.Boot.Offsets.{offset_in, laid_page, laid_behind}
 use Rattle.house.proofs.Calls.Verdicts.{boot_done}
-use Rattle.house.proofs.Lists.ByRule.{any_missed, length_list_from, list_from_at, list_from_same, list_from_replicate, set_list_from}
+use Rattle.house.proofs.Lists.ByRule.{first_none, any_missed, length_list_from, list_from_at, list_from_same, list_from_replicate, set_list_from}
 use Rattle.boot.specs.Places.{filled, Few, Fitting}
 
 -- ---- a list filled from the front
@@ -52,7 +56,7 @@ module _ {A : Type 0} (f : ℕ → A) (d : A) (n : ℕ) where
       let lz : length (filled f d n (i + k)) ≡ n = length_list_from (λ j. when ltb j (i + k) then f j else d) 0 n in
       let lt : length (take i a) ≡ i = length-take-le i a (omega arith) in
       let long : length (put_mid i k a ys) ≡ n =
-          omega (arith, length-append (take i a) (ys ++ r), length-append ys r, length-drop k (drop i a), length-drop i a) in
+      omega (arith, length-append (take i a) (ys ++ r), length-append ys r, length-drop k (drop i a), length-drop i a) in
       ext_get_or d (put_mid i k a ys) (filled f d n (i + k)) (long ∙ sym lz) λ j b.
       let m : j < n = omega arith in
       by_test (ltb j i)
@@ -107,13 +111,25 @@ laid_more ps fr i from n m places part g l v p q e y =
     let in_list : m ≤ length (drop from fr) = omega (arith, length-drop from fr, g.long, offset_in ps i) in
     ap (λ (x : List ℕ). put_mid (i * 256) m x part) e
     ∙ filled_part (laid ps fr) 0 2048 (i * 256) m part (omega arith) (ap length y ∙ length-take-le m (drop from fr) in_list)
-        (λ j b.
-        ap (λ (x : List ℕ). get_or x j 0) y
-        ∙ get_or-take m (drop from fr) j 0 b
-        ∙ get_or-drop from fr j 0
-        ∙ ap (λ (x : ℕ). get_or fr (x + j) 0) v
-        ∙ sym (laid_page ps fr i j (omega arith) most))
+    (λ j b.
+    ap (λ (x : List ℕ). get_or x j 0) y
+    ∙ get_or-take m (drop from fr) j 0 b
+    ∙ get_or-drop from fr j 0
+    ∙ ap (λ (x : ℕ). get_or fr (x + j) 0) v
+    ∙ sym (laid_page ps fr i j (omega arith) most))
     ∙ filled_rest (laid ps fr) 0 2048 (i * 256 + m) ((i + 1) * 256) (omega arith) (λ j a b. laid_behind ps fr i j (omega arith) b)
+
+-- ---- what std's chains give, in the house's words
+
+-- the first position, or how many there are
+pub first_or : (p : ℕ → Bool) (n : ℕ) (r : Option ℕ) → MatchOption r (any p n ≡ false) (λ at. (any p n ≡ true) × (at ≡ first_from p 0 n)) → unwrap_or r n ≡ first_from p 0 n
+first_or p n None h = sym (first_none p n h)
+first_or p n (Some at) h = h.1
+
+pub sum_is : (ns : List ℕ) → std.sum ns ≡ sum ns
+unfolding sum
+sum_is [] = refl
+sum_is (n ∷ ns) = sum_by-cons (λ x. x) n ns ∙ ap (λ (x : ℕ). n + x) (sum_is ns)
 
 -- ---- what a boot has that nothing refuses
 

@@ -4,7 +4,7 @@ use mathlib.Core.List.{◌++◌}
 use Prim.Native.Nat.{◌+◌}
 use native.Mathlib.Omega.{arith}
 use borrow.Rule.Slice.PartMut.{put_mid}
-use lib.ListN.{length, drop, take, replicate}
+use lib.ListN.{drop, replicate}
 use Rattle.std.proofs.lemmas.List.{length-take-le, length-replicate, get_or-replicate}
 use Rattle.boot.specs.Places.{filled}
 use Rattle.boot.proofs.Places.{filled_none, filled_part, filled_flags}

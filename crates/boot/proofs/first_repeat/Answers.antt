@@ -2,7 +2,7 @@ use mathlib.Core.Path.{◌∙◌}
 use lib.ListN.{length, replicate}
 use Rattle.marks.specs.Marked.{twice_marked}
 use Rattle.marks.proofs.Marked.{first_unowned}
-use Rattle.boot.proofs.Chains.{first_or}
+use Rattle.boot.proofs.Places.{first_or}
 use Rattle.boot.proofs.first_repeat.Goals as goal
 
 pub returns : goal.returns

@@ -1,6 +1,4 @@
 use mathlib.Core.Path.{◌≡◌}
-use Prim.Native.Nat.{zero-le}
-use native.Mathlib.Nat.{le_antisymm}
 use native.Mathlib.Omega.{arith}
 use lib.ListN.{get_or}
 use Rattle.dlx.specs.Processor.{fresh_of}
@@ -10,10 +8,10 @@ use lib.ListN.{length}
 use Rattle.boot.proofs.fresh_parts.Goals as goal
 
 pub loop-i-init : goal.loop-i-init
-loop-i-init c = (rw c.none.ensures (filled_none (λ j. fresh_of (get_or c.args.pages.now j 0)) no_partition 8))
+loop-i-init c = rw c.none.ensures (filled_none (λ j. fresh_of (get_or c.args.pages.now j 0)) no_partition 8)
 
 pub loop-i-preserved : goal.loop-i-preserved
-loop-i-preserved c = (rw (c.loop-i.invariant, c.fresh.ensures) (filled_more (λ j. fresh_of (get_or c.args.pages.now j 0)) no_partition 8 c.loop-i.i (omega arith)))
+loop-i-preserved c = rw (c.loop-i.invariant, c.fresh.ensures) (filled_more (λ j. fresh_of (get_or c.args.pages.now j 0)) no_partition 8 c.loop-i.i (omega arith))
 
 pub returns : goal.returns
 returns c = let end : c.loop-i.i ≡ length c.args.pages.now = omega arith in rw (← end) c.loop-i.invariant

@@ -1,7 +1,7 @@
-use mathlib.Core.Path.{◌≡◌, refl, ◌∙◌, ap}
-use Prim.Native.Nat.{◌+◌, ◌-◌, ◌*◌, ◌<◌, ◌≤◌}
+use mathlib.Core.Path.{refl, ◌∙◌, ap}
+use Prim.Native.Nat.{◌*◌}
 use native.Mathlib.Omega.{arith}
-use lib.ListN.{length, take, drop}
+use lib.ListN.{take, drop}
 use Rattle.house.specs.Boot.{offset, laid}
 use Rattle.house.proofs.Boot.Offsets.{offset_in, offset_more, laid_after}
 use Rattle.boot.proofs.Places.{filled_none, laid_more, filled_whole}
@@ -22,8 +22,7 @@ slice_bounds-copy_from_slice-end c = omega (arith, c.wide-n.ensures, c.requires.
 
 pub loop-i-preserved : goal.loop-i-preserved
 loop-i-preserved c =
-    let l = c.loop-i in
-    (
+    let l = c.loop-i in (
       laid_more c.args.pages.now c.args.frames.now l.i l.from c.wide-n.result _ l.places c.copy_from_slice.new.self c.requires (omega arith) l.invariant.1 c.wide-n.ensures (omega arith) l.invariant.0
           (c.copy_from_slice.ensures.after ∙ ap (λ m. take m (drop l.from c.args.frames.now)) (omega arith)),
       omega (arith, c.wide-n.ensures, offset_more c.args.pages.now l.i),

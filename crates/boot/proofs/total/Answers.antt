@@ -1,7 +1,7 @@
 use mathlib.Core.Path.{◌≡◌, ◌∙◌}
 use Rattle.std.proofs.Common.{rules}
 use Rattle.std.specs.List as std
-use Rattle.boot.proofs.Chains.{sum_is}
+use Rattle.boot.proofs.Places.{sum_is}
 use Rattle.boot.proofs.total.Goals as goal
 
 pub returns : goal.returns
