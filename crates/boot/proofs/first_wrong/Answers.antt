@@ -1,22 +1,7 @@
-use mathlib.Core.Path.{refl, sym, ◌∙◌}
-use Prim.Native.Nat.{zero-le}
-use native.Mathlib.Nat.{le_antisymm}
-use native.Mathlib.Omega.{arith}
-use Rattle.house.specs.Lists.{any}
-use Rattle.house.specs.Boot.{pages_wrong}
-use Rattle.house.proofs.Lists.Bounded.{any_more}
-use Rattle.house.proofs.Lists.ByRule.{first_is, first_none}
+use mathlib.Core.Bool.{not}
+use Rattle.house.specs.Lists.{between}
+use Rattle.std.proofs.Common.{rules}
 use Rattle.boot.proofs.first_wrong.Goals as goal
 
-pub loop-i-init : goal.loop-i-init
-unfolding any
-loop-i-init c = (refl, zero-le)
-
-pub returns-then-wrong : goal.returns-then-wrong
-returns-then-wrong c = sym (first_is (pages_wrong c.args.pages.now) _ c.loop-i.i c.loop-i.invariant.0 c.loop-i-test.true (sym c.wrong.ensures ∙ c.if-wrong.true))
-
-pub loop-i-preserved : goal.loop-i-preserved
-loop-i-preserved c = (any_more (pages_wrong c.args.pages.now) c.loop-i.i c.loop-i.invariant.0 (sym c.wrong.ensures ∙ c.if-wrong.false), omega arith)
-
 pub returns : goal.returns
-returns c = rw (le_antisymm c.loop-i-test.false c.loop-i.invariant.1) (sym (first_none (pages_wrong c.args.pages.now) c.loop-i.i c.loop-i.invariant.0))
+returns c = c.first.ensures (λ n. not (between 1 n 256)) (λ n r e. search rules)
