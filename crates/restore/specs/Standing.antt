@@ -5,6 +5,8 @@ use Rattle.house.specs.declared.House.{House}
 use Rattle.housefile.specs.Records.{words_of, size, kind}
 use Rattle.save.specs.Reading.{Progress, Reading, reading, may_come, settled}
 use Rattle.restore.specs.declared.Reader.{Reader}
+use Rattle.restore.specs.declared.bytes.Step.{Step}
+use Rattle.restore.specs.declared.bytes.Step.TheVariants.{Open, Whole}
 
 abbrev pub progress_at : Reader → House → List ℕ → Progress
 progress_at r h m = record {
@@ -28,6 +30,14 @@ wrong_at r = record { refusal = 17; start = r.start; held = 0; opened = r.opened
 -- a record that is not whole has at most 4,105 bytes
 abbrev pub reading_at : Reader → House → List ℕ → List ℕ → Reading
 reading_at r h held m = reading (progress_at r h m) (take (min r.held 4105) held)
+
+abbrev pub reader_of : Step → Reader
+reader_of (Open r) = r
+reader_of (Whole r) = r
+
+abbrev pub is_whole : Step → Bool
+is_whole (Open r) = false
+is_whole (Whole r) = true
 
 -- after a byte: the record at hand is whole, and still to be settled, or not
 unfoldable pub stepped : Reader → Bool → House → List ℕ → List ℕ → Reading

@@ -9,7 +9,7 @@ returns-then-r-ne0 c = let a = c.args in let p = c.requires in let b = get_or a.
 
 -- src/bytes.rt:164:9
 pub returns-then-r : goal.returns-then-r
-returns-then-r c = let a = c.args in let p = c.requires in let b = get_or a.piece.now a.from 0 in let q = one_byte a.r b a.held.now p.fact_1 p.fact_2 a.piece.now a.from p.fact_3 refl _ false a.held.now a.count a.words (step_ended a.r b a.held.now p.fact_1 p.fact_2 c.if-r-ne0.false _ a.count a.words c.wrong-reader.ensures c.if-r.true) in record { piece_after = q.0; stepped_to = q.1.0; kept = q.1.1 }
+returns-then-r c = let a = c.args in let p = c.requires in let b = get_or a.piece.now a.from 0 in let q = one_byte a.r b a.held.now p.fact_1 p.fact_2 a.piece.now a.from p.fact_3 refl _ false a.held.now a.count a.words (step_ended a.r b a.held.now p.fact_1 p.fact_2 c.if-r-ne0.false _ a.count a.words c.wrong.ensures c.if-r.true) in record { piece_after = q.0; stepped_to = q.1.0; kept = q.1.1 }
 
 -- src/bytes.rt:174:9
 pub returns-then-more-lt6 : goal.returns-then-more-lt6
@@ -25,7 +25,7 @@ pair-kind-requires c = simp length-set (omega (arith, c.requires.fact_2))
 
 -- src/bytes.rt:184:9
 pub returns-then-not-may_come : goal.returns-then-not-may_come
-returns-then-not-may_come c = let a = c.args in let p = c.requires in let b = get_or a.piece.now a.from 0 in let w = c.wide-at.ensures in let q = one_byte a.r b a.held.now p.fact_1 p.fact_2 a.piece.now a.from p.fact_3 refl _ false (set a.held.now a.r.held b) a.count a.words (step_wrong a.r b a.held.now p.fact_1 p.fact_2 c.if-r-ne0.false c.if-r.false a.count a.words (omega (arith, ap (λ (x : Reader). x.held) c.holding-more.ensures, c.if-more-lt6.false)) _ _ (rw w at c.pair-kind.ensures.value) (rw w at c.word-size.ensures) _ c.may_come.ensures _ c.wrong-reader-then-not-may_come.ensures (ap not c.if-not-may_come.true)) in record { piece_after = rw w q.0; stepped_to = rw w q.1.0; kept = q.1.1 }
+returns-then-not-may_come c = let a = c.args in let p = c.requires in let b = get_or a.piece.now a.from 0 in let w = c.wide-at.ensures in let q = one_byte a.r b a.held.now p.fact_1 p.fact_2 a.piece.now a.from p.fact_3 refl _ false (set a.held.now a.r.held b) a.count a.words (step_wrong a.r b a.held.now p.fact_1 p.fact_2 c.if-r-ne0.false c.if-r.false a.count a.words (omega (arith, ap (λ (x : Reader). x.held) c.holding-more.ensures, c.if-more-lt6.false)) _ _ (rw w at c.pair-kind.ensures.value) (rw w at c.word-size.ensures) _ c.may_come.ensures _ c.wrong-then-not-may_come.ensures (ap not c.if-not-may_come.true)) in record { piece_after = rw w q.0; stepped_to = rw w q.1.0; kept = q.1.1 }
 
 -- src/bytes.rt:191:9
 pub returns-then-wide : goal.returns-then-wide
