@@ -5,7 +5,8 @@ ghost use Rattle.housefile.specs.Records.{number, words_of, size, kind};
 ghost use Rattle.save.specs.Reading.{may_come, fed};
 ghost use Rattle.restore.specs.Standing.{held_to, wrong_at, progress_at, reading_at, reader_of, is_whole, stepped, SteppedTo, Rested, Kept};
 
-use crate::Reader;
+use crate::records::Kind;
+use crate::{Reader, Stage};
 use dlx::words::wide;
 
 // A reader whose record at hand is whole, and still to be settled, or is not.
@@ -44,11 +45,15 @@ pub(crate) fn word(held: &[u8], at: usize) -> u32
 fn may_come(r: Reader, count: u32, words: u32, kind: u32, size: u32) -> bool
     ensures { (h : House) (m : List ℕ) → h.count ≡ count → h.words ≡ words → result ≡ may_come (progress_at r h m) kind size }
 {
-    if !r.opened {
-        return kind == 5 && size == 16;
+    let Some(kind) = Kind::of(kind) else {
+        return false;
+    };
+    if r.stage == Stage::Start {
+        return kind == Kind::Turn && size == 16;
     }
     match kind {
-        6 => {
+        Kind::Turn => false,
+        Kind::Guest => {
             r.queues == 0
                 && r.frames == 0
                 && count < 8
@@ -56,11 +61,13 @@ fn may_come(r: Reader, count: u32, words: u32, kind: u32, size: u32) -> bool
                 && size <= 1224
                 && size % 4 == 0
         }
-        7 => r.frames == 0 && r.queues < count && r.queues < 8 && size <= 128 && size % 4 == 0,
-        _ if r.queues != count || count == 0 => false,
-        3 => r.frames < words / 1024 && size == 4100,
-        4 => r.frames == words / 1024 && size == 0,
-        _ => false,
+        Kind::Tickets => {
+            r.frames == 0 && r.queues < count && r.queues < 8 && size <= 128 && size % 4 == 0
+        }
+        Kind::Frame => {
+            r.queues == count && count != 0 && r.frames < words / 1024 && size == 4100
+        }
+        Kind::End => r.queues == count && count != 0 && r.frames == words / 1024 && size == 0,
     }
 }
 
@@ -128,7 +135,7 @@ pub(crate) fn take_some(
             next,
         };
     }
-    if r.ended {
+    if r.stage == Stage::Ended {
         return Steps {
             step: Step::Open(wrong(r)),
             next,

@@ -1,4 +1,4 @@
-use Rattle.std.proofs.Common.{take, refl, arith, length-take-le}
+use Rattle.std.proofs.Common.{refl, arith, length-take-le}
 use Rattle.housefile.specs.Records.{words_of}
 use Rattle.restore.proofs.Bodies.{words_step}
 use Rattle.restore.proofs.records.words_of.Goals as goal
