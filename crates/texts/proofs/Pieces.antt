@@ -1,6 +1,5 @@
 -- What the calls of a function give together, as laws over plain variables.
-use Rattle.std.proofs.Common.{◌≡◌, ℕ, ◌+◌, ◌-◌, ◌*◌, ◌%◌, ◌^◌, ◌<◌, ◌≤◌, Bool, true, false, List, [], ◌∷◌, ◌++◌, length, get_or, take, drop, set, sym, refl, ap, ◌∙◌, add-one, arith, length-append, length-set, drop_of_length-le, length-take, length-take-le, drop-cons, take-suc-set, take_at, le-ltb, lt-ltb, eq-eqb, ne_eqb, Option, Some, None, is_some}
-use Rattle.dlx.specs.Choice.{when◌then◌else◌}
+use Rattle.std.proofs.Common.{◌≡◌, ℕ, ◌+◌, ◌*◌, ◌%◌, ◌^◌, ◌<◌, ◌≤◌, Bool, true, false, List, [], ◌∷◌, ◌++◌, length, get_or, take, drop, set, sym, refl, ap, ◌∙◌, add-one, arith, length-append, length-set, drop_of_length-le, length-take-le, drop-cons, take-suc-set, take_at, le-ltb, lt-ltb, eq-eqb, ne_eqb, Option, Some, None, is_some}
 use Rattle.decimal.specs.Raw.{low_first, raw}
 use Rattle.decimal.specs.Texts.{Text, text, put}
 use Rattle.decimal.proofs.Texts.{put_behind, exactly, whole}

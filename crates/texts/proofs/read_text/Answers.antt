@@ -1,4 +1,4 @@
-use Rattle.std.proofs.Common.{◌≡◌, ◌+◌, refl, arith, rules}
+use Rattle.std.proofs.Common.{◌≡◌, ◌+◌, arith, rules}
 use Rattle.texts.proofs.Pieces.{behind_none, behind_more, whole_of}
 use Rattle.texts.proofs.read_text.Goals as goal
 

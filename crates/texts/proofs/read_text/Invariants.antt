@@ -1,4 +1,4 @@
-use Rattle.std.proofs.Common.{◌≡◌, ◌-◌, ◌^◌}
+use Rattle.std.proofs.Common.{◌-◌, ◌^◌}
 use Rattle.texts.specs.Reading.{held, Fits, Behind}
 use Rattle.texts.proofs.read_text.Given as goal
 

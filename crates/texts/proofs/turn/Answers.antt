@@ -1,4 +1,4 @@
-use Rattle.std.proofs.Common.{refl, rules}
+use Rattle.std.proofs.Common.{refl}
 use Rattle.texts.specs.Reading.{no_words}
 use Rattle.texts.proofs.turn.Goals as goal
 

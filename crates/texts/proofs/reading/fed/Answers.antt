@@ -1,4 +1,4 @@
-use Rattle.std.proofs.Common.{refl, arith}
+use Rattle.std.proofs.Common.{arith}
 use Rattle.texts.proofs.Pieces.{fed_on, fed_done}
 use Rattle.texts.proofs.reading.fed.Goals as goal
 
