@@ -1,7 +1,6 @@
 use native.Mathlib.Omega.{arith}
 use Rattle.report.proofs.Texts.{whole_is, put_as}
 use Rattle.list.proofs.Frames.{frame_refused, frame_done}
-use borrow.Author.Rules.{rules}
 use Rattle.list.proofs.frame.text_of.Goals as goal
 
 pub returns-then-number-ne0 : goal.returns-then-number-ne0
