@@ -12,6 +12,7 @@ ghost use Rattle.report.specs.Report.{field, line, line_of, lines_from, report_o
 
 use decimal::{put_byte, put_decimal, put_text};
 use dlx::partition::Partition;
+use dlx::words::wide;
 use house::{Answer, House, Refusal};
 
 // A number, of at most 20 digits, and the byte behind it.
@@ -26,7 +27,7 @@ pub fn put_field(out: &mut [u8], at: usize, n: u64, behind: u8) -> usize
 pub fn put_word(out: &mut [u8], at: usize, n: u32, behind: u8) -> usize
     ensures { Puts out.old at out.new result (field n behind) 11 }
 {
-    put_field(out, at, n as u64, behind)
+    put_field(out, at, u64::from(n), behind)
 }
 
 // A line of numbers: six words and the steps, at most 87 bytes.
@@ -69,27 +70,14 @@ fn put_partition(out: &mut [u8; 1024], at: usize, i: u32, p: Partition) -> usize
     )
 }
 
-// How many of the 8 places a count of partitions uses.
-fn used(count: u32) -> u32
-    ensures { result ≡ min count 8 }
-{
-    if count < 8 {
-        return count;
-    }
-    8
-}
-
 // A line for each of the first count partitions; there are no more than 8.
 fn put_partitions(out: &mut [u8; 1024], at: usize, count: u32, parts: [Partition; 8]) -> usize
     ensures { Puts out.old at out.new result (lines_from 0 (take count parts)) 696 }
 {
-    let n = used(count);
+    let used = wide(count).min(8);
     let mut end = at;
-    let mut i: u32 = 0;
-    while i < n {
-        let place = dlx::words::wide(i);
-        end = put_partition(out, end, i, parts[place]);
-        i += 1;
+    for (i, p) in parts[..used].iter().enumerate() {
+        end = put_partition(out, end, i as u32, *p);
     }
     end
 }
