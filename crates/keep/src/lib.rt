@@ -44,16 +44,13 @@ fn keep_piece(rt: &HostRuntime, w: Writing, house: House, memory: &[u32], path: 
     ensures { Onward (world house memory.now) w result.writing result.more }
 {
     let mut buffer = files::large_buffer();
-    let s = save(house, memory, w.count(), &mut buffer);
-    if s.number != 0 {
+    let Ok(n) = save(house, memory, w.count(), &mut buffer) else {
         wrong(rt, b"a house that can be saved", b"one that is damaged");
-        let writing = w.spoiled();
         return Step {
-            writing,
+            writing: w.spoiled(),
             more: false,
         };
-    }
-    let n = s.count;
+    };
     if n == 0 {
         return Step {
             writing: w,
