@@ -4,11 +4,12 @@
 
 ghost use Rattle.std.specs.Prelude.{◌≡◌, ℕ, min, List, length, slice_set};
 ghost use Rattle.dlx.specs.Choice.{when◌then◌else◌};
-ghost use Rattle.house.specs.Boot.{verdict};
+ghost use Rattle.house.specs.Refusals.{verdict_of as check_verdict};
 ghost use Rattle.housefile.specs.Records.{may_come, verdict_of};
 ghost use Rattle.housefile.specs.Reader.{no_record, no_reader, read, further, spoils, spoiled, placed, completed, settled, took, fed, answer_of};
 
 use dlx::words::wide;
+use house::Refusal;
 
 // The record at hand: how many of its bytes have come, its body length, its kind, the frame number in front of a kind 3, and the last four bytes.
 #[derive(Clone, Copy)]
@@ -31,13 +32,6 @@ pub struct Reader {
     pub at: Record,
 }
 
-// What the file's end makes of it: 0 and 0, or 15 and the start of the first wrong record.
-#[derive(Clone, Copy)]
-pub struct Finish {
-    pub number: u32,
-    pub detail: u64,
-}
-
 impl Record {
     // No byte has come.
     fn none() -> Record
@@ -58,132 +52,115 @@ impl Reader {
     pub fn none() -> Reader
         ensures { result ≡ no_reader }
     {
-        let at = Record::none();
         Reader {
             wrong: false,
             start: 0,
             last: 0,
             lists: 0,
             total: 0,
-            at,
+            at: Record::none(),
         }
     }
-}
-
-// One of two words.
-fn choose(first: bool, a: u32, b: u32) -> u32
-    ensures { result ≡ (when first then a else b) }
-{
-    if first {
-        return a;
-    }
-    b
 }
 
 // A word at its place; none where the list ends before it.
 fn put(list: &mut [u32], i: usize, word: u32)
     ensures { list.new ≡ slice_set list.old i word }
 {
-    if list.len() <= i {
-        return;
+    if i < list.len() {
+        list[i] = word;
     }
-    list[i] = word;
 }
 
 // The record with one byte more.
+#[tactic(auto, unfolding(crate::specs::Reader::further))]
 fn further(n: Record, b: u8) -> Record
     ensures { result ≡ further n b }
 {
-    let word = n.word / 256 + b as u32 * 0x100_0000;
-    let bytes = std::num::wrapping_add_u32(n.bytes, 1);
-    let size = choose(n.bytes == 3, word, n.size);
-    let kind = choose(n.bytes == 5, word / 0x1_0000, n.kind);
-    let frame = choose(n.bytes == 9, word, n.frame);
-    Record {
-        bytes,
-        size,
-        kind,
-        frame,
+    let word = n.word / 256 + u32::from(b) * 0x100_0000;
+    let more = Record {
+        bytes: n.bytes.wrapping_add(1),
         word,
+        ..n
+    };
+    match n.bytes {
+        3 => Record { size: word, ..more },
+        5 => Record {
+            kind: word / 0x1_0000,
+            ..more
+        },
+        9 => Record {
+            frame: word,
+            ..more
+        },
+        _ => more,
     }
 }
 
 // A record of this kind and body length may come after one of the kind `last`.
+#[tactic(auto, unfolding(crate::specs::Records::may_come))]
 fn may_come(last: u32, lists: u32, kind: u32, size: u32) -> bool
     ensures { result ≡ may_come last lists kind size }
 {
     match kind {
-        1 => (last == 0) & (size == 8),
-        2 => ((last == 1) | (last == 2)) & (lists < 8) & (size % 4 == 0) & (size <= 1024),
-        3 => ((last == 2) | (last == 3)) & (size == 4100),
-        4 => ((last == 2) | (last == 3)) & (size == 0),
+        1 => last == 0 && size == 8,
+        2 => (last == 1 || last == 2) && lists < 8 && size % 4 == 0 && size <= 1024,
+        3 => (last == 2 || last == 3) && size == 4100,
+        4 => (last == 2 || last == 3) && size == 0,
         _ => false,
     }
 }
 
 // The header or the frame number has just come, and is wrong.
+#[tactic(auto, unfolding(crate::specs::Reader::spoils))]
 fn spoils(r: Reader, n: Record) -> bool
     ensures { result ≡ spoils r n }
 {
-    if n.bytes == 6 {
-        return !may_come(r.last, r.lists, n.kind, n.size);
+    match n.bytes {
+        6 => !may_come(r.last, r.lists, n.kind, n.size),
+        10 => n.kind == 3 && 16 <= n.frame,
+        _ => false,
     }
-    (n.bytes == 10) & (n.kind == 3) & (16 <= n.frame)
 }
 
 // A whole word of the body, at its place.
+#[tactic(auto, unfolding(crate::specs::Reader::placed))]
 fn place(r: Reader, n: Record, turns: &mut [u32; 2], frames: &mut [u32; 2048], memory: &mut [u32])
     ensures { (pages : List ℕ) → read r turns.new pages frames.new memory.new ≡ placed r n (read r turns.old pages frames.old memory.old) }
 {
-    if n.bytes < 10 {
-        return;
-    }
-    if n.bytes % 4 != 2 {
+    if n.bytes < 10 || n.bytes % 4 != 2 {
         return;
     }
     let j = wide(n.bytes / 4 - 2);
-    if n.kind == 1 {
-        put(turns, j, n.word);
-        return;
+    match n.kind {
+        1 => put(turns, j, n.word),
+        2 => put(frames, wide(r.total) + j, n.word),
+        3 if j != 0 => put(memory, wide(n.frame) * 1024 + (j - 1), n.word),
+        _ => {}
     }
-    if n.kind == 2 {
-        put(frames, wide(r.total) + j, n.word);
-        return;
-    }
-    if n.kind != 3 {
-        return;
-    }
-    if j == 0 {
-        return;
-    }
-    put(memory, wide(n.frame) * 1024 + (j - 1), n.word);
 }
 
 // The reader behind a whole record. A list's page count goes to its place.
+#[tactic(auto, unfolding(crate::specs::Reader::completed))]
 fn complete(r: Reader, n: Record, pages: &mut [u32; 8]) -> Reader
     ensures { (result, pages.new) ≡ completed r n pages.old }
 {
-    let at = Record::none();
-    let start = std::num::wrapping_add_u64(r.start, 6 + n.size as u64);
+    let next = Reader {
+        wrong: false,
+        start: r.start.wrapping_add(6 + u64::from(n.size)),
+        last: n.kind,
+        at: Record::none(),
+        ..r
+    };
     if n.kind != 2 {
-        return Reader {
-            wrong: false,
-            start,
-            last: n.kind,
-            lists: r.lists,
-            total: r.total,
-            at,
-        };
+        return next;
     }
     let count = n.size / 4;
     put(pages, wide(r.lists), count);
     Reader {
-        wrong: false,
-        start,
-        last: 2,
-        lists: std::num::wrapping_add_u32(r.lists, 1),
-        total: std::num::wrapping_add_u32(r.total, count),
-        at,
+        lists: r.lists.wrapping_add(1),
+        total: r.total.wrapping_add(count),
+        ..next
     }
 }
 
@@ -191,12 +168,11 @@ fn complete(r: Reader, n: Record, pages: &mut [u32; 8]) -> Reader
 fn spoil(r: Reader) -> Reader
     ensures { result ≡ spoiled r }
 {
-    let mut x = r;
-    x.wrong = true;
-    x
+    Reader { wrong: true, ..r }
 }
 
 // The reader after the byte that made the record n.
+#[tactic(auto, unfolding(crate::specs::Reader::settled))]
 fn settle(
     r: Reader,
     n: Record,
@@ -212,14 +188,13 @@ fn settle(
     }
     place(r, n, turns, frames, memory);
     if wide(n.bytes) != 6 + wide(n.size) {
-        let mut x = r;
-        x.at = n;
-        return x;
+        return Reader { at: n, ..r };
     }
     complete(r, n, pages)
 }
 
 // One byte.
+#[tactic(auto, unfolding(crate::specs::Reader::took))]
 fn take(
     r: Reader,
     b: u8,
@@ -236,11 +211,11 @@ fn take(
     if r.last == 4 {
         return spoil(r);
     }
-    let n = further(r.at, b);
-    settle(r, n, turns, pages, frames, memory)
+    settle(r, further(r.at, b), turns, pages, frames, memory)
 }
 
 // A piece of the file.
+#[tactic(auto, using(crate::proofs::Parts::fed_on, crate::proofs::Parts::fed_done))]
 pub fn feed(
     r: Reader,
     piece: &[u8],
@@ -252,45 +227,28 @@ pub fn feed(
     ensures { read result turns.new pages.new frames.new memory.new ≡ fed (read r turns.old pages.old frames.old memory.old) piece.now }
 {
     let mut s = r;
-    let mut i = 0;
-    while i < piece.len() {
-        s = take(s, piece[i], turns, pages, frames, memory);
-        i += 1;
+    for b in piece {
+        s = take(s, *b, turns, pages, frames, memory);
     }
     s
 }
 
-// At the file's end.
-pub fn finished(r: Reader) -> Finish
-    ensures { (turns pages frames memory : List ℕ) → verdict result.number result.detail ≡ verdict_of (answer_of (read r turns pages frames memory)) }
+// At the file's end: the start of the first wrong record is told.
+#[tactic(auto, unfolding(crate::specs::Records::verdict_of, crate::specs::Reader::answer_of))]
+pub fn finished(r: Reader) -> Result<(), Refusal>
+    ensures { (turns pages frames memory : List ℕ) → check_verdict 0 result ≡ verdict_of (answer_of (read r turns pages frames memory)) }
 {
-    if r.wrong {
-        return Finish {
-            number: 15,
-            detail: r.start,
-        };
+    if r.wrong || r.last != 4 {
+        return Err(Refusal::WrongHouseFile(r.start));
     }
-    if r.last != 4 {
-        return Finish {
-            number: 15,
-            detail: r.start,
-        };
-    }
-    Finish {
-        number: 0,
-        detail: 0,
-    }
+    Ok(())
 }
 
 // A count, or the room where that is less.
 fn at_most(n: u32, room: usize) -> usize
     ensures { result ≡ min n room }
 {
-    let w = wide(n);
-    if w <= room {
-        return w;
-    }
-    room
+    wide(n).min(room)
 }
 
 // How many of these page counts are the file's.

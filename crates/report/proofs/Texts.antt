@@ -1,15 +1,11 @@
 -- The lines of partitions, one more in each turn, and a whole text.
 use mathlib.Core.Path.{◌≡◌, refl, sym, ap, ◌∙◌}
-use mathlib.Core.Bool.{true, false}
-use mathlib.Core.List.{List, [], ◌∷◌, ◌++◌, map, append-nil, append_assoc}
-use Prim.Native.Nat.{ℕ, suc, ◌+◌, ◌*◌, ◌<◌, ◌≤◌, ◌^◌, min}
+use mathlib.Core.List.{List, [], ◌∷◌, ◌++◌, append-nil, append_assoc}
+use Prim.Native.Nat.{ℕ, suc, ◌+◌, ◌*◌, ◌<◌, ◌≤◌, ◌^◌}
 use native.Mathlib.Numerals.{add-one}
 use native.Mathlib.Omega.{arith}
-use borrow.Author.Tests.{ltb-true, ltb-false}
-use lib.Dec.{ltb}
-use lib.ListN.{length, get_or, take, drop, length-append, length-map}
-use lib.Seq.{take_all, take-suc, take_at, length-take-le}
-use Rattle.dlx.proofs.Tests.{by_test}
+use lib.ListN.{length, get_or, take, drop, length-append}
+use lib.Seq.{take-suc, take_at, length-take-le}
 use Rattle.dlx.specs.declared.partition.Partition.{Partition}
 use Rattle.decimal.specs.Decimals.{decimal}
 use Rattle.decimal.specs.Texts.{Text, text, put, Puts}
@@ -63,10 +59,6 @@ lines_more ps i d l =
     let z : 0 + length (take i ps) ≡ i = omega (arith, length-take-le i ps (omega arith)) in
     rw (add-one i, take-suc ps i d l, lines_behind_lem 0 (take i ps) (get_or ps i d), z)
 
--- the length that an array of structs is known by
-pub unmapped : {A B : Type 0} (f : A → B) (l : List A) (n : ℕ) → length (map f l) ≡ n → length l ≡ n
-unmapped f l n e = sym (length-map l f) ∙ e
-
 pub lines_none : {s : List ℕ} {u : ℕ} (ps : List Partition) → Puts s u s u (lines_from 0 (take 0 ps)) (87 * 0)
 unfolding lines_from
 lines_none ps = nothing
@@ -74,12 +66,3 @@ lines_none ps = nothing
 pub lines_on : {s t r : List ℕ} {u v w : ℕ} (ps : List Partition) (i : ℕ) (d : Partition) → i < length ps
     → Puts s u t v (lines_from 0 (take i ps)) (87 * i) → Puts t v r w (line_of i (get_or ps i d)) 87 → Puts s u r w (lines_from 0 (take (i + 1) ps)) (87 * (i + 1))
 lines_on ps i d l p q = rw (lines_more ps i d l) (roomy _ (p then q) (omega arith))
-
-pub lines_done : (ps : List Partition) (i n count : ℕ) → length ps ≡ 8 → n ≡ min count 8 → i ≤ n → n ≤ i → take i ps ≡ take count ps
-lines_done ps i n count l e a b =
-    by_test (ltb count 8)
-    (λ (x : ltb count 8 ≡ true).
-    let z : i ≡ count = omega (arith, ltb-true count 8 x) in
-    rw z)
-    (λ (x : ltb count 8 ≡ false).
-    take_all i ps (omega (arith, ltb-false count 8 x)) ∙ sym (take_all count ps (omega (arith, ltb-false count 8 x))))

@@ -20,23 +20,6 @@ pub struct Saved {
     pub house: House,
 }
 
-// Byte k of a word.
-fn byte_of(w: u32, k: usize) -> u8
-    requires { k < 4 }
-    ensures { result ≡ get_or (little 4 w) k 0 }
-{
-    if k == 0 {
-        return (w % 256) as u8;
-    }
-    if k == 1 {
-        return (w / 256 % 256) as u8;
-    }
-    if k == 2 {
-        return (w / 256 / 256 % 256) as u8;
-    }
-    (w / 256 / 256 / 256 % 256) as u8
-}
-
 // Word j of the record of frame f.
 fn frame_word(memory: &[u32], f: usize, j: usize) -> u32
     requires fact_1 { f * 1024 + 1024 ≤ length memory.now }
@@ -45,9 +28,10 @@ fn frame_word(memory: &[u32], f: usize, j: usize) -> u32
     ensures { result ≡ get_or (frame_words memory.now f) j 0 }
 {
     if j == 0 {
-        return f as u32;
+        f as u32
+    } else {
+        memory[f * 1024 + (j - 1)]
     }
-    memory[f * 1024 + (j - 1)]
 }
 
 // Byte k of it.
@@ -57,17 +41,12 @@ fn frame_byte(memory: &[u32], f: usize, k: usize) -> u8
     requires fact_3 { f < 2 ^ 32 }
     ensures { result ≡ get_or (record_of 3 (frame_words memory.now f)) k 0 }
 {
-    if k < 4 {
-        return byte_of(4100, k);
+    match k {
+        0..=3 => 4100u32.to_le_bytes()[k],
+        4 => 3,
+        5 => 0,
+        _ => frame_word(memory, f, (k - 6) / 4).to_le_bytes()[(k - 6) % 4],
     }
-    if k == 4 {
-        return 3;
-    }
-    if k == 5 {
-        return 0;
-    }
-    let w = frame_word(memory, f, (k - 6) / 4);
-    byte_of(w, (k - 6) % 4)
 }
 
 // Byte k of the file: of a head of n bytes, of so many frames, or of kind 4.
@@ -104,35 +83,16 @@ fn put_piece(
     requires fact_3 { at + count ≤ n + (frames * 4106 + 6) }
     ensures { out.new ≡ take count (drop at (take n head.now ++ tail_of memory.now frames)) ++ drop count out.old }
 {
-    let mut i = 0;
-    while i < count {
-        out[i] = byte_at(head, n, memory, frames, at + i);
-        i += 1;
+    for (i, b) in out[..count].iter_mut().enumerate() {
+        *b = byte_at(head, n, memory, frames, at + i);
     }
 }
 
-// At most 64 KiB.
-fn capped(n: usize) -> usize
-    ensures { result ≡ min n 65536 }
-{
-    if n <= 65536 {
-        return n;
-    }
-    65536
-}
-
-// How many bytes a piece has.
+// How many bytes a piece has: as many as are left, and there is room for, at most 64 KiB.
 fn piece_length(size: usize, at: u64, room: usize) -> usize
     ensures { result ≡ min (min room 65536) (size - at) }
 {
-    if size <= at as usize {
-        return 0;
-    }
-    let left = size - at as usize;
-    if left <= room {
-        return capped(left);
-    }
-    capped(room)
+    size.saturating_sub(at as usize).min(room).min(65536)
 }
 
 // Bytes of the file of a house and its memory, from an offset on: as many as there are, and there is room for, at most 64 KiB.

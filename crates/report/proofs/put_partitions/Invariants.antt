@@ -1,11 +1,7 @@
-use Prim.Native.Nat.{◌*◌, ◌-◌, ◌≤◌}
-use lib.ListN.{take}
+use Rattle.std.proofs.Common.{take, ◌*◌}
 use Rattle.decimal.specs.Texts.{Puts}
 use Rattle.report.specs.Report.{lines_from}
 use Rattle.report.proofs.put_partitions.Given as goal
 
 abbrev pub invariant-loop-i : goal.invariant-loop-i
-invariant-loop-i l = Puts l.initial.out l.at l.out l.end (lines_from 0 (take l.i l.parts)) (87 * l.i) × (l.i ≤ l.n) × (l.n ≤ 8)
-
-abbrev pub decreases-loop-i : goal.decreases-loop-i
-decreases-loop-i l = l.n - l.i
+invariant-loop-i l = Puts l.initial.out l.at l.out l.end (lines_from 0 (take l.i l.p-items)) (87 * l.i)

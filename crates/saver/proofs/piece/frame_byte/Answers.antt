@@ -1,20 +1,18 @@
-use mathlib.Core.Path.{◌∙◌}
-use native.Mathlib.Omega.{arith}
+use Rattle.std.proofs.Common.{arith}
+use Rattle.save.specs.Saved.{little}
+use Rattle.saver.proofs.Heads.{word_bytes}
 use Rattle.saver.proofs.Pieces.{frame_front, frame_kind, frame_zero, frame_body}
 use Rattle.saver.proofs.piece.frame_byte.Goals as goal
 
--- src/piece.rt:52:9
-pub returns-then-k-lt4 : goal.returns-then-k-lt4
-returns-then-k-lt4 c = c.byte_of.ensures ∙ frame_front c.args.memory.now c.args.f c.requires.fact_1 c.args.k c.if-k-lt4.true
+pub returns-in-4 : goal.returns-in-4
+returns-in-4 c = frame_kind c.args.memory.now c.args.f c.requires.fact_1 c.args.k c.in-4.is
 
--- src/piece.rt:55:9
-pub returns-then-k-eq4 : goal.returns-then-k-eq4
-returns-then-k-eq4 c = frame_kind c.args.memory.now c.args.f c.requires.fact_1 c.args.k c.if-k-eq4.true
+pub returns-in-5 : goal.returns-in-5
+returns-in-5 c = frame_zero c.args.memory.now c.args.f c.requires.fact_1 c.args.k c.in-5.is
 
--- src/piece.rt:58:9
-pub returns-then-k-eq5 : goal.returns-then-k-eq5
-returns-then-k-eq5 c = frame_zero c.args.memory.now c.args.f c.requires.fact_1 c.args.k c.if-k-eq5.true
+pub returns-in-0-to-3 : goal.returns-in-0-to-3
+unfolding little
+returns-in-0-to-3 c = rw c.to_le_bytes.ensures (frame_front c.args.memory.now c.args.f c.requires.fact_1 c.args.k (omega arith))
 
--- src/piece.rt:47:1
-pub returns : goal.returns
-returns c = c.byte_of-2.ensures ∙ frame_body c.args.memory.now c.args.f c.requires.fact_1 c.args.k _ (omega arith) c.requires.fact_2 c.frame_word-w.ensures
+pub returns-in_default : goal.returns-in_default
+returns-in_default c = rw (c.to_le_bytes-in_default.ensures, word_bytes c.frame_word.result) (frame_body c.args.memory.now c.args.f c.requires.fact_1 c.args.k _ (omega arith) c.requires.fact_2 c.frame_word.ensures)

@@ -2,11 +2,9 @@ use Rattle.save.specs.Saved.{frame_words}
 use Rattle.saver.proofs.Pieces.{frame_word_at}
 use Rattle.saver.proofs.piece.frame_word.Goals as goal
 
--- src/piece.rt:41:9
 pub returns-then-j-eq0 : goal.returns-then-j-eq0
 unfolding frame_words
 returns-then-j-eq0 c = rw c.if-j-eq0.true
 
--- src/piece.rt:36:1
-pub returns : goal.returns
-returns c = frame_word_at c.args.memory.now c.args.f c.requires.fact_1 c.args.j c.if-j-eq0.false c.requires.fact_2
+pub returns-else-j-eq0 : goal.returns-else-j-eq0
+returns-else-j-eq0 c = frame_word_at c.args.memory.now c.args.f c.requires.fact_1 c.args.j c.if-j-eq0.false c.requires.fact_2
