@@ -1,5 +1,6 @@
 -- The words shown of a read-out's output are words of it; and the text of an audit.
 use Rattle.std.proofs.Common.{◌≡◌, ℕ, ◌≤◌, not, eqb, ltb, leb, List, length, sym, ap, subst, append-nil, arith, ltb-false, eq-eqb, ne_eqb, eqb-true, leb-true}
+use Rattle.std.specs.Bool.{then_some}
 use Rattle.dlx.proofs.Kept.{either}
 use Rattle.house.specs.House.{pages_of}
 use Rattle.house.specs.Damage.{damaged}
@@ -70,6 +71,6 @@ module _ {s t : List ℕ} {u v : ℕ} (c : Command) (h : House) (m : List ℕ) (
   unfolding audit_text_of
   audit_refused z = rw (← e, ne_eqb f.number 0 z, append-nil (told_of c.op f.number 0 h m)) (roomy most_read p (omega arith))
 
-  pub audit_told : {r : List ℕ} {w : ℕ} → f.number ≡ 0 → Puts t v r w (stale_of f.stale f.partition f.page) 48 → Puts s u r w (audit_text_of c h m) most_read
+  pub audit_told : {r : List ℕ} {w : ℕ} → f.number ≡ 0 → Puts t v r w (stale_of (then_some f.stale (f.partition, f.page))) 48 → Puts s u r w (audit_text_of c h m) most_read
   unfolding audit_text_of
   audit_told z q = rw (← e, eq-eqb f.number 0 z) (roomy most_read (p then q) (omega arith))

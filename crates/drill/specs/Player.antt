@@ -1,5 +1,6 @@
 -- What the player keeps, and what each command does to it and tells of it.
 use Rattle.std.specs.Prelude.{ℕ, ◌+◌, ◌-◌, ◌*◌, min, Bool, ◌||◌, List, [], ◌++◌, take, drop, ◌==◌, nat_eq}
+use Rattle.std.specs.Bool.{then_some}
 use Rattle.dlx.specs.Choice.{when◌then◌else◌}
 use Rattle.house.specs.declared.House.{House}
 use Rattle.house.specs.Lists.{list_from}
@@ -79,7 +80,7 @@ read_text_of c more h m words =
 unfoldable pub audit_text_of : Command → House → List ℕ → List ℕ
 audit_text_of c h m =
     let f = audit_call (world h m) in
-    told_of c.op f.number 0 h m ++ (when nat_eq f.number 0 then stale_of f.stale f.partition f.page else [])
+    told_of c.op f.number 0 h m ++ (when nat_eq f.number 0 then stale_of (then_some f.stale (f.partition, f.page)) else [])
 
 -- any call; a read-out and an audit change nothing
 abbrev pub changes_nothing : Command → Bool

@@ -144,7 +144,8 @@ fn audit(h: House, c: Command, memory: &[u32], text: &mut [u8; ROOM], used: usiz
             used: called,
         };
     }
-    let end = lines::stale(text, called, f.stale, f.partition, f.page);
+    let found = f.stale.then_some((f.partition, f.page));
+    let end = lines::stale(text, called, found);
     Done {
         house: h,
         used: end,

@@ -148,8 +148,7 @@ fn play(
         reading: reached,
         used: 0,
     };
-    let mut turns = u64::MAX;
-    while turns > 0 {
+    for _ in 0..u64::MAX {
         let here = s.reading;
         let c = here.command;
         if c.size == 0 {
@@ -157,7 +156,6 @@ fn play(
             return;
         }
         s = turn(rt, source, s, input, memory, few, many, held, output, text);
-        turns -= 1;
     }
 }
 

@@ -29,13 +29,8 @@ fn shift(input: &mut [u8], at: usize, end: usize) -> usize
     requires fact_2 { end ≤ length input.old }
     ensures { result ≡ end - at }
 {
-    let left = end - at;
-    let mut i = 0;
-    while i < left {
-        input[i] = input[at + i];
-        i += 1;
-    }
-    left
+    input.copy_within(at..end, 0);
+    end - at
 }
 
 // The unread bytes to the front, and more behind them. Gives how many there are.
@@ -121,15 +116,13 @@ pub fn settle(
     ensures { Stands result (length input.old) result.lent × (result.lent ≤ length memory.old) }
 {
     let mut r = next(source, input, before, lent);
-    let mut turns = u64::MAX;
-    while turns > 0 {
+    for _ in 0..u64::MAX {
         let c = r.command;
         if !changes_memory(c.op) {
             return r;
         }
         let after = changed(memory, r.lent, c);
         r = next(source, input, r, after);
-        turns -= 1;
     }
     r
 }

@@ -37,10 +37,8 @@ pub struct Pieced {
 fn mark(output: &mut [u8])
     ensures { output.new ≡ marked_bytes (length output.old) }
 {
-    let mut i = 0;
-    while i < output.len() {
-        output[i] = (i % 251) as u8;
-        i += 1;
+    for (i, b) in output.iter_mut().enumerate() {
+        *b = (i % 251) as u8;
     }
 }
 

@@ -4,6 +4,8 @@
 // the whole memory; or `refused N D`. It takes no words.
 #![tactic(auto)]
 
+ghost use Rattle.std.specs.Prelude.{◌<◌};
+
 use boot::boot;
 use command::{asks_help, put_out, wrong};
 use dlx::partition::{Partition, Processor, Table, Timer};
@@ -13,47 +15,32 @@ use house::{Answer, House};
 use hypervisor::calls::run;
 
 // The frame of a guest page: the list of the 67 is a permutation of the frames 1 to 67.
-fn frame_of(page: u32) -> u32 {
+fn frame_of(page: u32) -> u32
+    ensures { result < 68 }
+{
     (page % 67 * 13 + 5) % 67 + 1
 }
 
 // A word of a guest page.
 fn put(words: &mut [u32; 69632], page: u32, at: u32, w: u32) {
-    let base = frame_of(page) % 68 * 1024;
-    let i = wide(base + at % 1024);
-    if i < 69632 {
-        words[i] = w;
-    }
+    words[wide(frame_of(page) * 1024 + at % 1024)] = w;
 }
 
-fn list_frames(frames: &mut [u32; 67]) {
-    let mut page: u32 = 0;
-    while page < 67 {
-        let i = wide(page);
-        frames[i] = frame_of(page);
-        page += 1;
-    }
+fn list_frames() -> [u32; 67] {
+    std::array::from_fn(|page| frame_of(page as u32))
 }
 
 // The page table, in page 1: the user's page 0 is the loop, in page 2, and its pages 1 to 64 are pages 3 to 66.
 fn put_table(words: &mut [u32; 69632]) {
-    let mut px: u32 = 0;
-    while px < 65 {
+    for px in 0..65 {
         put(words, 1, px, (px + 2) * 4096 + 2048);
-        px += 1;
     }
 }
 
-// Words of a guest page, from a place on. No list has more than 32.
+// Words of a guest page, from a place on.
 fn fill(words: &mut [u32; 69632], page: u32, at: u32, list: &[u32]) {
-    let mut i: u32 = 0;
-    while i < 32 {
-        let k = wide(i);
-        if k >= list.len() {
-            return;
-        }
-        put(words, page, at % 1024 + i, list[k]);
-        i += 1;
+    for (i, w) in (at % 1024..).zip(list) {
+        put(words, page, i, *w);
     }
 }
 
@@ -231,30 +218,52 @@ fn put_timer_loop(words: &mut [u32; 69632]) {
     fill(words, 2, 0, &list);
 }
 
-// The guest of a number: its start, and its loop.
-fn put_guest(words: &mut [u32; 69632], guest: u32) {
+// The guests.
+#[derive(Clone, Copy)]
+enum Guest {
+    Words,
+    Bytes,
+    Registers,
+    Traps,
+    Timer,
+}
+
+// The guest of a number.
+fn guest_of(number: u32) -> Option<Guest> {
+    match number {
+        0 => Some(Guest::Words),
+        1 => Some(Guest::Bytes),
+        2 => Some(Guest::Registers),
+        3 => Some(Guest::Traps),
+        4 => Some(Guest::Timer),
+        _ => None,
+    }
+}
+
+// Its start, and its loop.
+fn put_guest(words: &mut [u32; 69632], guest: Guest) {
     match guest {
-        1 => {
+        Guest::Words => {
+            put_start(words);
+            put_words_loop(words);
+        }
+        Guest::Bytes => {
             put_start(words);
             put_bytes_loop(words);
         }
-        2 => {
+        Guest::Registers => {
             put_start(words);
             put_registers_loop(words);
         }
-        3 => {
+        Guest::Traps => {
             put_start_handled(words);
             put_handler(words);
             put_traps_loop(words);
         }
-        4 => {
+        Guest::Timer => {
             put_start_timed(words);
             put_handler(words);
             put_timer_loop(words);
-        }
-        _ => {
-            put_start(words);
-            put_words_loop(words);
         }
     }
 }
@@ -264,13 +273,7 @@ fn mixed(h: u64, w: u32) -> u64 {
 }
 
 fn mixed_all(h: u64, s: &[u32]) -> u64 {
-    let mut r = h;
-    let mut i = 0;
-    while i < s.len() {
-        r = mixed(r, s[i]);
-        i += 1;
-    }
-    r
+    s.iter().fold(h, |r, w| mixed(r, *w))
 }
 
 fn mixed_specials(h: u64, p: Processor, t: Table, k: Timer) -> u64 {
@@ -281,68 +284,21 @@ fn mixed_specials(h: u64, p: Processor, t: Table, k: Timer) -> u64 {
     mixed_all(h, &specials)
 }
 
-// The first partition's registers.
-fn mixed_registers(h: u64, regs: &[u32; 256]) -> u64 {
-    let mut r = h;
-    let mut i = 0;
-    while i < 32 {
-        r = mixed(r, regs[i]);
-        i += 1;
-    }
-    r
-}
-
 // Of the first partition and the memory.
 fn digest(house: House, words: &[u32; 69632]) -> u64 {
-    let regs = house.regs;
-    let parts = house.parts;
-    let part = parts[0];
-    let h = mixed_registers(0, &regs);
+    let part = house.parts[0];
+    let h = mixed_all(0, &house.regs[..32]);
     mixed_all(
         mixed_specials(h, part.processor, part.table, part.timer),
         words,
     )
 }
 
-// A decimal number's value, and where it ends.
-#[derive(Clone, Copy)]
-struct Numeral {
-    value: u32,
-    end: usize,
-}
-
-fn digit(b: u8) -> u32 {
-    if b < b'0' {
-        return 10;
-    }
-    if b > b'9' {
-        return 10;
-    }
-    (b - b'0') as u32
-}
-
-// The number whose digits begin at `from`.
-fn number(line: &[u8], from: usize) -> Numeral {
-    let mut value: u32 = 0;
-    let mut i = from;
-    while i < line.len() {
-        let d = digit(line[i]);
-        if d > 9 {
-            return Numeral { value, end: i };
-        }
-        value = value % 100000000 * 10 + d % 10;
-        i += 1;
-    }
-    Numeral { value, end: i }
-}
-
-// The number behind the one that ends there; 0 where there is none.
-fn after(line: &[u8], end: usize) -> u32 {
-    if end < 64 {
-        let n = number(line, end + 1);
-        return n.value;
-    }
-    0
+// The number of these digits; of more than nine, the last nine count.
+fn number(digits: &[u8]) -> u32 {
+    digits
+        .iter()
+        .fold(0, |n, d| n % 100_000_000 * 10 + u32::from(d % 16))
 }
 
 fn end_line(rt: &HostRuntime) {
@@ -368,13 +324,12 @@ fn ran(house: House, words: &mut [u32; 69632], steps: u32) -> Answer {
 }
 
 fn measure(rt: &HostRuntime, steps: u32, q: u32, guest: u32) {
-    if guest > 4 {
+    let Some(guest) = guest_of(guest) else {
         wrong(rt, b"a guest from 0 to 4 as the third number", b"another");
         return;
-    }
+    };
     let mut words = [0u32; 69632];
-    let mut frames = [0u32; 67];
-    list_frames(&mut frames);
+    let frames = list_frames();
     put_table(&mut words);
     put_guest(&mut words, guest);
     let b = booted(q, &frames, &words);
@@ -429,10 +384,8 @@ fn main(rt: HostRuntime) {
     let mut line = [0u8; 64];
     let mut source = Source::standard_input(&rt);
     source.read_full(&mut line);
-    let steps = number(&line, 0);
-    let end = steps.end;
-    if end < 64 {
-        let q = number(&line, end + 1);
-        measure(&rt, steps.value, q.value, after(&line, q.end));
+    let mut numbers = line.split(|b| !b.is_ascii_digit()).map(number);
+    if let (Some(steps), Some(q)) = (numbers.next(), numbers.next()) {
+        measure(&rt, steps, q, numbers.next().unwrap_or(0));
     }
 }

@@ -1,16 +1,15 @@
--- The product modulo 2^64 by halves.
-use Rattle.std.proofs.Common.{◌≡◌, ℕ, ◌+◌, ◌*◌, ◌/◌, ◌%◌, ◌^◌, arith}
-use native.Mathlib.Nat.{add-mul-mod_self_right}
-use Rattle.drill_text.specs.Digest.{mixed_of}
+-- The digest is a fold.
+use Rattle.std.proofs.Common.{◌≡◌, ℕ, zero, suc, ◌≤◌, List, length, take, fold, get_or, sym, refl, ap, ◌∙◌, add-one, take_all, arith}
+use Rattle.std.proofs.lemmas.List.Sums.{fold_more}
+use Rattle.drill_text.specs.Digest.{mixed_of, digest_to, digest_of}
 
-pub by_halves : (d w : ℕ) → mixed_of d w
-    ≡ ((d % 4294967296 * 1284865837 + w + 1)
-    + (d / 4294967296 * 1284865837 + d % 4294967296 * 1481765933) % 4294967296 * 4294967296) % 2 ^ 64
-unfolding mixed_of
-by_halves d w =
-    let h = d / 4294967296 in
-    let l = d % 4294967296 in
-    let n = h * 1284865837 + l * 1481765933 in
-    let x = (l * 1284865837 + w + 1) + n % 4294967296 * 4294967296 in
-    let e : d * 6364136223846793005 + w + 1 ≡ x + (h * 1481765933 + n / 4294967296) * 2 ^ 64 = omega arith in
-    rw e (add-mul-mod_self_right x (h * 1481765933 + n / 4294967296) (2 ^ 64))
+folded_to : (words : List ℕ) (n : ℕ) → n ≤ length words → fold mixed_of 0 (take n words) ≡ digest_to words n
+unfolding digest_to
+folded_to words zero l = refl
+folded_to words (suc n) l =
+    let b : n ≤ length words = omega arith in
+    rw (← add-one n, fold_more mixed_of 0 words n 0 (omega arith)) (ap (λ d. mixed_of d (get_or words n 0)) (folded_to words n b))
+
+pub folded : (words : List ℕ) → fold mixed_of 0 words ≡ digest_of words
+unfolding digest_of
+folded words = ap (fold mixed_of 0) (sym (take_all (length words) words (omega arith))) ∙ folded_to words (length words) (omega arith)

@@ -1,4 +1,3 @@
-pub mod Blank
 pub mod Digests
 pub mod Flags
 pub mod Lent

@@ -1,5 +1,5 @@
 -- The lines that tell of the answer, the house's own numbers, the memory, the outputs of a read-out and a save, and what an audit found.
-use Rattle.std.specs.Prelude.{ℕ, Bool, false, List, [], ◌∷◌, ◌++◌, length, take, ◌==◌, slice_index_or}
+use Rattle.std.specs.Prelude.{ℕ, Bool, false, Option, None, Some, List, [], ◌∷◌, ◌++◌, length, take, ◌==◌, slice_index_or}
 use Rattle.dlx.specs.Choice.{when◌then◌else◌}
 use Rattle.house.specs.declared.House.{House}
 use Rattle.decimal.specs.Texts.{ascii, joined}
@@ -52,5 +52,6 @@ unfoldable pub written_of : ℕ → List ℕ → List ℕ
 written_of count bytes = ascii "written" ++ (number_of count ++ (number_of (digest_of bytes) ++ ascii "\n"))
 
 -- the first stale entry, by partition and page, where there is one
-unfoldable pub stale_of : Bool → ℕ → ℕ → List ℕ
-stale_of found i px = when found then ascii "stale" ++ (number_of i ++ (number_of px ++ ascii "\n")) else ascii "stale none\n"
+unfoldable pub stale_of : Option (ℕ × ℕ) → List ℕ
+stale_of (Some (i, px)) = ascii "stale" ++ (number_of i ++ (number_of px ++ ascii "\n"))
+stale_of None = ascii "stale none\n"

@@ -40,10 +40,8 @@ fn flags(text: &mut [u8; ROOM], used: usize, running: &[bool; 8]) -> usize
     ensures { Puts text.old used text.new result (flags_of running.now) 168 }
 {
     let mut end = used;
-    let mut i = 0;
-    while i < 8 {
-        end = number(text, end, running[i] as u64);
-        i += 1;
+    for r in running {
+        end = number(text, end, u64::from(*r));
     }
     end
 }
@@ -61,52 +59,35 @@ pub fn house(text: &mut [u8; ROOM], used: usize, h: House) -> usize
     ensures { Puts text.old used text.new result (house_of h) 279 }
 {
     let own = [h.count, h.q, h.words, h.current, h.left];
-    let running = h.running;
-    house_line(text, used, &own, &running)
+    house_line(text, used, &own, &h.running)
 }
 
-// From here to there among the names of the calls.
-#[derive(Clone, Copy)]
-struct Span {
-    from: usize,
-    to: usize,
-}
-
-// Where the name of a call stands among the names, by its command's number.
-fn among(op: u32) -> Span
-    ensures { (result.from ≤ result.to) × (result.to ≤ result.from + 10) × (result.to ≤ 59) × (take (result.to - result.from) (drop result.from (ascii "bootrunstartstopemptyauditmendreadunshadowedsavepiecefinish")) ≡ name_of op) }
+// The name of a call, by its command's number.
+fn name(op: u32) -> &'static [u8]
+    ensures named { result.now ≡ name_of op }
+    ensures short { length result.now ≤ 10 }
 {
     match op {
-        1 => Span { from: 0, to: 4 },
-        2 => Span { from: 4, to: 7 },
-        3 => Span { from: 7, to: 12 },
-        4 => Span { from: 12, to: 16 },
-        5 => Span { from: 16, to: 21 },
-        12 => Span { from: 21, to: 26 },
-        13 => Span { from: 26, to: 30 },
-        14 => Span { from: 44, to: 48 },
-        15 => Span { from: 48, to: 53 },
-        16 => Span { from: 53, to: 59 },
-        17 => Span { from: 34, to: 44 },
-        _ => Span { from: 30, to: 34 },
+        1 => b"boot",
+        2 => b"run",
+        3 => b"start",
+        4 => b"stop",
+        5 => b"empty",
+        12 => b"audit",
+        13 => b"mend",
+        14 => b"save",
+        15 => b"piece",
+        16 => b"finish",
+        17 => b"unshadowed",
+        _ => b"read",
     }
-}
-
-fn name(text: &mut [u8; ROOM], used: usize, op: u32) -> usize
-    ensures { Puts text.old used text.new result (name_of op) 10 }
-{
-    let names = *b"bootrunstartstopemptyauditmendreadunshadowedsavepiecefinish";
-    let s = among(op);
-    let from = s.from;
-    let to = s.to;
-    put_text(text, used, &names[from..to])
 }
 
 pub fn call(text: &mut [u8; ROOM], used: usize, op: u32, n: u32, detail: u64) -> usize
     ensures { Puts text.old used text.new result (call_of op n detail) 61 }
 {
     let called = put_text(text, used, b"call ");
-    let named = name(text, called, op);
+    let named = put_text(text, called, name(op));
     let answered = put_text(text, named, b" ->");
     pair(text, answered, n as u64, detail)
 }
@@ -140,12 +121,12 @@ pub fn written(text: &mut [u8; ROOM], used: usize, count: usize, bytes: &[u8]) -
 }
 
 // The first stale entry, by partition and page, where one was found.
-pub fn stale(text: &mut [u8; ROOM], used: usize, found: bool, partition: u32, page: u32) -> usize
-    ensures { Puts text.old used text.new result (stale_of found partition page) 48 }
+pub fn stale(text: &mut [u8; ROOM], used: usize, found: Option<(u32, u32)>) -> usize
+    ensures { Puts text.old used text.new result (stale_of found) 48 }
 {
-    if found {
-        let named = put_text(text, used, b"stale");
-        return pair(text, named, partition as u64, page as u64);
-    }
-    put_text(text, used, b"stale none\n")
+    let Some((partition, page)) = found else {
+        return put_text(text, used, b"stale none\n");
+    };
+    let named = put_text(text, used, b"stale");
+    pair(text, named, u64::from(partition), u64::from(page))
 }

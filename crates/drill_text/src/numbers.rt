@@ -18,10 +18,8 @@ pub fn numbers(text: &mut [u8; ROOM], used: usize, words: &[u32]) -> usize
     ensures { Puts text.old used text.new result (numbers_of words.now) (21 * length words.now) }
 {
     let mut end = used;
-    let mut i = 0;
-    while i < words.len() {
-        end = number(text, end, words[i] as u64);
-        i += 1;
+    for w in words {
+        end = number(text, end, u64::from(*w));
     }
     end
 }

@@ -30,50 +30,25 @@ fn specials(p: Processor, t: Table, fault: u32, k: Timer) -> [u32; 15]
 pub(crate) fn zeros(words: &[u32]) -> bool
     ensures { result ≡ zeros_of words.now }
 {
-    let mut i = 0;
-    while i < words.len() {
-        if words[i] != 0 {
-            return false;
-        }
-        i += 1;
-    }
-    true
+    words.iter().all(|w| *w == 0)
 }
 
 // How many words there are up to the last that is not 0.
 pub(crate) fn listed(words: &[u32]) -> usize
     ensures { result ≡ listed_of words.now }
 {
-    let mut n = words.len();
-    while n > 0 {
-        if words[n - 1] != 0 {
-            return n;
-        }
-        n -= 1;
-    }
-    n
+    words.iter().rposition(|w| *w != 0).map_or(0, |i| i + 1)
 }
 
 fn blank(p: Partition, registers: &[u32], frames: &[u32], shadow: &[u32]) -> bool
     ensures { result ≡ blank_of p registers.now frames.now shadow.now }
 {
-    if p.pages != 0 {
-        return false;
-    }
-    if p.counter != 0 {
-        return false;
-    }
-    let own = specials(p.processor, p.table, p.fault, p.timer);
-    if !zeros(&own) {
-        return false;
-    }
-    if !zeros(registers) {
-        return false;
-    }
-    if !zeros(frames) {
-        return false;
-    }
-    zeros(shadow)
+    p.pages == 0
+        && p.counter == 0
+        && zeros(&specials(p.processor, p.table, p.fault, p.timer))
+        && zeros(registers)
+        && zeros(frames)
+        && zeros(shadow)
 }
 
 // Page count, counter and special registers of partition i.
@@ -117,10 +92,8 @@ fn entries(text: &mut [u8; ROOM], used: usize, shadow: &[u32]) -> usize
     ensures { Puts text.old used text.new result (entries_of shadow.now) (42 * length shadow.now) }
 {
     let mut end = used;
-    let mut px = 0;
-    while px < shadow.len() {
-        end = entry(text, end, px, shadow[px]);
-        px += 1;
+    for (px, e) in shadow.iter().enumerate() {
+        end = entry(text, end, px, *e);
     }
     end
 }
@@ -220,10 +193,8 @@ fn each(
     ensures { Puts text.old used text.new result (joined (λ k. partition_of k (slice_index_or parts k no_partition) (inner (k * 32) 32 registers.now) (inner (k * 256) 256 frames.now) (inner (k * shadow_length) shadow_length shadows.now)) 8) (8 * longest) }
 {
     let mut end = used;
-    let mut i = 0;
-    while i < 8 {
-        end = nth(text, end, i, parts[i], registers, frames, shadows);
-        i += 1;
+    for (i, p) in parts.iter().enumerate() {
+        end = nth(text, end, i, *p, registers, frames, shadows);
     }
     end
 }
@@ -231,9 +202,5 @@ fn each(
 pub fn partitions(text: &mut [u8; ROOM], used: usize, h: House) -> usize
     ensures { Puts text.old used text.new result (partitions_of h) (8 * longest) }
 {
-    let parts = h.parts;
-    let registers = h.regs;
-    let frames = h.frames;
-    let shadows = h.shadows;
-    each(text, used, parts, &registers, &frames, &shadows)
+    each(text, used, h.parts, &h.regs, &h.frames, &h.shadows)
 }

@@ -14,10 +14,7 @@ use house::House;
 fn idle(waiting: u32, places: &[u32]) -> bool
     ensures { result ≡ idle_of waiting places.now }
 {
-    if waiting != 0 {
-        return false;
-    }
-    zeros(places)
+    waiting == 0 && zeros(places)
 }
 
 // How many tickets wait for partition i, and its places up to the last that is not 0.
@@ -40,12 +37,10 @@ fn each(text: &mut [u8; ROOM], used: usize, waiting: &[u32; 8], tickets: &[u32])
     ensures { Puts text.old used text.new result (joined (λ k. queue_line_of k (slice_index waiting.now k) (inner (k * 32) 32 tickets.now)) 8) 5760 }
 {
     let mut end = used;
-    let mut i = 0;
-    while i < 8 {
+    for (i, w) in waiting.iter().enumerate() {
         let a = i * 32;
         let b = a + 32;
-        end = queue(text, end, i, waiting[i], &tickets[a..b]);
-        i += 1;
+        end = queue(text, end, i, *w, &tickets[a..b]);
     }
     end
 }
@@ -53,7 +48,5 @@ fn each(text: &mut [u8; ROOM], used: usize, waiting: &[u32; 8], tickets: &[u32])
 pub fn queues(text: &mut [u8; ROOM], used: usize, h: House) -> usize
     ensures { Puts text.old used text.new result (queue_lines_of h) 5760 }
 {
-    let tickets = h.tickets;
-    let waiting = h.waiting;
-    each(text, used, &waiting, &tickets)
+    each(text, used, &h.waiting, &h.tickets)
 }

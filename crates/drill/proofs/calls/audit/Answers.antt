@@ -6,4 +6,4 @@ pub returns-then-f-ne0 : goal.returns-then-f-ne0
 returns-then-f-ne0 c = let a = c.args in (refl, audit_refused a.c a.h a.memory.now c.audit-f.result c.audit-f.ensures c.call-called.ensures c.if-f-ne0.true)
 
 pub returns : goal.returns
-returns c = let a = c.args in (refl, audit_told a.c a.h a.memory.now c.audit-f.result c.audit-f.ensures c.call-called.ensures c.if-f-ne0.false c.stale-end.ensures)
+returns c = let a = c.args in (refl, audit_told a.c a.h a.memory.now c.audit-f.result c.audit-f.ensures c.call-called.ensures c.if-f-ne0.false (rw c.then_some-found.ensures at c.stale-end.ensures))

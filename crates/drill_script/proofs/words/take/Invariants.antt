@@ -1,12 +1,6 @@
-use Prim.Native.Nat.{◌+◌, ◌*◌, ◌-◌, ◌≤◌}
-use mathlib.Core.Path.{◌≡◌}
-use lib.ListN.{length}
+use Rattle.std.proofs.Common.{◌≡◌, ◌<◌, ◌+◌, ◌*◌, ℕ, get_or}
 use Rattle.drill_script.specs.Words.{word_at}
-use Rattle.drill_script.proofs.Filling.{set_to}
 use Rattle.drill_script.proofs.words.take.Given as goal
 
 abbrev pub invariant-loop-i : goal.invariant-loop-i
-invariant-loop-i l = (l.words ≡ set_to (λ k. word_at l.bytes (l.at + 4 * k)) l.initial.words 0 l.i) × (length l.words ≡ length l.initial.words) × (l.i ≤ length l.initial.words)
-
-abbrev pub decreases-loop-i : goal.decreases-loop-i
-decreases-loop-i l = length l.initial.words - l.i
+invariant-loop-i l = (k : ℕ) → k < l.i → get_or l.words k 0 ≡ word_at l.bytes (l.at + 4 * k)

@@ -1,15 +1,7 @@
-use Rattle.std.proofs.Common.{refl, ap, ◌∙◌, add-one, arith}
-use Rattle.drill_text.specs.Digest.{digest_to, digest_of}
+use Rattle.std.proofs.Common.{◌≡◌, fold, ◌∙◌, rules}
+use Rattle.drill_text.specs.Digest.{mixed_of}
+use Rattle.drill_text.proofs.Digests.{folded}
 use Rattle.drill_text.proofs.digest.digest_bytes.Goals as goal
 
-pub loop-i-init : goal.loop-i-init
-unfolding digest_to
-loop-i-init c = (refl, omega arith)
-
-pub loop-i-preserved : goal.loop-i-preserved
-unfolding digest_to
-loop-i-preserved c = (simp (c.mixed-d.ensures, c.broad.ensures, c.loop-i.invariant.0, add-one), omega arith)
-
 pub returns : goal.returns
-unfolding digest_of
-returns c = c.loop-i.invariant.0 ∙ ap (digest_to c.args.bytes.now) (omega arith)
+returns c = let e : c.fold.result ≡ fold mixed_of 0 c.args.bytes.now = search rules in e ∙ folded c.args.bytes.now

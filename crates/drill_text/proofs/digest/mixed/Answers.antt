@@ -1,6 +1,8 @@
-use Rattle.std.proofs.Common.{sym, ◌∙◌}
-use Rattle.drill_text.proofs.Digests.{by_halves}
+use Rattle.std.proofs.Common.{◌+◌, ◌*◌, ◌^◌, ◌%◌, ap, ◌∙◌, arith}
+use Rattle.std.proofs.Math.Nat.{mod-add-mod}
+use Rattle.drill_text.specs.Digest.{mixed_of}
 use Rattle.drill_text.proofs.digest.mixed.Goals as goal
 
 pub returns : goal.returns
-returns c = c.wrapping_add_u64.ensures.value ∙ sym (by_halves c.args.d c.args.w)
+unfolding mixed_of
+returns c = mod-add-mod (c.args.d * 6364136223846793005) (2 ^ 64) (c.from.result + 1) ∙ ap (λ x. x % 2 ^ 64) (omega (arith, c.from.ensures))

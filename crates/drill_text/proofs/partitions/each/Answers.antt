@@ -7,7 +7,7 @@ use Rattle.decimal.proofs.Texts.{parts_begin, parts_on, parts_end}
 use Rattle.drill_text.proofs.partitions.each.Goals as goal
 
 pub loop-i-init : goal.loop-i-init
-loop-i-init c = (parts_begin _ longest, omega arith)
+loop-i-init c = parts_begin _ longest
 
 pub nth-end-requires : goal.nth-end-requires
 nth-end-requires c = record { fact_1 = c.loop-i-test.true; fact_2 = c.requires.fact_1; fact_3 = c.requires.fact_2; fact_4 = c.requires.fact_3 }
@@ -15,7 +15,7 @@ nth-end-requires c = record { fact_1 = c.loop-i-test.true; fact_2 = c.requires.f
 pub loop-i-preserved : goal.loop-i-preserved
 loop-i-preserved c =
     let a = c.args in
-    (parts_on (λ (k : ℕ). partition_of k (get_or a.parts k no_partition) (inner (k * 32) 32 a.registers.now) (inner (k * 256) 256 a.frames.now) (inner (k * entries) entries a.shadows.now)) longest c.loop-i.i c.loop-i.invariant.0 c.nth-end.ensures, omega arith)
+    parts_on (λ (k : ℕ). partition_of k (get_or a.parts k no_partition) (inner (k * 32) 32 a.registers.now) (inner (k * 256) 256 a.frames.now) (inner (k * entries) entries a.shadows.now)) longest c.loop-i.i c.loop-i.invariant c.nth-end.ensures
 
 pub returns : goal.returns
-returns c = parts_end _ longest c.loop-i.i 8 c.loop-i.invariant.1 c.loop-i-test.false c.loop-i.invariant.0
+returns c = parts_end _ longest c.loop-i.i 8 (omega arith) (omega arith) c.loop-i.invariant

@@ -1,10 +1,7 @@
-use Rattle.std.proofs.Common.{◌-◌, ◌*◌, ◌≤◌, length, get_or}
+use Rattle.std.proofs.Common.{◌*◌, get_or}
 use Rattle.decimal.specs.Texts.{Puts, joined}
 use Rattle.drill_text.specs.Partitions.{entry_of}
 use Rattle.drill_text.proofs.partitions.entries.Given as goal
 
 abbrev pub invariant-loop-px : goal.invariant-loop-px
-invariant-loop-px l = Puts l.initial.text l.used l.text l.end (joined (λ k. entry_of k (get_or l.shadow k 0)) l.px) (42 * l.px) × (l.px ≤ length l.shadow)
-
-abbrev pub decreases-loop-px : goal.decreases-loop-px
-decreases-loop-px l = length l.shadow - l.px
+invariant-loop-px l = Puts l.initial.text l.used l.text l.end (joined (λ k. entry_of k (get_or l.shadow k 0)) l.px) (42 * l.px)

@@ -6,7 +6,7 @@ use Rattle.drill_text.proofs.Lent.{lent_part, lent_length}
 use Rattle.drill_text.proofs.queues.each.Goals as goal
 
 pub loop-i-init : goal.loop-i-init
-loop-i-init c = (parts_begin _ 720, omega arith)
+loop-i-init c = parts_begin _ 720
 
 pub slice_bounds-queue-end : goal.slice_bounds-queue-end
 slice_bounds-queue-end c = omega (arith, c.requires)
@@ -17,7 +17,7 @@ queue-end-requires c = lent_length c.loop-i.i 32 c.args.tickets.now (omega (arit
 pub loop-i-preserved : goal.loop-i-preserved
 loop-i-preserved c =
     let a = c.args in
-    (parts_on (λ (k : ℕ). queue_line_of k (get_or a.waiting.now k 0) (inner (k * 32) 32 a.tickets.now)) 720 c.loop-i.i c.loop-i.invariant.0 (rw (lent_part c.loop-i.i 32 a.tickets.now) at c.queue-end.ensures), omega arith)
+    parts_on (λ (k : ℕ). queue_line_of k (get_or a.waiting.now k 0) (inner (k * 32) 32 a.tickets.now)) 720 c.loop-i.i c.loop-i.invariant (rw (lent_part c.loop-i.i 32 a.tickets.now) at c.queue-end.ensures)
 
 pub returns : goal.returns
-returns c = parts_end _ 720 c.loop-i.i 8 c.loop-i.invariant.1 c.loop-i-test.false c.loop-i.invariant.0
+returns c = parts_end _ 720 c.loop-i.i 8 (omega arith) (omega arith) c.loop-i.invariant

@@ -1,11 +1,12 @@
-use Rattle.std.proofs.Common.{eq-eqb, ne_eqb}
+use Rattle.std.proofs.Common.{arith}
+use Rattle.std.proofs.lemmas.Grind.{common_steps}
 use Rattle.drill_text.specs.Queues.{idle_of}
 use Rattle.drill_text.proofs.queues.idle.Goals as goal
 
-pub returns-then-waiting-ne0 : goal.returns-then-waiting-ne0
+pub returns-then-waiting-eq0 : goal.returns-then-waiting-eq0
 unfolding idle_of
-returns-then-waiting-ne0 c = simp (ne_eqb _ _ c.if-waiting-ne0.true)
+returns-then-waiting-eq0 c = grind (arith, common_steps)
 
-pub returns : goal.returns
+pub returns-else-waiting-eq0 : goal.returns-else-waiting-eq0
 unfolding idle_of
-returns c = simp (c.zeros.ensures, eq-eqb _ _ c.if-waiting-ne0.false)
+returns-else-waiting-eq0 c = grind (arith, common_steps)
