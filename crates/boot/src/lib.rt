@@ -4,24 +4,17 @@
 ghost use Rattle.std.specs.Prelude.{◌≡◌, Bool, not, ℕ, ◌*◌, ◌+◌, ◌<◌, ◌≤◌, ltb, length, get_or};
 ghost use Rattle.dlx.specs.Processor.{fresh_of};
 ghost use Rattle.house.specs.Lists.{between, list_from, first_from};
-ghost use Rattle.house.specs.House.{no_partition};
+ghost use Rattle.house.specs.House.{no_house, no_partition};
 ghost use Rattle.house.specs.Damage.{whole_frames};
-ghost use Rattle.house.specs.Turns.{world};
-ghost use Rattle.house.specs.Boot.{verdict, sum, offset, laid, pages_wrong, frame_outside, frame_kept, stood_earlier, boot_verdict, booted_house};
-ghost use Rattle.house.specs.Calls.{answered, boot_call};
+ghost use Rattle.house.specs.Boot.{sum, offset, laid, pages_wrong, frame_outside, frame_kept, stood_earlier, boot_verdict, booted_house};
+ghost use Rattle.house.specs.Calls.{boot_call};
+ghost use Rattle.house.specs.Refusals.{verdict_of, answer_of};
 ghost use Rattle.boot.specs.Places.{filled, Few, Fitting};
 
 use dlx::partition::Partition;
 use dlx::words::wide;
-use house::{Answer, House};
+use house::{Answer, Done, House, Refusal};
 use marks::mark;
-
-// A refusal's number and detail; 0 and 0 where nothing refuses.
-#[derive(Clone, Copy)]
-pub struct Refusal {
-    pub number: u32,
-    pub detail: u64,
-}
 
 // low <= n <= high.
 fn within(low: usize, n: usize, high: usize) -> bool
@@ -90,65 +83,38 @@ fn first_repeat(frames: &[u32]) -> usize
 }
 
 // The first refusal that applies.
-fn first_refusal(pages: &[u32], q: u32, frames: &[u32], words: usize) -> Refusal
-    ensures { verdict result.number result.detail ≡ boot_verdict pages.now q frames.now words }
+fn check(pages: &[u32], q: u32, frames: &[u32], words: usize) -> Result<(), Refusal>
+    ensures { verdict_of 0 result ≡ boot_verdict pages.now q frames.now words }
 {
     if !within(1, pages.len(), 8) {
-        return Refusal {
-            number: 1,
-            detail: 0,
-        };
+        return Err(Refusal::PartitionCount);
     }
     let wrong = first_wrong(pages);
     if wrong < pages.len() {
-        return Refusal {
-            number: 2,
-            detail: wrong as u64,
-        };
+        return Err(Refusal::PageCount(wrong as u64));
     }
     if !within(1, dlx::words::wide(q), 10000) {
-        return Refusal {
-            number: 3,
-            detail: 0,
-        };
+        return Err(Refusal::TurnLength);
     }
     if !whole(words) {
-        return Refusal {
-            number: 4,
-            detail: 0,
-        };
+        return Err(Refusal::MemorySize);
     }
     if frames.len() != total(pages) {
-        return Refusal {
-            number: 5,
-            detail: 0,
-        };
+        return Err(Refusal::ListLength);
     }
     let outside = first_outside(frames, words);
     if outside < frames.len() {
-        return Refusal {
-            number: 6,
-            detail: outside as u64,
-        };
+        return Err(Refusal::FrameOutside(outside as u64));
     }
     let kept = first_kept(frames);
     if kept < frames.len() {
-        return Refusal {
-            number: 16,
-            detail: kept as u64,
-        };
+        return Err(Refusal::FrameKept(kept as u64));
     }
     let repeat = first_repeat(frames);
     if repeat < frames.len() {
-        return Refusal {
-            number: 7,
-            detail: repeat as u64,
-        };
+        return Err(Refusal::FrameTwice(repeat as u64));
     }
-    Refusal {
-        number: 0,
-        detail: 0,
-    }
+    Ok(())
 }
 
 // The first count partitions run.
@@ -207,23 +173,11 @@ fn booted(pages: &[u32], q: u32, frames: &[u32], words: usize) -> House
     }
 }
 
-// The house of these partitions, all running, with turns of q steps, their frames in a memory of so many words; or the refusal's number and detail.
+// The house of these partitions, all running, with turns of q steps, their frames in a memory of so many words; or what refuses it.
 pub fn boot(pages: &[u32], q: u32, frames: &[u32], memory: &[u32]) -> Answer
-    ensures { answered (verdict result.number result.detail) (world result.house memory.now) ≡ boot_call pages.now q frames.now memory.now }
+    ensures { answer_of no_house result memory.now ≡ boot_call pages.now q frames.now memory.now }
 {
-    let v = first_refusal(pages, q, frames, memory.len());
-    if v.number != 0 {
-        let none = House::none();
-        return Answer {
-            number: v.number,
-            detail: v.detail,
-            house: none,
-        };
-    }
+    check(pages, q, frames, memory.len())?;
     let house = booted(pages, q, frames, memory.len());
-    Answer {
-        number: v.number,
-        detail: v.detail,
-        house,
-    }
+    Ok(Done { detail: 0, house })
 }

@@ -13,9 +13,8 @@ use Rattle.house.specs.Calls.{answered, run_verdict, run_call}
 use Rattle.demands.specs.Histories.{Boot, booted, history, Grown}
 use Rattle.demands.proofs.Booted.FreshHouse.{booted_whole}
 use Rattle.demands.proofs.Histories.Grown.{standing}
-use Rattle.staleness.specs.Audit.{has_stale, first_stale}
+use Rattle.staleness.specs.Audit.{Finding, has_stale, first_stale}
 use Rattle.staleness.specs.Promises.{Passes}
-use Rattle.staleness.specs.declared.Finding.{Finding}
 use Rattle.staleness.proofs.Promises.{passes_right}
 use Rattle.staleness.proofs.Verdicts.{AuditDone, done_audit, audit_found}
 use Rattle.unshadowed.specs.Turns.{all_empty}

@@ -4,3 +4,4 @@ pub mod Checked
 pub mod Damage
 pub mod Lists
 pub mod Turns
+pub mod Refusals

@@ -5,4 +5,5 @@ pub mod Boot
 pub mod Turns
 pub mod Sound
 pub mod Calls
+pub mod Refusals
 pub mod Examples

@@ -1,11 +1,14 @@
 // The house: one state for up to 8 partitions. Partition i's registers stand at 32 * i, its frame list at 256 * i, its shadow at ENTRIES * i.
 #![tactic(auto)]
 
+mod refusal;
+
 ghost use Rattle.std.specs.Prelude.{◌≡◌};
 ghost use Rattle.house.specs.House.{no_house};
 
 use addresses::ENTRIES;
 use dlx::partition::Partition;
+pub use refusal::Refusal;
 
 // The shadow entries of all partitions.
 pub const ALL_ENTRIES: usize = 8 * ENTRIES;
@@ -33,13 +36,15 @@ pub struct Turn {
     pub left: u32,
 }
 
-// A call's answer: a house number, its detail, and the house.
+// What a call that is done answers: the detail that the rules give it, and the house.
 #[derive(Clone, Copy)]
-pub struct Answer {
-    pub number: u32,
+pub struct Done {
     pub detail: u64,
     pub house: House,
 }
+
+// A refused call leaves the house that it was given.
+pub type Answer = Result<Done, Refusal>;
 
 impl House {
     // The house of no partitions, every number in it 0.

@@ -4,11 +4,12 @@
 
 ghost use Rattle.std.specs.Prelude.{◌≡◌, ℕ, min, List, length, slice_set};
 ghost use Rattle.dlx.specs.Choice.{when◌then◌else◌};
-ghost use Rattle.house.specs.Boot.{verdict};
+ghost use Rattle.house.specs.Refusals.{verdict_of as check_verdict};
 ghost use Rattle.housefile.specs.Records.{may_come, verdict_of};
 ghost use Rattle.housefile.specs.Reader.{no_record, no_reader, read, further, spoils, spoiled, placed, completed, settled, took, fed, answer_of};
 
 use dlx::words::wide;
+use house::Refusal;
 
 // The record at hand: how many of its bytes have come, its body length, its kind, the frame number in front of a kind 3, and the last four bytes.
 #[derive(Clone, Copy)]
@@ -29,13 +30,6 @@ pub struct Reader {
     pub lists: u32,
     pub total: u32,
     pub at: Record,
-}
-
-// What the file's end makes of it: 0 and 0, or 15 and the start of the first wrong record.
-#[derive(Clone, Copy)]
-pub struct Finish {
-    pub number: u32,
-    pub detail: u64,
 }
 
 impl Record {
@@ -239,26 +233,15 @@ pub fn feed(
     s
 }
 
-// At the file's end.
-pub fn finished(r: Reader) -> Finish
-    ensures { (turns pages frames memory : List ℕ) → verdict result.number result.detail ≡ verdict_of (answer_of (read r turns pages frames memory)) }
+// At the file's end: the start of the first wrong record is told.
+#[tactic(auto, unfolding(crate::specs::Records::verdict_of, crate::specs::Reader::answer_of))]
+pub fn finished(r: Reader) -> Result<(), Refusal>
+    ensures { (turns pages frames memory : List ℕ) → check_verdict 0 result ≡ verdict_of (answer_of (read r turns pages frames memory)) }
 {
-    if r.wrong {
-        return Finish {
-            number: 15,
-            detail: r.start,
-        };
+    if r.wrong || r.last != 4 {
+        return Err(Refusal::WrongHouseFile(r.start));
     }
-    if r.last != 4 {
-        return Finish {
-            number: 15,
-            detail: r.start,
-        };
-    }
-    Finish {
-        number: 0,
-        detail: 0,
-    }
+    Ok(())
 }
 
 // A count, or the room where that is less.

@@ -13,9 +13,9 @@ use Rattle.save.specs.Calls.{piece_length, Written, written, save_call}
 use Rattle.save.proofs.Promises.{save_done, save_count, save_output}
 use Rattle.keep.specs.Kept.{Part}
 
-module _ (w : World) (at k d n : ℕ) (h : House) (out out' : List ℕ) (e : written (verdict k d) n h out' ≡ save_call w at out) (z : k ≡ 0) where
+module _ (w : World) (at n : ℕ) (h : House) (out out' : List ℕ) (e : written (verdict 0 0) n h out' ≡ save_call w at out) where
   done : (save_call w at out).verdict.number ≡ 0
-  done = sym (ap (λ (x : Written). x.verdict.number) e) ∙ z
+  done = sym (ap (λ (x : Written). x.verdict.number) e)
 
   count_is : n ≡ piece_length w at (length out)
   count_is = ap (λ (x : Written). x.count) e ∙ save_count w (save_done w at out done) at out

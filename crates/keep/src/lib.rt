@@ -46,13 +46,11 @@ fn keep_pieces(
     let mut w = w;
     'pieces: loop {
         let mut buffer = files::large_buffer();
-        let s = save(house, memory, w.count(), &mut buffer);
-        if s.number != 0 {
+        let Ok(n) = save(house, memory, w.count(), &mut buffer) else {
             wrong(rt, b"a house that can be saved", b"one that is damaged");
             discard(rt, w, path);
             return None;
-        }
-        let n = s.count;
+        };
         if n == 0 {
             return Some(w);
         }

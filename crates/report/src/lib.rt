@@ -4,17 +4,16 @@
 
 ghost use Rattle.std.specs.Prelude.{◌≡◌, List, [], ◌∷◌, ◌++◌, ℕ, min, length, take, drop};
 ghost use Rattle.decimal.specs.Texts.{Puts};
-ghost use Rattle.house.specs.Boot.{verdict};
-ghost use Rattle.house.specs.Turns.{world};
-ghost use Rattle.house.specs.Calls.{answered};
+ghost use Rattle.house.specs.declared.House.{House};
+ghost use Rattle.house.specs.Refusals.{refusal as verdict_of, answer_of};
 ghost use Rattle.report.specs.Put.{Counts, put};
 ghost use Rattle.report.specs.Printed.{printed};
-ghost use Rattle.report.specs.Report.{field, line, line_of, lines_from, report_of, refused_text};
+ghost use Rattle.report.specs.Report.{field, line, line_of, lines_from, report_of, refused_text, refusal as refusal_text};
 
 use decimal::{put_byte, put_decimal, put_text};
 use dlx::partition::Partition;
 use dlx::words::wide;
-use house::House;
+use house::{Answer, House, Refusal};
 
 // A number, of at most 20 digits, and the byte behind it.
 pub fn put_field(out: &mut [u8], at: usize, n: u64, behind: u8) -> usize
@@ -93,7 +92,7 @@ pub fn report(h: House, out: &mut [u8; 1024]) -> usize
     put_partitions(out, at, h.count, parts)
 }
 
-// `refused`, a refusal's number and its detail: at most 40 bytes.
+// `refused`, a number and a detail, whatever they are: at most 40 bytes.
 pub fn put_refused(out: &mut [u8], at: usize, number: u32, detail: u64) -> usize
     ensures { Puts out.old at out.new result (refused_text number detail) 40 }
 {
@@ -102,21 +101,28 @@ pub fn put_refused(out: &mut [u8], at: usize, number: u32, detail: u64) -> usize
     put_field(out, second, detail, b'\n')
 }
 
-// The same as a whole text. Answers its length.
-pub fn refused(number: u32, detail: u64, out: &mut [u8; 1024]) -> usize
-    ensures value { (result ≡ length (refused_text number detail)) × (out.new ≡ refused_text number detail ++ drop (length (refused_text number detail)) out.old) }
-    ensures counts { Counts result out.new }
+// The text of a refusal.
+pub fn put_refusal(out: &mut [u8], at: usize, refusal: Refusal) -> usize
+    ensures { Puts out.old at out.new result (refusal_text (verdict_of refusal)) 40 }
 {
-    put_refused(out, 0, number, detail)
+    put_refused(out, at, refusal.number(), refusal.detail())
 }
 
-// The text for an answer. Answers its length.
-pub fn text_of(number: u32, detail: u64, house: House, out: &mut [u8; 1024]) -> usize
-    ensures by_index { (m : List ℕ) → (result, out.new) ≡ put (printed (answered (verdict number detail) (world house m))) out.old }
+// The same as a whole text. Answers its length.
+pub fn refused(refusal: Refusal, out: &mut [u8; 1024]) -> usize
+    ensures value { (result, out.new) ≡ put (refusal_text (verdict_of refusal)) out.old }
     ensures counts { Counts result out.new }
 {
-    if number != 0 {
-        return refused(number, detail, out);
+    put_refusal(out, 0, refusal)
+}
+
+// The text for an answer: the report, or the refusal. Answers its length.
+pub fn text_of(answer: Answer, out: &mut [u8; 1024]) -> usize
+    ensures by_index { (given : House) (m : List ℕ) → (result, out.new) ≡ put (printed (answer_of given answer m)) out.old }
+    ensures counts { Counts result out.new }
+{
+    match answer {
+        Ok(done) => report(done.house, out),
+        Err(refusal) => refused(refusal, out),
     }
-    report(house, out)
 }

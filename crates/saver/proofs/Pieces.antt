@@ -1,11 +1,11 @@
 -- The bytes of a file, by their places.
 use mathlib.Core.Path.{◌≡◌, refl, sym, ap, ◌∙◌}
-use mathlib.Core.Bool.{true, false}
+use mathlib.Core.Bool.{false}
 use mathlib.Core.List.{List, [], ◌∷◌, ◌++◌, append_assoc}
 use Prim.Native.Nat.{ℕ, zero, suc, ◌+◌, ◌-◌, ◌*◌, ◌/◌, ◌%◌, ◌<◌, ◌≤◌, min}
 use native.Mathlib.Numerals.{add-one}
 use native.Mathlib.Omega.{arith}
-use borrow.Author.Tests.{ltb-true, ltb-false, eq-eqb, ne_eqb}
+use borrow.Author.Tests.{ltb-true, ltb-false, eq-eqb}
 use lib.Dec.{ltb}
 use lib.ListN.{length, get_or, set, take, drop, length-append, length-drop, get_or-append}
 use lib.Seq.{get_or-append-add, get_or-take, get_or-drop, length-take-le, take_at}
@@ -235,15 +235,7 @@ head_fits h e =
     record { few = u.few; pages = λ i l. (u.pages i l).1; most = λ j l. (u.queued j (omega (arith, u.few))).most }
 
 module _ (h : House) (m : List ℕ) (at : ℕ) (out : List ℕ) where
-  pub save_damaged : damaged h ≡ true → written (verdict 8 0) 0 h out ≡ save_call (world h m) at out
-  unfolding save_call save_verdict first_of
-  save_damaged e = simp e
-
   module _ (e : damaged h ≡ false) where
-    pub save_other : (length m ≡ h.words → ⊥) → written (verdict 9 0) 0 h out ≡ save_call (world h m) at out
-    unfolding save_call save_verdict first_of
-    save_other n = simp (e, ne_eqb (length m) h.words n)
-
     module _ (l : length m ≡ h.words) where
       pub few_frames : length m / 1024 ≤ 1024
       few_frames = omega (arith, (undamaged_gives h e).size)

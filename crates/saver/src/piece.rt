@@ -2,23 +2,14 @@
 ghost use Rattle.std.specs.Prelude.{◌≡◌, List, [], ◌∷◌, ◌++◌, ℕ, ◌*◌, ◌+◌, ◌-◌, ◌%◌, ◌^◌, ◌<◌, ◌≤◌, min, length, get_or, take, drop};
 ghost use Rattle.save.specs.Saved.{little, record_of, frame_words};
 ghost use Rattle.saver.specs.Heads.{tail_of, PieceFits};
-ghost use Rattle.house.specs.Boot.{verdict};
 ghost use Rattle.house.specs.Turns.{world};
-ghost use Rattle.save.specs.Calls.{written, save_call};
+ghost use Rattle.save.specs.Calls.{save_call};
+ghost use Rattle.saver.specs.Answers.{answer_of};
 
 use crate::head::put_head;
 use damage::damaged;
 use dlx::words::wide;
-use house::House;
-
-// A save's answer: its number and detail, how many bytes were written, and the house.
-#[derive(Clone, Copy)]
-pub struct Saved {
-    pub number: u32,
-    pub detail: u64,
-    pub count: usize,
-    pub house: House,
-}
+use house::{House, Refusal};
 
 // Word j of the record of frame f.
 fn frame_word(memory: &[u32], f: usize, j: usize) -> u32
@@ -95,43 +86,24 @@ fn piece_length(size: usize, at: u64, room: usize) -> usize
     size.saturating_sub(at as usize).min(room).min(65536)
 }
 
-// Bytes of the file of a house and its memory, from an offset on: as many as there are, and there is room for, at most 64 KiB.
-pub fn save(house: House, memory: &[u32], at: u64, out: &mut [u8]) -> Saved
-    ensures { written (verdict result.number result.detail) result.count result.house out.new ≡ save_call (world house memory.now) at out.old }
+// Bytes of the file of a house and its memory, from an offset on: as many as there are, and there is room for, at most 64 KiB. Answers how many.
+#[tactic(auto, unfolding(save::specs::Calls::save_call, save::specs::Calls::save_verdict, house::specs::Boot::first_of))]
+pub fn save(house: House, memory: &[u32], at: u64, out: &mut [u8]) -> Result<usize, Refusal>
+    ensures { answer_of house result out.new ≡ save_call (world house memory.now) at out.old }
 {
     if damaged(house) {
-        return Saved {
-            number: 8,
-            detail: 0,
-            count: 0,
-            house,
-        };
+        return Err(Refusal::Damaged);
     }
     if memory.len() != wide(house.words) {
-        return Saved {
-            number: 9,
-            detail: 0,
-            count: 0,
-            house,
-        };
+        return Err(Refusal::OtherMemory);
     }
     let mut head = [0u8; 10934];
     let n = put_head(house, &mut head);
     let frames = memory.len() / 1024;
     let count = piece_length(n + (frames * 4106 + 6), at, out.len());
     if count == 0 {
-        return Saved {
-            number: 0,
-            detail: 0,
-            count: 0,
-            house,
-        };
+        return Ok(0);
     }
     put_piece(&head, n, memory, frames, at as usize, count, out);
-    Saved {
-        number: 0,
-        detail: 0,
-        count,
-        house,
-    }
+    Ok(count)
 }

@@ -24,10 +24,9 @@ use Rattle.demands.specs.Demands.{StepOf, by_shadow, by_table}
 use Rattle.demands.proofs.Booted.FreshHouse.{booted_whole}
 use Rattle.demands.proofs.Histories.Stays.{history_stays}
 use Rattle.demands.proofs.Instances.TwoGuests.{two_guests, memory_words, ready, full, grown_full, misled, misled_stays, misled_stale, misled_size}
-use Rattle.staleness.specs.Audit.{finding, first_page, audit_call, stale_count, stale_counts, counts, counts_call, mend_call}
+use Rattle.staleness.specs.Audit.{Finding, finding, first_page, audit_call, stale_count, stale_counts, counts, counts_call, mend_call}
 use Rattle.staleness.specs.Examples.{remaining, ours, six_stale, outgrown}
 use Rattle.staleness.specs.Promises.{Passes, NamesFirst, Mends, called, audited, tallied, mended_in, used, uses}
-use Rattle.staleness.specs.declared.Finding.{Finding}
 use Rattle.staleness.proofs.Promises.{grown_pass, still_grown, names, passes_right, counts_stale, mends_all, mend_refused, passed_steps, passed_reach, passes_on}
 use Rattle.staleness.proofs.Searching.{first_found}
 use Rattle.staleness.proofs.SixStale.{kept_is, six_audit, six_counts, six_mend, outgrown_mend, six_typed}

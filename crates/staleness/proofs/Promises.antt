@@ -23,13 +23,12 @@ use Rattle.demands.proofs.Demands.{never_damaged}
 use Rattle.demands.proofs.Histories.Grown.{standing, grown_after}
 use Rattle.demands.proofs.Histories.Landings.{lands}
 use Rattle.demands.proofs.Histories.Standing.{Firm, step_of, firm_step}
-use Rattle.staleness.specs.Audit.{audit_verdict, first_stale, audit_call, count_at, stale_counts, counts, mended, mended_to, mend_call}
+use Rattle.staleness.specs.Audit.{Finding, audit_verdict, first_stale, audit_call, count_at, stale_counts, counts, mended, mended_to, mend_call}
 use Rattle.staleness.specs.Promises.{Passes, GrownPass, Use, called, audited, tallied, mended_in, used, uses, StillGrown, NamesFirst, Names, PassesRight, CountsStale, Mends, MendsAll, MendRefused, PassedSteps, PassedReach, PassesOn}
-use Rattle.staleness.specs.declared.Finding.{Finding}
 use Rattle.staleness.proofs.Counting.{count_none, count_some}
 use Rattle.staleness.proofs.Mending.{mended_rest, mended_entry, mended_right, mended_stays, mended_same}
 use Rattle.staleness.proofs.Searching.{all_right, names_first, none_named}
-use Rattle.staleness.proofs.Verdicts.{AuditDone, audit_done, done_audit, audit_plain, audit_refused, audit_found, counts_found}
+use Rattle.staleness.proofs.Verdicts.{AuditDone, audit_done, done_audit, done_verdict, audit_refused, audit_found, counts_found}
 
 -- every entry of every partition is right
 abbrev pub AllRight : World → Type 0
@@ -76,7 +75,7 @@ module _ (w : World) (s : Shaped w.house) (d : AuditDone w) (r : AllRight w) whe
   unfolding mend_call mended
   nothing_mended =
       let z : sum (stale_counts w) ≡ 0 = ap sum no_counts ∙ (unfold sum in refl) in
-      rw (z, (audit_plain w 0).done (done_audit w 0 d)) (ap (answered (verdict 0 0)) (mended_same w s.shadows w.house.count few r))
+      rw (z, done_verdict w 0 d) (ap (answered (verdict 0 0)) (mended_same w s.shadows w.house.count few r))
 
 pub grown_pass : GrownPass
 unfolding booted_house

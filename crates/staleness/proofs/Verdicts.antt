@@ -1,17 +1,22 @@
 -- What the audit's verdict says, and what the calls answer by it.
-use mathlib.Core.Path.{◌≡◌, sym}
+use mathlib.Core.Path.{◌≡◌, refl, sym, ap}
+use mathlib.Core.List.{List}
 use mathlib.Core.Bool.{false}
 use Prim.Native.Nat.{ℕ}
 use native.Mathlib.Omega.{arith}
 use borrow.Author.Tests.{eqb-true, not-false, ne_eqb, eq-eqb}
 use lib.ListN.{length, replicate}
 use Rattle.house.specs.Damage.{damaged}
-use Rattle.house.specs.Boot.{first_of}
-use Rattle.house.specs.Turns.{World}
+use Rattle.house.specs.Boot.{Verdict, verdict, first_of}
+use Rattle.house.specs.Turns.{World, world}
 use Rattle.house.specs.Sound.{Shaped}
+use Rattle.house.specs.Refusals.{refusal}
+use Rattle.house.specs.declared.House.{House}
+use Rattle.house.specs.declared.refusal.Refusal.{Refusal}
+use Rattle.house.proofs.Refusals.{not_0, leaves_given, leaves_done}
+use Rattle.hypervisor.proofs.Refusals.{Told_house, shaped}
 use Rattle.house.proofs.Calls.Verdicts.{passed}
 use Rattle.house.proofs.Damage.Undamaged.{count_within, sound_partition}
-use Rattle.hypervisor.proofs.Refusals.{Plain, plain_case, plain_done}
 use Rattle.staleness.specs.Audit.{audit_verdict, finding, first_stale, audit_call, counts, stale_counts, counts_call, Walkable}
 
 -- an audit that is done
@@ -27,13 +32,12 @@ module _ (w : World) (d : ℕ) where
       let b = passed _ 9 _ _ _ (omega arith) a.1 in
       record { whole = a.0; size = eqb-true (length w.memory) w.house.words (not-false _ b.0) }
 
-  pub done_audit : AuditDone w → (audit_verdict w d).number ≡ 0
+  pub done_verdict : AuditDone w → audit_verdict w d ≡ verdict 0 d
   unfolding audit_verdict first_of
-  done_audit a = simp (a.whole, eq-eqb (length w.memory) w.house.words a.size)
+  done_verdict a = simp (a.whole, eq-eqb (length w.memory) w.house.words a.size)
 
-  pub audit_plain : Plain (audit_verdict w d) d
-  unfolding audit_verdict
-  audit_plain = plain_case _ 8 d _ (omega arith) (plain_case _ 9 d _ (omega arith) (plain_done d))
+  pub done_audit : AuditDone w → (audit_verdict w d).number ≡ 0
+  done_audit a = ap (λ (v : Verdict). v.number) (done_verdict a)
 
 pub walkable : (w : World) → Shaped w.house → AuditDone w → Walkable w
 walkable w s a = record { few = (count_within w.house a.whole).1; each = λ i l. (sound_partition w.house a.whole w.memory s a.size i l).placed }
@@ -56,3 +60,31 @@ module _ (w : World) (n : ℕ) (e : n ≡ (audit_verdict w 0).number) where
   pub counts_found : n ≡ 0 → counts_call w ≡ counts 0 (stale_counts w)
   unfolding counts_call
   counts_found z = rw (sym e, z)
+
+-- ---- what the calls' answers cite
+
+pub walks : (h : House) (m : List ℕ) → Told_house h → verdict 0 0 ≡ audit_verdict (world h m) 0 → Walkable (world h m)
+walks h m t e = walkable (world h m) (shaped h t) (audit_done (world h m) 0 (ap (λ (v : Verdict). v.number) (sym e)))
+
+module _ (w : World) where
+  pub refused_audit : (r : Refusal) → refusal r ≡ audit_verdict w 0 → finding (refusal r).number false 0 0 ≡ audit_call w
+  unfolding audit_call
+  refused_audit r e = rw (← e, not_0 r) refl
+
+  pub found_audit : verdict 0 0 ≡ audit_verdict w 0 → first_stale w ≡ audit_call w
+  unfolding audit_call
+  found_audit e = rw (← e) refl
+
+  pub refused_counts : (r : Refusal) → refusal r ≡ audit_verdict w 0 → counts (refusal r).number (replicate 8 0) ≡ counts_call w
+  unfolding counts_call
+  refused_counts r e = rw (← e, not_0 r) refl
+
+  pub found_counts : verdict 0 0 ≡ audit_verdict w 0 → counts 0 (stale_counts w) ≡ counts_call w
+  unfolding counts_call
+  found_counts e = rw (← e) refl
+
+pub ruleset of_audit = (refused_audit, found_audit)
+
+pub ruleset of_counts = (refused_counts, found_counts)
+
+pub ruleset of_mend = (leaves_given, leaves_done)

@@ -1,6 +1,6 @@
 -- The audit of a house and its memory: which shadow entries are stale (`stale_at`), the first of them, how many there are, and the house without them. Every
 -- partition's whole shadow counts: running or stopped, in either mode, below PTL or not.
-use Rattle.std.specs.Prelude.{Bool, true, false, not, List, [], ◌∷◌, ℕ, zero, suc, ◌+◌, ◌*◌, ◌<◌, ◌≤◌, ltb, eqb, length, get_or, replicate}
+use Rattle.std.specs.Prelude.{Option, Some, None, Result, Ok, Err, Bool, true, false, not, List, [], ◌∷◌, ℕ, zero, suc, ◌+◌, ◌*◌, ◌<◌, ◌≤◌, ltb, eqb, length, get_or, replicate}
 use Rattle.dlx.specs.Choice.{when◌then◌else◌}
 use Rattle.dlx.specs.Parts.{outer}
 use Rattle.dlx.specs.declared.partition.Table.{Table}
@@ -13,8 +13,9 @@ use Rattle.house.specs.Damage.{damaged}
 use Rattle.house.specs.Boot.{Verdict, verdict, case, first_of, sum}
 use Rattle.house.specs.Turns.{World, world, stale_at}
 use Rattle.house.specs.Calls.{Answered, unless_refused}
-use Rattle.staleness.specs.declared.Finding.{Finding}
-use Rattle.staleness.specs.declared.Counts.{Counts}
+use Rattle.house.specs.Refusals.{refusal}
+use Rattle.house.specs.declared.refusal.Refusal.{Refusal}
+use Rattle.staleness.specs.declared.Stale.{Stale}
 
 -- what refuses the calls: 8, then 9; done, with this detail
 unfoldable pub audit_verdict : World → ℕ → Verdict
@@ -35,8 +36,24 @@ kept_in fr n t ws sh px = when stale_in fr n t ws sh px then 0 else get_or sh px
 
 -- ---- the first stale entry, by partition and then by page
 
+-- what an audit tells in numbers: the refusal's number, or 0; and whether there is a stale entry, and where, or 0 and 0
+pub record Finding : Type 0 where
+  pub number : ℕ
+  pub stale : Bool
+  pub partition : ℕ
+  pub page : ℕ
+
 abbrev pub finding : ℕ → Bool → ℕ → ℕ → Finding
 finding number stale i px = record { number = number; stale = stale; partition = i; page = px }
+
+-- what the code found, and answers
+abbrev pub found : Option Stale → Finding
+found None = finding 0 false 0 0
+found (Some s) = finding 0 true s.partition s.page
+
+abbrev pub finding_of : Result (Option Stale) Refusal → Finding
+finding_of (Ok s) = found s
+finding_of (Err r) = finding (refusal r).number false 0 0
 
 -- partition i's first, or the number of its entries
 abbrev pub first_page : World → ℕ → ℕ
@@ -72,8 +89,17 @@ count_at w i = when ltb i w.house.count then stale_count w i else 0
 unfoldable pub stale_counts : World → List ℕ
 stale_counts w = list_from (count_at w) 0 8
 
+-- what a count tells in numbers: the refusal's number and eight times 0, or 0 and the counts
+pub record Counts : Type 0 where
+  pub number : ℕ
+  pub each : List ℕ
+
 abbrev pub counts : ℕ → List ℕ → Counts
 counts number each = record { number = number; each = each }
+
+abbrev pub counts_of : Result (List ℕ) Refusal → Counts
+counts_of (Ok each) = counts 0 each
+counts_of (Err r) = counts (refusal r).number (replicate 8 0)
 
 unfoldable pub counts_call : World → Counts
 counts_call w =

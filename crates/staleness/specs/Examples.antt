@@ -11,8 +11,7 @@ use Rattle.house.specs.Lists.{list_from, any}
 use Rattle.house.specs.House.{no_partition, no_house, shadow_of, layout, guests, turn, with_layout, with_turn, with_guests}
 use Rattle.house.specs.Turns.{World, world}
 use Rattle.house.specs.declared.House.{House}
-use Rattle.staleness.specs.Audit.{first_stale, audit_call, stale_counts, counts_call, mended, mend_call}
-use Rattle.staleness.specs.declared.Finding.{Finding}
+use Rattle.staleness.specs.Audit.{Finding, first_stale, audit_call, stale_counts, counts_call, mended, mend_call}
 
 -- ---- a partition of three pages, in frames 2, 3 and 1 of a memory of four; its table is its page 1, so host words 3,072 and on, and has six entries
 

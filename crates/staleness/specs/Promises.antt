@@ -8,8 +8,7 @@ use Rattle.house.specs.Sound.{Shaped, Typed, Stays}
 use Rattle.house.specs.Calls.{answered}
 use Rattle.demands.specs.Histories.{Boot, booted, Call, after, Grown}
 use Rattle.demands.specs.Demands.{StepOf, by_shadow, by_table}
-use Rattle.staleness.specs.Audit.{finding, audit_call, stale_count, counts_call, counts, kept_at, mend_call}
-use Rattle.staleness.specs.declared.Finding.{Finding}
+use Rattle.staleness.specs.Audit.{Finding, finding, audit_call, stale_count, counts_call, counts, kept_at, mend_call}
 
 -- nothing is refused, and nothing is found
 abbrev pub Passes : World → Type 0

@@ -8,35 +8,26 @@ ghost use Rattle.addresses.specs.Memory.{stale};
 ghost use Rattle.addresses.specs.Premises.{Placed};
 ghost use Rattle.house.specs.Lists.{list_from, first_from};
 ghost use Rattle.house.specs.House.{pages_of, frames_of};
-ghost use Rattle.house.specs.Boot.{verdict, sum};
+ghost use Rattle.house.specs.Boot.{sum};
 ghost use Rattle.house.specs.Turns.{world};
-ghost use Rattle.house.specs.Calls.{answered};
-ghost use Rattle.staleness.specs.Audit.{audit_verdict, stale_in, kept_in, first_page, first_stale, audit_call, count_of, stale_count, stale_counts, counts_call, mended_one, mended, mend_call, Walkable};
+ghost use Rattle.house.specs.Refusals.{verdict_of, answer_of};
+ghost use Rattle.staleness.specs.Audit.{audit_verdict, stale_in, kept_in, first_page, found, first_stale, finding_of, audit_call, count_of, stale_count, stale_counts, counts_of, counts_call, mended_one, mended, mend_call, Walkable};
 
 use addresses::ENTRIES;
 use damage::damaged;
 use dlx::partition::Table;
 use dlx::words::wide;
-use house::{Answer, House};
+use house::{Answer, Done, House, Refusal};
 use translate::walk;
 
 // Virtual pages are below it.
 const LIMIT: u32 = ENTRIES as u32;
 
-// What an audit found: the first stale entry, by partition and then by page, where there is one.
-#[derive(Clone, Copy)]
-pub struct Finding {
-    pub number: u32,
-    pub stale: bool,
+// Where a stale entry stands.
+#[derive(Clone, Copy, Debug, PartialEq, Eq)]
+pub struct Stale {
     pub partition: u32,
     pub page: u32,
-}
-
-// The stale entries of each partition.
-#[derive(Clone, Copy)]
-pub struct Counts {
-    pub number: u32,
-    pub each: [u32; 8],
 }
 
 // ---- one entry
@@ -184,30 +175,20 @@ fn mend_of(h: House, memory: &[u32], i: u32) -> House
 
 // ---- all partitions
 
-fn first_stale(h: House, memory: &[u32]) -> Finding
+fn first_stale(h: House, memory: &[u32]) -> Option<Stale>
     requires { Walkable (world h memory.now) }
-    ensures { result ≡ first_stale (world h memory.now) }
+    ensures { found result ≡ first_stale (world h memory.now) }
 {
     let n = h.count;
     let mut i: u32 = 0;
     while i < n {
         let page = first_of(h, memory, i);
         if page < LIMIT {
-            return Finding {
-                number: 0,
-                stale: true,
-                partition: i,
-                page,
-            };
+            return Some(Stale { partition: i, page });
         }
         i += 1;
     }
-    Finding {
-        number: 0,
-        stale: false,
-        partition: 0,
-        page: 0,
-    }
+    None
 }
 
 fn count_each(h: House, memory: &[u32]) -> [u32; 8]
@@ -259,66 +240,45 @@ fn total(each: [u32; 8]) -> u64
 
 // ---- the calls
 
-// What refuses them, with a memory of this length; 0 for nothing.
-fn refusal(h: House, size: usize) -> u32
-    ensures { (m : List ℕ) (d : ℕ) → length m ≡ size → result ≡ (audit_verdict (world h m) d).number }
+// Does anything refuse them with a memory of this length?
+#[tactic(auto, unfolding(crate::specs::Audit::audit_verdict, house::specs::Boot::first_of))]
+fn check(h: House, size: usize) -> Result<(), Refusal>
+    ensures { (m : List ℕ) (d : ℕ) → length m ≡ size → verdict_of d result ≡ audit_verdict (world h m) d }
 {
     if damaged(h) {
-        return 8;
+        return Err(Refusal::Damaged);
     }
     if size != wide(h.words) {
-        return 9;
+        return Err(Refusal::OtherMemory);
     }
-    0
+    Ok(())
 }
 
-// Is any entry stale, and which is the first?
-pub fn audit(h: House, memory: &[u32]) -> Finding
-    ensures { result ≡ audit_call (world h memory.now) }
+// Is any entry stale, and which is the first, by partition and then by page?
+#[tactic(auto, using(crate::proofs::Verdicts::of_audit))]
+pub fn audit(h: House, memory: &[u32]) -> Result<Option<Stale>, Refusal>
+    ensures { finding_of result ≡ audit_call (world h memory.now) }
 {
-    let number = refusal(h, memory.len());
-    if number != 0 {
-        return Finding {
-            number,
-            stale: false,
-            partition: 0,
-            page: 0,
-        };
-    }
-    first_stale(h, memory)
+    check(h, memory.len())?;
+    Ok(first_stale(h, memory))
 }
 
 // How many entries of each partition are stale?
-pub fn stale_counts(h: House, memory: &[u32]) -> Counts
-    ensures { result ≡ counts_call (world h memory.now) }
+#[tactic(auto, using(crate::proofs::Verdicts::of_counts))]
+pub fn stale_counts(h: House, memory: &[u32]) -> Result<[u32; 8], Refusal>
+    ensures { counts_of result ≡ counts_call (world h memory.now) }
 {
-    let number = refusal(h, memory.len());
-    if number != 0 {
-        let each = [0u32; 8];
-        return Counts { number, each };
-    }
-    let each = count_each(h, memory);
-    Counts { number: 0, each }
+    check(h, memory.len())?;
+    Ok(count_each(h, memory))
 }
 
 // The stale entries, and no others, become empty. The detail is how many there were.
+#[tactic(auto, using(crate::proofs::Verdicts::of_mend), unfolding(crate::specs::Audit::mend_call))]
 pub fn mend(h: House, memory: &[u32]) -> Answer
-    ensures { answered (verdict result.number result.detail) (world result.house memory.now) ≡ mend_call (world h memory.now) }
+    ensures { answer_of h result memory.now ≡ mend_call (world h memory.now) }
 {
-    let number = refusal(h, memory.len());
-    if number != 0 {
-        return Answer {
-            number,
-            detail: 0,
-            house: h,
-        };
-    }
-    let each = count_each(h, memory);
-    let detail = total(each);
+    check(h, memory.len())?;
+    let detail = total(count_each(h, memory));
     let house = mend_each(h, memory);
-    Answer {
-        number: 0,
-        detail,
-        house,
-    }
+    Ok(Done { detail, house })
 }

@@ -2,19 +2,17 @@
 #![tactic(auto)]
 
 ghost use Rattle.std.specs.Prelude.{◌≡◌};
-ghost use Rattle.house.specs.Boot.{verdict};
 ghost use Rattle.house.specs.House.{fresh_shadows, with_shadows};
 ghost use Rattle.house.specs.Turns.{world};
-ghost use Rattle.house.specs.Calls.{answered};
+ghost use Rattle.house.specs.Refusals.{answer_of};
 ghost use Rattle.unshadowed.specs.Turns.{unshadowed_steps, all_empty};
 ghost use Rattle.unshadowed_run.specs.Calls.{unshadowed_call, run_by};
 ghost use Rattle.unshadowed_run.specs.Steady.{Steady};
 
 use addresses::ENTRIES;
 use dlx::words::wide;
-use house::{Answer, House};
+use house::{Answer, Done, House};
 use hypervisor::calls;
-use hypervisor::calls::{refused, run_refusal};
 use hypervisor::run::{limit, turn};
 
 // The house with every shadow empty.
@@ -90,30 +88,26 @@ fn steps(mut h: House, memory: &mut [u32], k: u32) -> House
 }
 
 // A run by the engine without shadows: refused as the first one's is; a done one, of 0 steps too, gives every shadow back empty.
+#[tactic(auto, using(crate::proofs::Calls::of_run), unfolding(crate::specs::Calls::unshadowed_call))]
 pub fn run(h: House, memory: &mut [u32], k: u32) -> Answer
-    ensures { answered (verdict result.number result.detail) (world result.house memory.new) ≡ unshadowed_call (world h memory.old) k }
+    ensures { answer_of h result memory.new ≡ unshadowed_call (world h memory.old) k }
 {
-    let number = run_refusal(h, memory.len(), k);
-    if number != 0 {
-        return refused(h, number);
-    }
-    if k == 0 {
-        return refused(empty_all(h), 0);
-    }
-    let g = empty_all(steps(h, memory, k));
-    Answer {
-        number: 0,
+    calls::check_run(h, memory.len(), k)?;
+    let stepped = if k == 0 { h } else { steps(h, memory, k) };
+    Ok(Done {
         detail: k as u64,
-        house: g,
-    }
+        house: empty_all(stepped),
+    })
 }
 
 // A run by the engine that is asked for.
+#[tactic(auto, unfolding(crate::specs::Calls::run_by))]
 pub fn run_by(unshadowed: bool, h: House, memory: &mut [u32], k: u32) -> Answer
-    ensures { answered (verdict result.number result.detail) (world result.house memory.new) ≡ run_by unshadowed (world h memory.old) k }
+    ensures { answer_of h result memory.new ≡ run_by unshadowed (world h memory.old) k }
 {
     if unshadowed {
-        return run(h, memory, k);
+        run(h, memory, k)
+    } else {
+        calls::run(h, memory, k)
     }
-    calls::run(h, memory, k)
 }

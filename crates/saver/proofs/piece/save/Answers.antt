@@ -1,33 +1,20 @@
 use mathlib.Core.Path.{sym, ◌∙◌}
 use native.Mathlib.Omega.{arith}
-use Rattle.saver.proofs.Pieces.{head_fits, save_damaged, save_other, piece_fits, save_none, save_some}
+use Rattle.saver.proofs.Pieces.{head_fits, piece_fits, save_none, save_some}
 use borrow.Author.Rules.{rules}
 use Rattle.saver.proofs.piece.save.Goals as goal
 
--- src/piece.rt:123:9
-pub returns-then-damaged : goal.returns-then-damaged
-returns-then-damaged c = let a = c.args in save_damaged a.house a.memory.now a.at a.out.now (sym c.damaged.ensures ∙ c.if-damaged.true)
-
--- src/piece.rt:130:9
-pub returns-then-memory-wide : goal.returns-then-memory-wide
-returns-then-memory-wide c = let a = c.args in save_other a.house a.memory.now a.at a.out.now (sym c.damaged.ensures ∙ c.if-damaged.false) (λ z. c.if-memory-wide.true (z ∙ sym c.wide.ensures))
-
--- src/piece.rt:137:9
 pub put_head-n-requires : goal.put_head-n-requires
 put_head-n-requires c = head_fits c.args.house (sym c.damaged.ensures ∙ c.if-damaged.false)
 
--- src/piece.rt:141:9
 pub returns-then-count-eq0 : goal.returns-then-count-eq0
 returns-then-count-eq0 c = let a = c.args in let h = c.put_head-n.ensures in save_none a.house a.memory.now a.at a.out.now (sym c.damaged.ensures ∙ c.if-damaged.false) (c.if-memory-wide.false ∙ c.wide.ensures) _ c.put_head-n.result h.3 h.0 h.1 h.2 _ c.piece_length-count.ensures c.if-count-eq0.true
 
--- src/piece.rt:147:15
 pub slice_bounds-put_piece-end : goal.slice_bounds-put_piece-end
 slice_bounds-put_piece-end c = search (rules, c.put_head-n.ensures.3)
 
--- src/piece.rt:147:5
 pub put_piece-requires : goal.put_piece-requires
 put_piece-requires c = let a = c.args in let h = c.put_head-n.ensures in record { fact_1 = piece_fits a.house a.memory.now a.at a.out.now (sym c.damaged.ensures ∙ c.if-damaged.false) (c.if-memory-wide.false ∙ c.wide.ensures) _ c.put_head-n.result h.3 h.0 h.1 h.2; fact_2 = omega (arith, c.piece_length-count.ensures); fact_3 = omega (arith, c.piece_length-count.ensures, c.if-count-eq0.false) }
 
--- src/piece.rt:119:1
 pub returns : goal.returns
 returns c = let a = c.args in let h = c.put_head-n.ensures in save_some a.house a.memory.now a.at a.out.now (sym c.damaged.ensures ∙ c.if-damaged.false) (c.if-memory-wide.false ∙ c.wide.ensures) _ c.put_head-n.result h.3 h.0 h.1 h.2 _ c.piece_length-count.ensures _ c.put_piece.ensures

@@ -6,7 +6,7 @@ use Rattle.house.specs.Boot.{pages_wrong, frame_outside, frame_kept, stood_earli
 use Rattle.house.proofs.Lists.Bounded.{and_right}
 use Rattle.house.proofs.Lists.ByRule.{any_found, any_missed}
 use Rattle.boot.proofs.Places.{few, below}
-use Rattle.boot.proofs.first_refusal.Goals as goal
+use Rattle.boot.proofs.check.Goals as goal
 
 pub returns-then-not-within : goal.returns-then-not-within
 unfolding boot_verdict first_of
