@@ -1,6 +1,6 @@
 -- The audit of a house and its memory: which shadow entries are stale (`stale_at`), the first of them, how many there are, and the house without them. Every
 -- partition's whole shadow counts: running or stopped, in either mode, below PTL or not.
-use Rattle.std.specs.Prelude.{Bool, true, false, not, List, [], ◌∷◌, ℕ, zero, suc, ◌+◌, ◌*◌, ◌<◌, ◌≤◌, ltb, eqb, length, get_or, replicate}
+use Rattle.std.specs.Prelude.{◌≡◌, Option, MatchOption, Bool, true, false, not, List, [], ◌∷◌, ℕ, zero, suc, ◌+◌, ◌*◌, ◌<◌, ◌≤◌, ltb, eqb, length, get_or, replicate}
 use Rattle.dlx.specs.Choice.{when◌then◌else◌}
 use Rattle.dlx.specs.Parts.{outer}
 use Rattle.dlx.specs.declared.partition.Table.{Table}
@@ -37,6 +37,10 @@ kept_in fr n t ws sh px = when stale_in fr n t ws sh px then 0 else get_or sh px
 
 abbrev pub finding : ℕ → Bool → ℕ → ℕ → Finding
 finding number stale i px = record { number = number; stale = stale; partition = i; page = px }
+
+-- r is the first number below n of which p holds, where there is one
+abbrev pub IsFirst : (ℕ → Bool) → ℕ → Option ℕ → Type 0
+IsFirst p n r = MatchOption r (first_from p 0 n ≡ n) (λ k. (k < n) × (first_from p 0 n ≡ k))
 
 -- partition i's first, or the number of its entries
 abbrev pub first_page : World → ℕ → ℕ
