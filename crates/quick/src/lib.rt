@@ -79,24 +79,11 @@ fn in_page(
             return quit(page, x, y, left + 1, 0);
         }
         let w = fetch(&words[base..base + 1024], x);
-        let mut target: u32 = 0;
-        if !plain::act(
-            specials,
-            p,
-            t,
-            held,
-            pages,
-            w,
-            page,
-            y,
-            regs,
-            frames,
-            shadow,
-            words,
-            &mut target,
-        ) {
+        let Some(target) = plain::act(
+            specials, p, t, held, pages, w, page, y, regs, frames, shadow, words,
+        ) else {
             return quit(page, x, y, left + 1, w);
-        }
+        };
         x = y;
         y = target;
     }

@@ -34,11 +34,11 @@ fetch-w-requires c = let i = cached_inside _ _ _ _ _ c.args.t c.args.words.now _
 pub act-requires : goal.act-requires
 act-requires c = let i = c.loop-left.invariant in record { fact_1 = i.1 ∙ c.requires.fact_1; fact_2 = subst (λ z. Placed c.args.frames.now c.args.pages z) (sym i.2) c.requires.fact_2; fact_3 = c.requires.fact_3; fact_4 = c.requires.fact_5; fact_5 = c.held-held.ensures }
 
-pub returns-then-not-act : goal.returns-then-not-act
-returns-then-not-act c = let f = c.act.ensures.1 c.if-not-act.true in rw (f.0, f.1) (goes_quit _ _ _ _ _ _ _ _ _ _ _ _ _ _ _ _ _ _ (c.quit-then-not-act.ensures.0, c.quit-then-not-act.ensures.1, c.quit-then-not-act.ensures.2 ∙ omega arith, c.quit-then-not-act.ensures.3) c.loop-left.invariant.0, c.loop-left.invariant.1, c.loop-left.invariant.2, found_quit _ _ _ _ c.args.k c.args.p _ _ _ _ _ _ _ _ _ _ c.quit-then-not-act.ensures (λ _ latest k. cached_fetch _ _ _ _ _ _ c.args.p (omega arith) c.requires.fact_4 _ c.loop-left.y _ _ _ latest k (sym c.away.ensures ∙ c.if-away.false) (page_word c.loop-left.words c.args.base _ _ (not_away _ (sym c.away.ensures ∙ c.if-away.false)).1 c.fetch-w.ensures)))
+pub returns-in_default : goal.returns-in_default
+returns-in_default c = let f = rw c.in_default.is at c.act.ensures in rw (f.0, f.1) (goes_quit _ _ _ _ _ _ _ _ _ _ _ _ _ _ _ _ _ _ (c.quit-in_default.ensures.0, c.quit-in_default.ensures.1, c.quit-in_default.ensures.2 ∙ omega arith, c.quit-in_default.ensures.3) c.loop-left.invariant.0, c.loop-left.invariant.1, c.loop-left.invariant.2, found_quit _ _ _ _ c.args.k c.args.p _ _ _ _ _ _ _ _ _ _ c.quit-in_default.ensures (λ _ latest k. cached_fetch _ _ _ _ _ _ c.args.p (omega arith) c.requires.fact_4 _ c.loop-left.y _ _ _ latest k (sym c.away.ensures ∙ c.if-away.false) (page_word c.loop-left.words c.args.base _ _ (not_away _ (sym c.away.ensures ∙ c.if-away.false)).1 c.fetch-w.ensures)))
 
 pub loop-left-preserved : goal.loop-left-preserved
-loop-left-preserved c = let i = c.loop-left.invariant in let f = c.act.ensures.0 c.if-not-act.false in (goes_on _ _ _ _ _ _ _ (omega arith) c.requires.fact_4 _ _ _ _ _ _ _ _ _ _ _ _ c.loop-left-test.true (sym c.away.ensures ∙ c.if-away.false) (page_word c.loop-left.words c.args.base _ _ (not_away _ (sym c.away.ensures ∙ c.if-away.false)).1 c.fetch-w.ensures) f i.0, omega (arith, i.1), omega (arith, i.2))
+loop-left-preserved c = let i = c.loop-left.invariant in let f = rw c.in-Some.is at c.act.ensures in (goes_on _ _ _ _ _ _ _ (omega arith) c.requires.fact_4 _ _ _ _ _ _ _ _ _ _ _ _ c.loop-left-test.true (sym c.away.ensures ∙ c.if-away.false) (page_word c.loop-left.words c.args.base _ _ (not_away _ (sym c.away.ensures ∙ c.if-away.false)).1 c.fetch-w.ensures) f i.0, omega (arith, i.1), omega (arith, i.2))
 
 pub returns : goal.returns
 returns c = (goes_quit _ _ _ _ _ _ _ _ _ _ _ _ _ _ _ _ _ _ (c.quit-2.ensures.0, c.quit-2.ensures.1, c.quit-2.ensures.2 ∙ omega arith, c.quit-2.ensures.3) c.loop-left.invariant.0, c.loop-left.invariant.1, c.loop-left.invariant.2, found_quit _ _ _ _ c.args.k c.args.p _ _ _ _ _ _ _ _ _ _ c.quit-2.ensures (found_none _ _ _ _ c.args.k c.args.p _ _ _))
