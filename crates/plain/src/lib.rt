@@ -279,6 +279,7 @@ fn register_type(
         45 => Some(put(regs, rd, test(5, a, b), y)),
         46 => Some(put(regs, rd, test(6, a, b), y)),
         47 => Some(put(regs, rd, test(7, a, b), y)),
+        // An arm for each function that is not plain: a pattern of several costs two instructions a step.
         0 => None,
         1 => None,
         2 => None,
@@ -563,6 +564,7 @@ pub fn act(
         29 => test_type(opcode, regs, w, y),
         30 => test_type(opcode, regs, w, y),
         31 => test_type(opcode, regs, w, y),
+        // An arm for each opcode that is not plain: a pattern of several costs two instructions a step.
         1 => None,
         6 => None,
         7 => None,

@@ -2,7 +2,7 @@ use Rattle.plain.proofs.Arms.{load_arm, store_arm, sum_arm, and_arm, or_arm, xor
 use Rattle.plain.proofs.Effects.{o_35, o_43, o_8, o_10, o_12, o_13, o_14, o_32, o_33, o_36, o_37, o_40, o_41}
 use Rattle.dlx.specs.Words.{rd_immediate, extended}
 use Rattle.dlx.specs.declared.instruction.Operation.TheVariants.{Add, Sub}
-use Rattle.std.proofs.Common.{sym, refl, ◌∙◌, arith}
+use Rattle.std.proofs.Common.{refl, arith}
 use Rattle.plain.proofs.Laws.{match_on}
 use Rattle.plain.proofs.act.Goals as goal
 

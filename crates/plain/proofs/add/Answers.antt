@@ -1,5 +1,5 @@
 use Rattle.dlx.specs.Execute.{operated, overflows_of, value_of}
-use Rattle.std.proofs.Common.{sym, refl, ◌∙◌, eq-eqb, ne_eqb}
+use Rattle.std.proofs.Common.{refl, eq-eqb, ne_eqb}
 use Rattle.plain.proofs.add.Goals as goal
 
 -- src/lib.rt:191:13

@@ -4,7 +4,7 @@ use Rattle.plain.proofs.Laws.{seen_inside, load_does, fits_left}
 use Rattle.processor.proofs.Opcodes.{or_left}
 use Rattle.dlx.specs.Fields.{loading, storing}
 use Rattle.addresses.proofs.Entries.{placed_listed}
-use Rattle.std.proofs.Common.{sym, refl, ◌∙◌, arith, eq-eqb}
+use Rattle.std.proofs.Common.{sym, refl, arith, eq-eqb}
 use Rattle.plain.proofs.load.Goals as goal
 
 -- src/lib.rt:136:9

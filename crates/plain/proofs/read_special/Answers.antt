@@ -1,4 +1,4 @@
-use Rattle.std.proofs.Common.{ℕ, ◌<◌, get_or, sym, refl, ap, ◌∙◌, arith, ne_eqb}
+use Rattle.std.proofs.Common.{ℕ, ◌<◌, get_or, refl, ap, ◌∙◌, arith, ne_eqb}
 use Rattle.dlx.specs.Execute.{written}
 use Rattle.plain.proofs.read_special.Goals as goal
 

@@ -1,4 +1,4 @@
-use Rattle.std.proofs.Common.{ℕ, get_or, sym, refl, ap, ◌∙◌, arith}
+use Rattle.std.proofs.Common.{ℕ, get_or, refl, ap, arith}
 use Rattle.plain.proofs.Arms.{sum_register, calm_register, test_register, special_register}
 use Rattle.plain.proofs.Effects.{f_32, f_34, f_36, f_37, f_38}
 use Rattle.dlx.specs.Execute.{value_of, overflows_of}

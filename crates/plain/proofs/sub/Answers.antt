@@ -1,6 +1,6 @@
 use Rattle.dlx.specs.Execute.{operated, overflows_of, value_of}
 use Rattle.dlx.specs.Words.{minus}
-use Rattle.std.proofs.Common.{◌≡◌, sym, refl, ◌∙◌, arith, eq-eqb, ne_eqb}
+use Rattle.std.proofs.Common.{◌≡◌, refl, arith, eq-eqb, ne_eqb}
 use Rattle.plain.proofs.sub.Goals as goal
 
 -- src/lib.rt:206:13

@@ -1,4 +1,4 @@
-use Rattle.std.proofs.Common.{sym, refl, ◌∙◌, arith}
+use Rattle.std.proofs.Common.{refl, arith}
 use Rattle.plain.proofs.test_type.Goals as goal
 
 pub returns-then-opcode-lt24 : goal.returns-then-opcode-lt24
