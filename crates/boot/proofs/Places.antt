@@ -1,8 +1,8 @@
 -- Laws of boot's loops: what each turn adds, and that all turns together make the house's lists.
 use mathlib.Core.Path.{◌≡◌, refl, sym, ap, subst, ◌∙◌}
-use mathlib.Core.Bool.{Bool, true, false}
+use mathlib.Core.Bool.{Bool, not, true, false}
 use mathlib.Core.List.{List, [], ◌∷◌, ◌++◌}
-use Prim.Native.Nat.{ℕ, ◌+◌, ◌-◌, ◌*◌, ◌/◌, ◌%◌, ◌<◌, ◌≤◌}
+use Prim.Native.Nat.{ℕ, zero, suc, ◌+◌, ◌-◌, ◌*◌, ◌/◌, ◌%◌, ◌<◌, ◌≤◌}
 use native.Mathlib.Omega.{arith}
 use borrow.Author.Tests.{lt-ltb, le-ltb, ltb-true, ltb-false, leb-true, leb-false}
 use lib.Dec.{ltb, leb, eqb}
@@ -11,8 +11,9 @@ use lib.Seq.{ext_get_or}
 use borrow.Rule.Slice.PartMut.{put_mid}
 use Rattle.std.specs.Prelude.{Option, None, Some, MatchOption}
 use Rattle.std.specs.Option.{unwrap_or}
+use Rattle.std.specs.List.{position, position_or_len}
 use Rattle.std.specs.List as std
-use Rattle.std.proofs.lemmas.List.Sums.{sum_by-cons}
+use Rattle.std.proofs.lemmas.List.Sums.{sum_by-cons, prefix_len-le-length}
 use Rattle.std.proofs.lemmas.List.{length-take-le, length-append, length-drop, get_or-take, get_or-drop, get_or-append_right, get_or_append_left}
 use Rattle.dlx.specs.Choice.{when◌then◌else◌}
 use Rattle.dlx.proofs.Tests.{by_test}
@@ -121,7 +122,27 @@ laid_more ps fr i from n m places part g l v p q e y =
 
 -- ---- what std's chains give, in the house's words
 
+first_rest : (p : ℕ → Bool) (k n : ℕ) → first_from p (suc k) n ≡ suc (first_from (λ j. p (suc j)) k n)
+unfolding first_from
+first_rest p k zero = refl
+first_rest p k (suc n) = by_test (p (suc k)) (λ e. rw e) (λ e. rw (e, first_rest p (suc k) n))
+
+first_len : (q : ℕ → Bool) (xs : List ℕ) → position_or_len q xs ≡ first_from (λ i. q (get_or xs i 0)) 0 (length xs)
+unfolding first_from
+first_len q [] = refl
+first_len q (x ∷ xs) =
+    by_test (q x)
+    (λ e. rw e)
+    (λ e. rw (e, first_len q xs) (omega (arith, first_rest (λ i. q (get_or (x ∷ xs) i 0)) 0 (length xs))))
+
 -- the first position, or how many there are
+pub first_position : (q : ℕ → Bool) (xs : List ℕ) → unwrap_or (position q xs) (length xs) ≡ first_from (λ i. q (get_or xs i 0)) 0 (length xs)
+first_position q xs =
+    let most = prefix_len-le-length (λ x. not (q x)) xs in
+    by_test (ltb (position_or_len q xs) (length xs))
+    (λ e. rw e (first_len q xs))
+    (λ e. let z : length xs ≡ position_or_len q xs = omega (arith, ltb-false (position_or_len q xs) (length xs) e, most) in rw e (z ∙ first_len q xs))
+
 pub first_or : (p : ℕ → Bool) (n : ℕ) (r : Option ℕ) → MatchOption r (any p n ≡ false) (λ at. (any p n ≡ true) × (at ≡ first_from p 0 n)) → unwrap_or r n ≡ first_from p 0 n
 first_or p n None h = sym (first_none p n h)
 first_or p n (Some at) h = h.1

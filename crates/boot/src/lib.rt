@@ -1,7 +1,7 @@
 // Boot: the refusals in their order, each search giving both the test and the detail; then the house, with every frame list at its place.
 #![tactic(auto)]
 
-ghost use Rattle.std.specs.Prelude.{◌≡◌, Bool, not, ℕ, ◌*◌, ◌+◌, ◌<◌, ◌≤◌, ltb, length, get_or};
+ghost use Rattle.std.specs.Prelude.{◌≡◌, not, ℕ, ◌*◌, ◌+◌, ◌<◌, ◌≤◌, ltb, length, get_or};
 ghost use Rattle.dlx.specs.Processor.{fresh_of};
 ghost use Rattle.house.specs.Lists.{between, list_from, first_from};
 ghost use Rattle.house.specs.House.{no_house, no_partition};
@@ -23,24 +23,14 @@ fn within(low: usize, n: usize, high: usize) -> bool
     (low..=high).contains(&n)
 }
 
-// The first position whose number passes the test, or how many numbers there are.
-fn first<F: Fn(u32) -> bool>(numbers: &[u32], test: F) -> usize
-    requires { F.IsAlwaysCallable test }
-    ensures { (p : ℕ → Bool) → ((x : ℕ) (r : Bool) → F.post test x r → r ≡ p x) → result ≡ first_from (λ i. p (get_or numbers.now i 0)) 0 (length numbers.now) }
-{
-    for (i, n) in numbers.iter().enumerate() {
-        if test(*n) {
-            return i;
-        }
-    }
-    numbers.len()
-}
-
 // The first partition with a page count not 1..256, or how many partitions there are.
 fn first_wrong(pages: &[u32]) -> usize
     ensures { result ≡ first_from (pages_wrong pages.now) 0 (length pages.now) }
 {
-    first(pages, |n| !(1..=256).contains(&n))
+    pages
+        .iter()
+        .position(|n| !(1..=256).contains(n))
+        .unwrap_or(pages.len())
 }
 
 // The memory is 1..1,024 whole frames.
@@ -63,14 +53,17 @@ fn first_outside(frames: &[u32], words: usize) -> usize
     ensures { result ≡ first_from (frame_outside frames.now words) 0 (length frames.now) }
 {
     let count = words / 1024;
-    first(frames, |f| count <= wide(f))
+    frames
+        .iter()
+        .position(|f| count <= wide(*f))
+        .unwrap_or(frames.len())
 }
 
 // The first position that names frame 0, or the list's length.
 fn first_kept(frames: &[u32]) -> usize
     ensures { result ≡ first_from (frame_kept frames.now) 0 (length frames.now) }
 {
-    first(frames, |f| f == 0)
+    frames.iter().position(|f| *f == 0).unwrap_or(frames.len())
 }
 
 // The smallest position whose frame stood earlier, or the list's length.
