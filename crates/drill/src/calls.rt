@@ -200,9 +200,8 @@ pub fn play(
         }
         Op::Clear => {
             words::fill(memory, 0, u32::MAX, 0);
-            let house = House::none();
             Played {
-                house,
+                house: House::none(),
                 lent: 0,
                 used,
             }
@@ -220,9 +219,8 @@ pub fn play(
                 text,
                 used,
             );
-            let house = d.house;
             Played {
-                house,
+                house: d.house,
                 lent,
                 used: d.used,
             }

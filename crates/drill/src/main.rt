@@ -65,11 +65,9 @@ fn save_turn(
         used,
     );
     let reached = reading::settle(source, input, memory, here, here.lent);
-    let house = p.house;
-    let restoring = p.restoring;
     State {
-        house,
-        restoring,
+        house: p.house,
+        restoring: p.restoring,
         reading: reached,
         used: p.used,
     }
@@ -95,11 +93,9 @@ fn call_turn(
     let here = s.reading;
     let p = calls::play(s.house, c, here, input, memory, few, many, text, used);
     let reached = reading::settle(source, input, memory, here, p.lent);
-    let restoring = saving::cleared(c.op, s.restoring);
-    let house = p.house;
     State {
-        house,
-        restoring,
+        house: p.house,
+        restoring: saving::cleared(c.op, s.restoring),
         reading: reached,
         used: p.used,
     }
@@ -144,11 +140,9 @@ fn play(
     text: &mut [u8; ROOM],
 ) {
     let reached = reading::first(source, input, memory);
-    let none = House::none();
-    let restoring = restore::reading::begin();
     let mut s = State {
-        house: none,
-        restoring,
+        house: House::none(),
+        restoring: restore::reading::begin(),
         reading: reached,
         used: 0,
     };

@@ -11,26 +11,15 @@ use files::Source;
 // The bytes of the longest command.
 const MOST_COMMAND: usize = 16464;
 
-// The unread bytes stand in the input from `at` to `end`; `ended` says that there are no more behind them. What is at `at`, a command if it is right, has
-// this offset in the script, and so many words are lent.
+// The unread bytes stand in the input from `at` to `end`; there are no more behind them where `end` is not the input's. What is at `at`, a command if it is
+// right, has this offset in the script, and so many words are lent.
 #[derive(Clone, Copy)]
 pub struct Reading {
     pub at: usize,
     pub end: usize,
-    pub ended: bool,
     pub offset: u64,
     pub lent: usize,
     pub command: Option<Command>,
-}
-
-// The bytes from `at` to `end` to the front. Gives how many they are.
-fn shift(input: &mut [u8], at: usize, end: usize) -> usize
-    requires fact_1 { at ≤ end }
-    requires fact_2 { end ≤ length input.old }
-    ensures { result ≡ end - at }
-{
-    input.copy_within(at..end, 0);
-    end - at
 }
 
 // The unread bytes to the front, and more behind them. Gives how many there are.
@@ -38,12 +27,13 @@ fn refill(source: &mut Source, input: &mut [u8], at: usize, end: usize) -> usize
     requires { (at ≤ end) × (end ≤ length input.old) }
     ensures { result ≤ length input.old }
 {
-    let left = shift(input, at, end);
+    let left = end - at;
+    input.copy_within(at..end, 0);
     left + source.read_full(&mut input[left..])
 }
 
 // What is at `at`.
-fn found(input: &[u8], at: usize, end: usize, ended: bool, offset: u64, lent: usize) -> Reading
+fn found(input: &[u8], at: usize, end: usize, offset: u64, lent: usize) -> Reading
     requires fact_1 { at ≤ end }
     requires fact_2 { end ≤ length input.now }
     ensures { Stands result (length input.now) lent }
@@ -52,7 +42,6 @@ fn found(input: &[u8], at: usize, end: usize, ended: bool, offset: u64, lent: us
     Reading {
         at,
         end,
-        ended,
         offset,
         lent,
         command,
@@ -68,14 +57,11 @@ fn next(source: &mut Source, input: &mut [u8], r: Reading, lent: usize) -> Readi
     let at = r.at + size;
     let end = r.end;
     let offset = r.offset.wrapping_add(size as u64);
-    if r.ended {
-        return found(input, at, end, true, offset, lent);
-    }
-    if end - at >= MOST_COMMAND {
-        return found(input, at, end, false, offset, lent);
+    if end < input.len() || end - at >= MOST_COMMAND {
+        return found(input, at, end, offset, lent);
     }
     let n = refill(source, input, at, end);
-    found(input, 0, n, n < input.len(), offset, lent)
+    found(input, 0, n, offset, lent)
 }
 
 // A command of the memory: gives how many words are lent then.
@@ -125,9 +111,8 @@ pub fn first(source: &mut Source, input: &mut [u8], memory: &mut [u32]) -> Readi
     ensures { Stands result (length input.old) result.lent × (result.lent ≤ length memory.old) }
 {
     let before = Reading {
-        at: 0,
-        end: 0,
-        ended: false,
+        at: input.len(),
+        end: input.len(),
         offset: 0,
         lent: 0,
         command: None,

@@ -198,20 +198,17 @@ pub fn play(
                 text,
                 used,
             );
-            let restoring = p.restoring;
             Left {
                 house: h,
-                restoring,
+                restoring: p.restoring,
                 used: p.used,
             }
         }
         _ => {
             let d = finish(c, s, &memory[..lent], text, used);
-            let house = d.house;
-            let restoring = restore::reading::begin();
             Left {
-                house,
-                restoring,
+                house: d.house,
+                restoring: restore::reading::begin(),
                 used: d.used,
             }
         }

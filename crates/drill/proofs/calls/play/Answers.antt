@@ -13,7 +13,7 @@ returns-in-PokeHouse c = (rw (c.in-PokeHouse.is, c.poke-house.ensures), rw c.in-
 pub returns-in-Clear : goal.returns-in-Clear
 unfolding played_of text_of
 returns-in-Clear c =
-    (rw (c.in-Clear.is, c.none-house.ensures, c.fill.ensures), rw c.in-Clear.is (roomy most_read nothing (omega arith)))
+    (rw (c.in-Clear.is, c.none.ensures, c.fill.ensures), rw c.in-Clear.is (roomy most_read nothing (omega arith)))
 
 pub slice_bounds-made-count : goal.slice_bounds-made-count
 slice_bounds-made-count c = omega (arith, plays_sixteen c.requires)

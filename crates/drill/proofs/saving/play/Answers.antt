@@ -51,4 +51,4 @@ pub slice_bounds-finish-end-in_default : goal.slice_bounds-finish-end-in_default
 slice_bounds-finish-end-in_default c = sym (length-take-le _ _ c.requires.fact_1.lent)
 
 pub returns-in_default : goal.returns-in_default
-returns-in_default c = let a = c.args in let f = c.finish-d.ensures a.held.now in let k = kept_finish a.c (more_of a.r a.c a.input.now) a.r.lent a.h a.memory.now (reading_at a.s.reader a.s.house a.held.now []) c.in_default.not-Save c.in_default.not-Piece _ _ f.0 (c.begin-restoring.ensures a.held.now []) in (k.0, named k.1 (roomy most_read f.1 (omega arith)))
+returns-in_default c = let a = c.args in let f = c.finish-d.ensures a.held.now in let k = kept_finish a.c (more_of a.r a.c a.input.now) a.r.lent a.h a.memory.now (reading_at a.s.reader a.s.house a.held.now []) c.in_default.not-Save c.in_default.not-Piece _ _ f.0 (c.begin.ensures a.held.now []) in (k.0, named k.1 (roomy most_read f.1 (omega arith)))
