@@ -11,6 +11,7 @@ use Rattle.house.specs.Calls.{Read, read, beyond_of, read_verdict, read_call}
 use Rattle.house.specs.Lists.{list_from}
 use Rattle.house.proofs.Lists.ByRule.{length_list_from}
 use Rattle.drill_script.specs.declared.commands.Command.{Command}
+use Rattle.drill_script.specs.Commands.{number_of}
 use Rattle.drill_script.specs.Words.{marked_of}
 use Rattle.drill_text.specs.Lines.{stale_of}
 use Rattle.staleness.specs.Audit.{audit_call}
@@ -66,10 +67,10 @@ as_many {s} {t} {u} {v} c more h m {k} {l} {q} e p = subst (λ (x : ℕ). Puts s
 
 -- ---- an audit's text: refused, and done
 
-module _ {s t : List ℕ} {u v : ℕ} (c : Command) (h : House) (m : List ℕ) (f : Finding) (e : f ≡ audit_call (world h m)) (p : Puts s u t v (told_of c.op f.number 0 h m) most_told) where
+module _ {s t : List ℕ} {u v : ℕ} (c : Command) (h : House) (m : List ℕ) (f : Finding) (e : f ≡ audit_call (world h m)) (p : Puts s u t v (told_of (number_of c.op) f.number 0 h m) most_told) where
   pub audit_refused : (f.number ≡ 0 → ⊥) → Puts s u t v (audit_text_of c h m) most_read
   unfolding audit_text_of
-  audit_refused z = rw (← e, ne_eqb f.number 0 z, append-nil (told_of c.op f.number 0 h m)) (roomy most_read p (omega arith))
+  audit_refused z = rw (← e, ne_eqb f.number 0 z, append-nil (told_of (number_of c.op) f.number 0 h m)) (roomy most_read p (omega arith))
 
   pub audit_told : {r : List ℕ} {w : ℕ} → f.number ≡ 0 → Puts t v r w (stale_of (then_some f.stale (f.partition, f.page))) 48 → Puts s u r w (audit_text_of c h m) most_read
   unfolding audit_text_of

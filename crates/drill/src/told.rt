@@ -2,21 +2,23 @@
 ghost use Rattle.std.specs.Prelude.{◌≡◌, ◌+◌, ◌<◌, ◌≤◌, ◌++◌, length};
 ghost use Rattle.decimal.specs.Decimals.{decimal};
 ghost use Rattle.decimal.specs.Texts.{ascii, Puts};
+ghost use Rattle.drill_script.specs.Commands.{number_of};
 ghost use Rattle.drill.specs.Told.{most_told, told_of, shown_of};
 
 use command::put_out;
 use decimal::{put_byte, put_decimal, put_text};
+use drill_script::commands::Op;
 use drill_text::partitions::partitions;
 use drill_text::queues::queues;
 use drill_text::{ROOM, lines};
 use house::Answer;
 
 // The text of a call.
-pub fn call(text: &mut [u8; ROOM], used: usize, op: u32, a: Answer, memory: &[u32]) -> usize
-    ensures { Puts text.old used text.new result (told_of op a.number a.detail a.house memory.now) most_told }
+pub fn call(text: &mut [u8; ROOM], used: usize, op: Op, a: Answer, memory: &[u32]) -> usize
+    ensures { Puts text.old used text.new result (told_of (number_of op) a.number a.detail a.house memory.now) most_told }
 {
     let house = a.house;
-    let called = lines::call(text, used, op, a.number, a.detail);
+    let called = lines::call(text, used, op.number(), a.number, a.detail);
     let housed = lines::house(text, called, house);
     let parted = partitions(text, housed, house);
     let queued = queues(text, parted, house);

@@ -1,5 +1,5 @@
 -- Commands of a script.
-use Rattle.std.specs.Prelude.{List, [], ◌∷◌, ℕ, zero, suc, ◌+◌, ◌*◌, ◌/◌, ◌&&◌, Option, None, Some, leb, ltb, length, slice_get}
+use Rattle.std.specs.Prelude.{Bool, List, [], ◌∷◌, ℕ, zero, suc, ◌+◌, ◌*◌, ◌/◌, ◌&&◌, Option, None, Some, leb, ltb, length, slice_get, nat_eq}
 use Rattle.std.specs.Bool.{then_some}
 use Rattle.dlx.specs.Choice.{when◌then◌else◌}
 use Rattle.drill_script.specs.declared.commands.Command.{Command}
@@ -26,6 +26,11 @@ number_of Save = 14
 number_of Piece = 15
 number_of Finish = 16
 number_of Unshadowed = 17
+
+-- the two ops are one
+infix 40 ◌is◌
+abbrev pub ◌is◌ : Op → Op → Bool
+o is p = nat_eq (number_of o) (number_of p)
 
 -- the ops by their numbers, from 1 on
 abbrev pub ops : List Op
