@@ -126,34 +126,26 @@ fn read(
     output: &mut [u32],
     text: &mut [u8; ROOM],
     used: usize,
-) -> AfterCall
+) -> usize
     requires fact_1 { 8 ≤ length more.now }
     requires fact_2 { length output.old ≤ 4096 }
-    ensures { (result.house ≡ h) × Puts text.old used text.new result.used (read_text_of c more.now h memory.now (length output.old)) most_read }
+    ensures { Puts text.old used text.new result (read_text_of c more.now h memory.now (length output.old)) most_read }
 {
     let answer = read_out(h, c, more, memory, output);
     let called = told::answer(text, used, c.op, h, answer, memory);
-    let end = lines::output(text, called, output, told::shown(answer));
-    AfterCall {
-        house: h,
-        used: end,
-    }
+    lines::output(text, called, output, told::shown(answer))
 }
 
 // An audit, and its text with the first stale entry's.
-fn audit(h: House, c: Command, memory: &[u32], text: &mut [u8; ROOM], used: usize) -> AfterCall
-    ensures { (result.house ≡ h) × Puts text.old used text.new result.used (audit_text_of c h memory.now) most_read }
+fn audit(h: House, c: Command, memory: &[u32], text: &mut [u8; ROOM], used: usize) -> usize
+    ensures { Puts text.old used text.new result (audit_text_of c h memory.now) most_read }
 {
-    let end = match staleness::audit(h, memory) {
+    match staleness::audit(h, memory) {
         Ok(first) => {
             let called = told::call(text, used, c.op, 0, 0, h, memory);
             lines::stale(text, called, first.map(|s| (s.partition, s.page)))
         }
         Err(refusal) => told::call(text, used, c.op, refusal.number(), 0, h, memory),
-    };
-    AfterCall {
-        house: h,
-        used: end,
     }
 }
 
@@ -175,10 +167,18 @@ fn made(
 {
     if c.op == 6 {
         let n = wide(c.c);
-        return read(h, c, more, memory, &mut many[..n], text, used);
+        let end = read(h, c, more, memory, &mut many[..n], text, used);
+        return AfterCall {
+            house: h,
+            used: end,
+        };
     }
     if c.op == 12 {
-        return audit(h, c, memory, text, used);
+        let end = audit(h, c, memory, text, used);
+        return AfterCall {
+            house: h,
+            used: end,
+        };
     }
     call(h, c, more, memory, few, many, text, used)
 }

@@ -1,4 +1,4 @@
-use Rattle.std.proofs.Common.{◌≡◌, length, take, sym, ◌∙◌, arith, length-take-le, eq-eqb, ne_eqb}
+use Rattle.std.proofs.Common.{◌≡◌, length, take, refl, sym, ◌∙◌, arith, length-take-le, eq-eqb, ne_eqb}
 use Rattle.decimal.proofs.Texts.{roomy}
 use Rattle.drill.specs.Told.{most_read}
 use Rattle.drill.specs.Player.{made_of, made_text_of}
@@ -11,8 +11,8 @@ slice_bounds-read-end c = omega (arith, c.wide-n.ensures, (c.requires.fact_1 c.i
 pub slice_bounds-read-end-then-c-eq6 : goal.slice_bounds-read-end-then-c-eq6
 slice_bounds-read-end-then-c-eq6 c = sym (length-take-le c.wide-n.result c.args.many.now (omega (arith, c.wide-n.ensures, (c.requires.fact_1 c.if-c-eq6.true).0, c.requires.fact_3)))
 
-pub read-requires : goal.read-requires
-read-requires c =
+pub read-end-requires : goal.read-end-requires
+read-end-requires c =
     let q = c.requires.fact_1 c.if-c-eq6.true in
     let n : length (take c.wide-n.result c.args.many.now) ≡ c.wide-n.result = length-take-le _ _ (omega (arith, c.wide-n.ensures, q.0, c.requires.fact_3)) in record { fact_1 = q.1; fact_2 = omega (arith, n, c.wide-n.ensures, q.0) }
 
@@ -22,14 +22,14 @@ returns-then-c-eq6 c =
     let d = eq-eqb _ _ c.if-c-eq6.true in
     let q = c.requires.fact_1 c.if-c-eq6.true in
     let n : length (take c.wide-n.result c.args.many.now) ≡ c.args.c.c = length-take-le _ _ (omega (arith, c.wide-n.ensures, q.0, c.requires.fact_3)) ∙ c.wide-n.ensures in
-    (rw (d, c.read.ensures.0), rw d (as_many _ _ _ _ n c.read.ensures.1))
+    (rw d refl, rw d (as_many _ _ _ _ n c.read-end.ensures))
 
 pub returns-then-c-eq12 : goal.returns-then-c-eq12
 unfolding made_of made_text_of
 returns-then-c-eq12 c =
     let d = ne_eqb _ _ c.if-c-eq6.false in
     let e = eq-eqb _ _ c.if-c-eq12.true in
-    (rw (d, e, c.audit.ensures.0), rw (d, e) c.audit.ensures.1)
+    (rw (d, e) refl, rw (d, e) c.audit-end.ensures)
 
 pub call-requires : goal.call-requires
 call-requires c = record { fact_1 = c.requires.fact_2; fact_2 = c.requires.fact_3 }
