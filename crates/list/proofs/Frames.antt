@@ -4,21 +4,15 @@ use mathlib.Core.List.{List, [], ◌∷◌, ◌++◌}
 use Prim.Native.Nat.{ℕ, ◌+◌, ◌-◌, ◌*◌, ◌<◌, ◌≤◌}
 use native.Mathlib.Nat.{add-sub_cancel_left}
 use native.Mathlib.Omega.{arith}
-use borrow.Author.Tests.{eq-eqb, ne_eqb, le-ltb}
+use borrow.Author.Tests.{le-ltb}
 use lib.ListN.{length, take, drop, length-append, length-take, length-drop, drop_of_length-le}
 use lib.Seq.{length-take-le, take_all}
 use Rattle.dlx.specs.Parts.{inner}
-use Rattle.house.specs.Boot.{verdict}
-use Rattle.house.specs.Turns.{world}
-use Rattle.house.specs.declared.House.{House}
-use Rattle.house.specs.Calls.{answered}
 use Rattle.lines.specs.Lines.{line_of}
 use Rattle.lines.specs.Listings.{listing, Answer, answer, listed}
 use Rattle.lines.proofs.Lines.{line_short}
 use Rattle.report.specs.Put.{Counts, put}
-use Rattle.report.specs.Report.{refused_text}
 use Rattle.report.proofs.Texts.{put_as}
-use Rattle.list.specs.Frame.{frame_text}
 
 lines_short : (ws : List ℕ) → length (listing ws) ≤ 43 * length ws
 unfolding listing
@@ -58,12 +52,3 @@ unfolding inner
 frame_whole frame m out o n d k r e =
     let ws = drop (frame * 1024) m in
     frame_put (take 1024 ws) out o n d k (omega (arith, length-take 1024 ws)) r (e ∙ ap (λ (x : ℕ). listed (take x ws) out) (add-sub_cancel_left (frame * 1024) 1024))
-
-pub frame_refused : (frame n d : ℕ) (h : House) (m : List ℕ) → (n ≡ 0 → ⊥) → refused_text n d ≡ frame_text frame (answered (verdict n d) (world h m))
-unfolding frame_text
-frame_refused frame n d h m z = sym (rw (ne_eqb n 0 z))
-
-pub frame_done : (frame n d k : ℕ) (h : House) (m out o : List ℕ) → n ≡ 0 → (k, o) ≡ put (listing (inner (frame * 1024) 1024 m)) out
-    → (k, o) ≡ put (frame_text frame (answered (verdict n d) (world h m))) out
-unfolding frame_text
-frame_done frame n d k h m out o z e = rw (eq-eqb n 0 z) e

@@ -2,19 +2,18 @@
 ghost use Rattle.std.specs.Prelude.{◌≡◌, List, ℕ, ◌*◌, ◌<◌, length};
 ghost use Rattle.dlx.specs.Parts.{inner};
 ghost use Rattle.house.specs.declared.House.{House};
-ghost use Rattle.house.specs.Boot.{verdict};
 ghost use Rattle.house.specs.Turns.{world};
 ghost use Rattle.house.specs.Calls.{answered};
 ghost use Rattle.lines.specs.Listings.{listing};
-ghost use Rattle.night_run.specs.Ran.{either_held, Told};
+ghost use Rattle.night_run.specs.Ran.{outcome_of, either_held, Told};
 ghost use Rattle.report.specs.Put.{Counts, put};
 ghost use Rattle.list.specs.Frame.{frame_text};
 
 use command::{fail, put_out, wrong};
 use files::Source;
 use listing::list;
-use night_run::{Taken, WORDS, hold_file};
-use report::put_refused;
+use night_run::{Outcome, Taken, WORDS, hold_file};
+use report::put_refusal;
 
 // The lines of 1,024 words, at most 43 bytes each with the newline.
 const ROOM: usize = 44032;
@@ -42,16 +41,16 @@ fn put_frame(memory: &[u32], frame: usize, out: &mut [u8]) -> usize
 }
 
 // The text for what a file holds.
-fn text_of(number: u32, detail: u64, memory: &[u32], frame: usize, out: &mut [u8]) -> usize
+fn text_of(outcome: Outcome, memory: &[u32], frame: usize, out: &mut [u8]) -> usize
     requires fact_1 { frame < 1024 }
     requires fact_2 { length out.old ≡ 44032 }
-    ensures out_after { (h : House) → (result, out.new) ≡ put (frame_text frame (answered (verdict number detail) (world h memory.now))) out.old }
+    ensures out_after { (h : House) → (result, out.new) ≡ put (frame_text frame (answered (outcome_of outcome) (world h memory.now))) out.old }
     ensures counts { Counts result out.new }
 {
-    if number != 0 {
-        return put_refused(out, 0, number, detail);
+    match outcome {
+        Ok(_) => put_frame(memory, frame, out),
+        Err(refusal) => put_refusal(out, 0, refusal),
     }
-    put_frame(memory, frame, out)
 }
 
 // Prints a text: the one for the file that was read.
@@ -62,20 +61,12 @@ fn show(rt: &HostRuntime, t: Taken, frame: usize, text: &[u8])
 }
 
 // Prints the text for the answer. A frame that is not there, which this word named, is told.
-fn tell(
-    rt: &HostRuntime,
-    t: Taken,
-    number: u32,
-    detail: u64,
-    memory: &[u32],
-    frame: usize,
-    word: &[u8],
-)
+fn tell(rt: &HostRuntime, t: Taken, outcome: Outcome, memory: &[u32], frame: usize, word: &[u8])
     requires fact_1 { frame < 1024 }
-    requires fact_2 { ((h : House) × Told either_held (frame_text frame) t (frame_text frame (answered (verdict number detail) (world h memory.now)))) }
+    requires fact_2 { ((h : House) × Told either_held (frame_text frame) t (frame_text frame (answered (outcome_of outcome) (world h memory.now)))) }
 {
     let mut out = [0u8; ROOM];
-    let n = text_of(number, detail, memory, frame, &mut out);
+    let n = text_of(outcome, memory, frame, &mut out);
     if n == 0 {
         wrong(rt, b"FRAME, one that the memory has", word);
         return;
@@ -95,5 +86,5 @@ pub fn list_frame(rt: &HostRuntime, source: &mut Source, name: &[u8], frame: usi
         return;
     }
     let n = x.words;
-    tell(rt, taken, x.number, x.detail, &memory[..n], frame, word);
+    tell(rt, taken, x.outcome, &memory[..n], frame, word);
 }

@@ -5,30 +5,29 @@
 mod lines;
 
 ghost use Rattle.std.specs.Prelude.{◌≡◌, List, ℕ};
-ghost use Rattle.house.specs.Boot.{verdict};
-ghost use Rattle.house.specs.Turns.{world};
-ghost use Rattle.house.specs.Calls.{answered};
+ghost use Rattle.house.specs.declared.House.{House};
+ghost use Rattle.house.specs.Refusals.{answer_of};
 ghost use Rattle.report.specs.Put.{Counts, put};
 ghost use Rattle.night_run.specs.Ran.{no_frames, either_file, Told};
 ghost use Rattle.look.specs.Look.{printed};
 
 use command::{asks_help, fail, open, put_out, wrong};
 use files::{Source, is_not_given, print, try_word};
-use house::House;
+use house::Answer;
 use lines::{ROOM, put_house};
 use night_run::{Taken, WORDS, read_file};
-use report::put_refused;
+use report::put_refusal;
 use std::io;
 
 // Puts the text for an answer at the buffer's start, and answers its length.
-fn text_of(number: u32, detail: u64, house: House, out: &mut [u8; ROOM]) -> usize
-    ensures by_index { (m : List ℕ) → (result, out.new) ≡ put (printed (answered (verdict number detail) (world house m))) out.old }
+fn text_of(answer: Answer, out: &mut [u8; ROOM]) -> usize
+    ensures by_index { (given : House) (m : List ℕ) → (result, out.new) ≡ put (printed (answer_of given answer m)) out.old }
     ensures counts { Counts result out.new }
 {
-    if number != 0 {
-        return put_refused(out, 0, number, detail);
+    match answer {
+        Ok(done) => put_house(done.house, out),
+        Err(refusal) => put_refusal(out, 0, refusal),
     }
-    put_house(house, out)
 }
 
 // What was read, and the length of the text for it.
@@ -49,8 +48,7 @@ fn text_for(source: &mut Source, memory: &mut [u32; WORDS], out: &mut [u8; ROOM]
     if taken.failed() {
         return Text { taken, length: 0 };
     }
-    let house = x.house;
-    let length = text_of(x.number, x.detail, house, out);
+    let length = text_of(x.answer(), out);
     Text { taken, length }
 }
 

@@ -1,10 +1,11 @@
 -- What a file comes to.
+use Rattle.std.specs.Prelude.{Result, Ok, Err}
 use mathlib.Core.Path.{◌≡◌, refl, ap, sym, subst, ◌∙◌}
 use mathlib.Core.Bool.{Bool, true, false, not, ◌&&◌, ◌||◌}
 use mathlib.Core.List.{List, [], ◌∷◌, ◌++◌, append-nil}
 use Prim.Native.Nat.{ℕ, min, ◌+◌, ◌-◌, ◌≤◌}
 use native.Mathlib.Omega.{arith}
-use borrow.Author.Tests.{eq-eqb, ne_eqb, eqb-false, leb-true}
+use borrow.Author.Tests.{ne_eqb, eqb-false, leb-true}
 use lib.Dec.{eqb, ltb, leb}
 use lib.ListN.{length, get_or, take, replicate, length-append, length-replicate, replicate-append-replicate}
 use lib.Seq.{take-append-le, take_all, take_at, length-take-le}
@@ -16,8 +17,11 @@ use Rattle.house.specs.House.{no_house}
 use Rattle.house.specs.Turns.{World, world}
 use Rattle.house.specs.declared.House.{House}
 use Rattle.house.specs.Calls.{Answered, answered, boot_call, run_call}
+use Rattle.house.specs.Refusals.{refusal}
+use Rattle.house.specs.declared.refusal.Refusal.{Refusal}
+use Rattle.house.proofs.Refusals.{not_0}
 use Rattle.demands.specs.Histories.{booted}
-use Rattle.demands.proofs.Demands.{refused_means_untouched, every_boot}
+use Rattle.demands.proofs.Demands.{every_boot}
 use Rattle.unshadowed_run.specs.Calls.{run_by}
 use Rattle.engines.specs.Promises.{emptied_by}
 use Rattle.engines.proofs.Booted.{booted_runs}
@@ -36,7 +40,7 @@ use Rattle.save.specs.Promises.{whole as Save·whole}
 use Rattle.save.proofs.Promises.{cut_anywhere}
 use Rattle.save.proofs.Machine.{fed_pieces as Save·fed-pieces}
 use Rattle.night_run.specs.Pieces.{Bytes, OneRead, fixed, Going, AllOf, Reads, FileOf}
-use Rattle.night_run.specs.Ran.{none_ran, after_boot, ran_of, held_of, is_saved, room_for, lent_for, Way, refused_over, house_file_of, house_file, ran_by, house_file_by, held_file, saved_over, saved_file, saved_or, either_file, HouseGoing, HouseRead, SavedGoing, SavedRead, no_frames, answer_in, handed, Handed, HandedFrom, Left, Told}
+use Rattle.night_run.specs.Ran.{none_ran, outcome_of, after_boot, ran_of, held_of, is_saved, room_for, lent_for, Way, refused_over, house_file_of, house_file, ran_by, house_file_by, held_file, saved_over, saved_file, saved_or, either_file, HouseGoing, HouseRead, SavedGoing, SavedRead, no_frames, answer_in, handed, Handed, HandedFrom, Left, Told}
 use Rattle.night_run.proofs.Pieces.{bytes_left, going_more, reads_over}
 use Rattle.night_run.specs.declared.input.Taken.{Taken}
 use Rattle.night_run.specs.declared.Ran.{Ran}
@@ -49,13 +53,13 @@ pub lists_taken : (lists total : ℕ) (pages frames memory : List ℕ) (q n k : 
 lists_taken lists total pages frames memory q n k l t =
     rw (ap (λ (i : ℕ). take i pages) l ∙ take_there lists pages, ap (λ (i : ℕ). take i frames) t ∙ take_there total frames)
 
-after_refused : (n d : ℕ) (w : World) (steps : ℕ) → (n ≡ 0 → ⊥) → after_boot (answered (verdict n d) w) steps ≡ answered (verdict n d) w
+after_refused : (v : Verdict) (w : World) (steps : ℕ) → eqb v.number 0 ≡ false → after_boot (answered v w) steps ≡ answered v w
 unfolding after_boot
-after_refused n d w steps z = rw (ne_eqb n 0 z)
+after_refused v w steps z = rw z
 
-after_done : (n d : ℕ) (w : World) (steps : ℕ) → n ≡ 0 → after_boot (answered (verdict n d) w) steps ≡ run_call w steps
+after_done : (d : ℕ) (w : World) (steps : ℕ) → after_boot (answered (verdict 0 d) w) steps ≡ run_call w steps
 unfolding after_boot
-after_done n d w steps z = rw (eq-eqb n 0 z)
+after_done d w steps = refl
 
 -- the house of no partitions has nothing to empty
 none_emptied : (u : Bool) (v : Verdict) (m : List ℕ) → answered v (world no_house m) ≡ emptied_by u (answered v (world no_house m))
@@ -63,26 +67,21 @@ unfolding emptied_by
 none_emptied true v m = refl
 none_emptied false v m = refl
 
-module _ (u : Bool) (n d : ℕ) (w : World) (steps : ℕ) (ps : List ℕ) (q : ℕ) (fr m : List ℕ) (e : answered (verdict n d) w ≡ boot_call ps q fr m) where
-  answer_number : (boot_call ps q fr m).verdict.number ≡ n
-  answer_number = ap (λ (a : Answered). a.verdict.number) (sym e)
+module _ (u : Bool) (steps : ℕ) (ps : List ℕ) (q : ℕ) (fr m : List ℕ) where
+  pub boot_refused : (r : Refusal) → answered (refusal r) (world no_house m) ≡ boot_call ps q fr m
+      → answered (refusal r) (world no_house m) ≡ emptied_by u (after_boot (boot_call ps q fr m) steps)
+  boot_refused r e =
+      none_emptied u (refusal r) m
+      ∙ ap (emptied_by u) (sym (after_refused (refusal r) (world no_house m) steps (not_0 r)) ∙ ap (λ (a : Answered). after_boot a steps) e)
 
-  pub boot_refused : (n ≡ 0 → ⊥) → answered (verdict n d) w ≡ emptied_by u (after_boot (boot_call ps q fr m) steps)
-  boot_refused z =
-      let none : w ≡ world no_house m = ap (λ (a : Answered). a.world) e ∙ refused_means_untouched.boot ps fr m q (λ y. z (sym answer_number ∙ y)) in
-      ap (answered (verdict n d)) none
-      ∙ none_emptied u (verdict n d) m
-      ∙ ap (λ (x : World). emptied_by u (answered (verdict n d) x)) (sym none)
-      ∙ ap (emptied_by u) (sym (after_refused n d w steps z) ∙ ap (λ (a : Answered). after_boot a steps) e)
-
-  pub boot_done : n ≡ 0 → run_by u w steps ≡ emptied_by u (after_boot (boot_call ps q fr m) steps)
-  boot_done z =
-      let b = every_boot ps q fr m (answer_number ∙ z) in
+  pub boot_done : (d : ℕ) (w : World) → answered (verdict 0 d) w ≡ boot_call ps q fr m → run_by u w steps ≡ emptied_by u (after_boot (boot_call ps q fr m) steps)
+  boot_done d w e =
+      let b = every_boot ps q fr m (ap (λ (a : Answered). a.verdict.number) (sym e)) in
       let there : w ≡ booted b.boot = ap (λ (a : Answered). a.world) e ∙ b.left in
       ap (λ (x : World). run_by u x steps) there
       ∙ booted_runs u b.boot steps
       ∙ ap (λ (x : World). emptied_by u (run_call x steps)) (sym there)
-      ∙ ap (emptied_by u) (sym (after_done n d w steps z) ∙ ap (λ (a : Answered). after_boot a steps) e)
+      ∙ ap (emptied_by u) (sym (after_done d w steps) ∙ ap (λ (a : Answered). after_boot a steps) e)
 
 -- ---- what is made of a house file
 
@@ -98,25 +97,25 @@ pub held_refuses : Refuses held_of
 unfolding held_of
 held_refuses at = refl
 
-file_refused : (of : Reading → Answered) → Refuses of → (n d : ℕ) (x : Reading) → verdict n d ≡ verdict_of x → (n ≡ 0 → ⊥) → none_ran n d ≡ of x
+file_refused : (of : Reading → Answered) → Refuses of → (r : Refusal) (x : Reading) → refusal r ≡ verdict_of x → answered (refusal r) (world no_house []) ≡ of x
 unfolding verdict_of
-file_refused of r n d (wrong o) e z = ap (λ (v : Verdict). none_ran v.number v.detail) e ∙ r o
-file_refused of r n d (right f) e z = absurd (z (ap (λ (v : Verdict). v.number) e))
+file_refused of f r (wrong o) e = ap (λ (v : Verdict). answered v (world no_house [])) e ∙ f o
+file_refused of f r (right _) e = one_way false (sym (not_0 r) ∙ ap (λ (v : Verdict). eqb v.number 0) e) refl
 
-chosen : (of : Reading → Answered) (b : Bool) (f : File) (o n d : ℕ) → verdict n d ≡ verdict_of (when b then right f else wrong o) → n ≡ 0 → of (right f) ≡ of (when b then right f else wrong o)
+chosen : (of : Reading → Answered) (b : Bool) (f : File) (o : ℕ) → verdict 0 0 ≡ verdict_of (when b then right f else wrong o) → of (right f) ≡ of (when b then right f else wrong o)
 unfolding verdict_of
-chosen of true f o n d e z = refl
-chosen of false f o n d e z = absurd (let k : n ≡ 15 = ap (λ (v : Verdict). v.number) e in omega arith)
+chosen of true f o e = refl
+chosen of false f o e = absurd (let k : ◌≡◌ {A = ℕ} 0 15 = ap (λ (v : Verdict). v.number) e in omega arith)
 
-pub file_done : (u : Bool) (n d : ℕ) (s : Read) → verdict n d ≡ verdict_of (answer_of s) → n ≡ 0 →
+pub file_done : (u : Bool) (s : Read) → verdict 0 0 ≡ verdict_of (answer_of s) →
     emptied_by u (after_boot (boot_call (take s.reader.lists s.pages) (get_or s.turns 0 0) (take s.reader.total s.frames) s.memory) (get_or s.turns 1 0))
     ≡ ran_by u (answer_of s)
 unfolding ran_of answer_of
-file_done u n d s e z = chosen (ran_by u) (not s.reader.wrong && eqb s.reader.last 4) _ s.reader.start n d e z
+file_done u s e = chosen (ran_by u) (not s.reader.wrong && eqb s.reader.last 4) _ s.reader.start e
 
-pub file_held : (n d : ℕ) (s : Read) → verdict n d ≡ verdict_of (answer_of s) → n ≡ 0 → answered (verdict 0 0) (world no_house s.memory) ≡ held_of (answer_of s)
+file_held : (s : Read) → verdict 0 0 ≡ verdict_of (answer_of s) → answered (verdict 0 0) (world no_house s.memory) ≡ held_of (answer_of s)
 unfolding held_of answer_of
-file_held n d s e z = chosen held_of (not s.reader.wrong && eqb s.reader.last 4) _ s.reader.start n d e z
+file_held s e = chosen held_of (not s.reader.wrong && eqb s.reader.last 4) _ s.reader.start e
 
 -- ---- the whole file
 
@@ -151,11 +150,8 @@ house_whole t bs file all of =
 
 -- ---- what is handed on
 
-abbrev ran_with : Taken → ℕ → ℕ → ℕ → House → Ran
-ran_with t n d k h = record { taken = t; number = n; detail = d; words = k; house = h }
-
-pub no_house_lem : (t : Taken) (n d k : ℕ) (h : House) → h ≡ no_house → ran_with t n d k h ≡ ran_with t n d k no_house
-no_house_lem t n d k h e = ap (ran_with t n d k) e
+abbrev ran_with : Taken → ℕ → House → Result ℕ Refusal → Ran
+ran_with t k h o = record { taken = t; words = k; house = h; outcome = o }
 
 handed_failed : (way : Way) (t : Taken) (file : List ℕ) → t.failed ≡ true → none_ran 0 0 ≡ handed way t file
 handed_failed way t file e = rw e
@@ -164,40 +160,37 @@ handed_read : (way : Way) (t : Taken) (file : List ℕ) (a : Answered) → t.fai
 handed_read way t file a f e = rw f e
 
 pub from_failed : (way : Way) (head : List ℕ) (t : Taken) (x : Ran) (memory bs : List ℕ) → Reads way.wrong head t bs → t.failed ≡ true
-    → x ≡ ran_with t 0 0 0 no_house → HandedFrom way head x memory
+    → x ≡ ran_with t 0 no_house (Ok 0) → HandedFrom way head x memory
 from_failed way head t x memory bs r f is = subst (λ (y : Ran). HandedFrom way head y memory) (sym is) (bs, r, λ file _. handed_failed way t file f)
-
-pub no_words : (t : Taken) (n d k : ℕ) (x : Ran) → x ≡ ran_with t n d 0 no_house → x.words ≤ k
-no_words t n d k x e = let z : x.words ≡ 0 = ap (λ (y : Ran). y.words) e in omega arith
 
 -- a house file
 module _ (of : Reading → Answered) (head : List ℕ) (t : Taken) (r : Reader) (turns pages frames memory bs : List ℕ) (all : Reads house_file.wrong head t bs)
-    (e : read r turns pages frames memory ≡ fed no_read bs) (f : t.failed ≡ false)
-    (n d : ℕ) (v : verdict n d ≡ verdict_of (answer_of (read r turns pages frames memory))) where
+    (e : read r turns pages frames memory ≡ fed no_read bs) (f : t.failed ≡ false) where
   house_answer : (a : Answered) → a ≡ of (answer_of (read r turns pages frames memory)) → (file : List ℕ) → FileOf t bs file → a ≡ handed (house_file_of of) t file
   house_answer a h file is = handed_read (house_file_of of) t file a f (h ∙ ap (λ (s : Read). of (answer_of s)) e ∙ ap of (house_whole t bs file all.all is))
 
-  pub house_wrong : Refuses of → (x : Ran) (m : List ℕ) → (n ≡ 0 → ⊥) → x ≡ ran_with t n d 0 no_house → HandedFrom (house_file_of of) head x m
-  house_wrong refuses x m z is =
+  pub house_wrong : Refuses of → (w : Refusal) → refusal w ≡ verdict_of (answer_of (read r turns pages frames memory)) → (x : Ran) (m : List ℕ)
+      → x ≡ ran_with t 0 no_house (Err w) → HandedFrom (house_file_of of) head x m
+  house_wrong refuses w v x m is =
       subst (λ (y : Ran). HandedFrom (house_file_of of) head y m) (sym is)
-      (bs, all, house_answer (none_ran n d) (file_refused of refuses n d (answer_of (read r turns pages frames memory)) v z))
+      (bs, all, house_answer (answered (refusal w) (world no_house [])) (file_refused of refuses w (answer_of (read r turns pages frames memory)) v))
 
-  pub house_right : (k g words : ℕ) (h : House) (m : List ℕ) → words ≡ length m → answered (verdict k g) (world h m) ≡ of (answer_of (read r turns pages frames memory))
-      → HandedFrom (house_file_of of) head (ran_with t k g words h) m
-  house_right k g words h m l a = (
+  pub house_right : (o : Result ℕ Refusal) (words : ℕ) (h : House) (m : List ℕ) → words ≡ length m
+      → answered (outcome_of o) (world h m) ≡ of (answer_of (read r turns pages frames memory)) → HandedFrom (house_file_of of) head (ran_with t words h o) m
+  house_right o words h m l a = (
     bs,
     all,
-    house_answer (answered (verdict k g) (world h (take words m)))
-        (ap (λ (y : List ℕ). answered (verdict k g) (world h y)) (take_all words m (omega arith)) ∙ a),
+    house_answer (answered (outcome_of o) (world h (take words m)))
+        (ap (λ (y : List ℕ). answered (outcome_of o) (world h y)) (take_all words m (omega arith)) ∙ a),
   )
 
 -- and its memory, where no house is booted of it
 pub house_held : (head : List ℕ) (t : Taken) (r : Reader) (turns pages frames memory bs : List ℕ) → Reads house_file.wrong head t bs
-    → read r turns pages frames memory ≡ fed no_read bs → t.failed ≡ false → (n d : ℕ) → verdict n d ≡ verdict_of (answer_of (read r turns pages frames memory))
-    → (words : ℕ) (h : House) → h ≡ no_house → n ≡ 0 → words ≡ length memory → HandedFrom held_file head (ran_with t 0 0 words h) memory
-house_held head t r turns pages frames memory bs all e f n d v words h is z l =
-    house_right held_of head t r turns pages frames memory bs all e f n d v 0 0 words h memory l
-    (ap (λ (y : House). answered (verdict 0 0) (world y memory)) is ∙ file_held n d (read r turns pages frames memory) v z)
+    → read r turns pages frames memory ≡ fed no_read bs → t.failed ≡ false → verdict 0 0 ≡ verdict_of (answer_of (read r turns pages frames memory))
+    → (words : ℕ) (h : House) → h ≡ no_house → words ≡ length memory → HandedFrom held_file head (ran_with t words h (Ok 0)) memory
+house_held head t r turns pages frames memory bs all e f v words h is l =
+    house_right held_of head t r turns pages frames memory bs all e f (Ok 0) words h memory l
+    (ap (λ (y : House). answered (verdict 0 0) (world y memory)) is ∙ file_held (read r turns pages frames memory) v)
 
 -- ---- while a house file is read
 
@@ -268,13 +261,13 @@ saved_whole m t bs file all of =
     not-true true e = one_way false e refl
 
 -- the answer over the memory that the pieces left
-pub saved_right : (m head : List ℕ) (t : Taken) (s : Save-as-Reading) (k g words : ℕ) (h : House) (m' : List ℕ) → SavedRead m head t s → t.failed ≡ false → words ≡ length m'
-    → answered (verdict k g) (world h m') ≡ finished s → HandedFrom (saved_over m) head (record { taken = t; number = k; detail = g; words = words; house = h }) m'
-saved_right m head t s k g words h m' (bs, all, e) f l a = (
+pub saved_right : (m head : List ℕ) (t : Taken) (s : Save-as-Reading) (o : Result ℕ Refusal) (words : ℕ) (h : House) (m' : List ℕ) → SavedRead m head t s → t.failed ≡ false
+    → words ≡ length m' → answered (outcome_of o) (world h m') ≡ finished s → HandedFrom (saved_over m) head (ran_with t words h o) m'
+saved_right m head t s o words h m' (bs, all, e) f l a = (
   bs,
   all,
   λ file of. handed_read (saved_over m) t file _ f
-      (ap (λ (y : List ℕ). answered (verdict k g) (world h y)) (take_all words m' (omega arith)) ∙ a ∙ ap finished (e ∙ saved_whole m t bs file all.all of)),
+      (ap (λ (y : List ℕ). answered (outcome_of o) (world h y)) (take_all words m' (omega arith)) ∙ a ∙ ap finished (e ∙ saved_whole m t bs file all.all of)),
 )
 
 -- ---- by the first bytes
@@ -320,7 +313,7 @@ longer way x m rest l (bs, r, h) = (
   (
     bs,
     r,
-    λ file of. ap (λ (y : List ℕ). answered (verdict x.number x.detail) (world x.house y)) (take-append-le x.words m rest l) ∙ h file of,
+    λ file of. ap (λ (y : List ℕ). answered (outcome_of x.outcome) (world x.house y)) (take-append-le x.words m rest l) ∙ h file of,
   ),
   omega (arith, length-append m rest),
 )
@@ -412,12 +405,12 @@ module _ (way : Way) (printed : Answered → List ℕ) (x : Ran) (m : List ℕ) 
   told_answer f = (h.0, h.1, λ file of. ap printed (h.2 file of ∙ read_on way x.taken file f) ∙ rw f)
 
   -- and what it may save
-  pub left_world : x.taken.failed ≡ false → x.number ≡ 0 → Left way x.taken (world x.house (take x.words m))
-  left_world f z = (
+  pub left_world : x.taken.failed ≡ false → (detail : ℕ) → x.outcome ≡ Ok detail → Left way x.taken (world x.house (take x.words m))
+  left_world f detail o = (
     h.0,
     h.1,
     λ file of. (
-      x.detail,
-      sym (read_on way x.taken file f) ∙ sym (h.2 file of) ∙ ap (λ (k : ℕ). answered (verdict k x.detail) (world x.house (take x.words m))) z,
+      detail,
+      sym (read_on way x.taken file f) ∙ sym (h.2 file of) ∙ ap (λ (r : Result ℕ Refusal). answered (outcome_of r) (world x.house (take x.words m))) o,
     ),
   )

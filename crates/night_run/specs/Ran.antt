@@ -1,10 +1,12 @@
 -- What a file comes to: the first refusal of the file, of boot, or of run; or the house and memory after the run, or those that were saved.
-use Rattle.std.specs.Prelude.{◌≡◌, Bool, not, ◌&&◌, List, [], ℕ, min, ltb, leb, eqb, length, take, drop, replicate}
+use Rattle.std.specs.Prelude.{◌≡◌, Result, Ok, Err, Bool, not, ◌&&◌, List, [], ℕ, min, ltb, leb, eqb, length, take, drop, replicate}
 use Rattle.dlx.specs.Choice.{when◌then◌else◌}
 use Rattle.house.specs.House.{no_house}
-use Rattle.house.specs.Boot.{verdict}
+use Rattle.house.specs.Boot.{Verdict, verdict}
 use Rattle.house.specs.Turns.{World, world}
 use Rattle.house.specs.Calls.{Answered, answered, boot_call, run_call}
+use Rattle.house.specs.Refusals.{refusal}
+use Rattle.house.specs.declared.refusal.Refusal.{Refusal}
 use Rattle.housefile.specs.Records.{Reading, wrong, right, reading_of, number, kind}
 use Rattle.housefile.specs.Reader.{Read, no_read, fed}
 use Rattle.engines.specs.Promises.{emptied_by}
@@ -119,9 +121,14 @@ SavedRead memory head t s = (bs : List ℕ) × Reads (refused_over memory) head 
 unfoldable pub no_frames : List ℕ
 no_frames = replicate 1048576 0
 
+-- done with this detail, or refused
+abbrev pub outcome_of : Result ℕ Refusal → Verdict
+outcome_of (Ok detail) = verdict 0 detail
+outcome_of (Err r) = refusal r
+
 -- as an answer, over the lent memory
 abbrev pub answer_in : Ran → List ℕ → Answered
-answer_in x memory = answered (verdict x.number x.detail) (world x.house (take x.words memory))
+answer_in x memory = answered (outcome_of x.outcome) (world x.house (take x.words memory))
 
 -- for a file, once it is read: nothing where a read failed
 abbrev pub handed : Way → Taken → List ℕ → Answered

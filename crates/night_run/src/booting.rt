@@ -1,18 +1,18 @@
 // A house file: read in pieces over the lent memory; then its house booted and run, or nothing made of it.
 ghost use Rattle.std.specs.Prelude.{◌≡◌, List, ℕ, ◌≤◌, get_or, take, length, replicate};
-ghost use Rattle.house.specs.Boot.{verdict};
+ghost use Rattle.house.specs.House.{no_house};
 ghost use Rattle.house.specs.Turns.{world};
 ghost use Rattle.house.specs.Calls.{answered, boot_call};
 ghost use Rattle.engines.specs.Promises.{emptied_by};
 ghost use Rattle.housefile.specs.Reader.{read, no_reader, no_read, fed};
 ghost use Rattle.night_run.specs.Pieces.{OneRead, Going};
-ghost use Rattle.night_run.specs.Ran.{after_boot, house_file, house_file_by, held_file, HouseGoing, HouseRead, HandedFrom};
+ghost use Rattle.night_run.specs.Ran.{outcome_of, after_boot, house_file, house_file_by, held_file, HouseGoing, HouseRead, HandedFrom};
 
 use crate::input::take_piece;
-use crate::{Ran, Taken};
+use crate::{Outcome, Ran, Taken};
 use boot::boot;
 use files::Source;
-use house::{Answer, House};
+use house::House;
 use housefile::{Reader, feed, finished, lists, total};
 use unshadowed_run::run_by;
 
@@ -95,30 +95,18 @@ fn after_boot(
     memory: &mut [u32],
     steps: u32,
     unshadowed: bool,
-) -> Answer
-    ensures { answered (verdict result.number result.detail) (world result.house memory.new) ≡ emptied_by unshadowed (after_boot (boot_call (take r.lists pages.now) q (take r.total frames.now) memory.old) steps) }
+    house: &mut House,
+) -> Outcome
+    requires { house.old ≡ no_house }
+    ensures { answered (outcome_of result) (world house.new memory.new) ≡ emptied_by unshadowed (after_boot (boot_call (take r.lists pages.now) q (take r.total frames.now) memory.old) steps) }
 {
     let n = lists(r, pages);
     let k = total(r, frames);
-    let b = boot(&pages[..n], q, &frames[..k], memory);
-    if b.number != 0 {
-        return b;
-    }
-    run_by(unshadowed, b.house, memory, steps)
-}
-
-// After a file that is right.
-fn after_file(
-    r: Reader,
-    turns: &[u32; 2],
-    pages: &[u32; 8],
-    frames: &[u32; 2048],
-    memory: &mut [u32],
-    unshadowed: bool,
-) -> Answer
-    ensures { answered (verdict result.number result.detail) (world result.house memory.new) ≡ emptied_by unshadowed (after_boot (boot_call (take r.lists pages.now) (get_or turns.now 0 0) (take r.total frames.now) memory.old) (get_or turns.now 1 0)) }
-{
-    after_boot(r, pages, turns[0], frames, memory, turns[1], unshadowed)
+    let booted = boot(&pages[..n], q, &frames[..k], memory)?;
+    *house = booted.house;
+    let ran = run_by(unshadowed, *house, memory, steps)?;
+    *house = ran.house;
+    Ok(ran.detail)
 }
 
 // After the reads: nothing where one failed.
@@ -135,20 +123,22 @@ fn ran_house(
     ensures words_in_bounds { result.words ≤ length memory.new }
 {
     if taken.failed() {
-        return Ran::none(taken, 0, 0);
+        return Ran::none(taken, Ok(0));
     }
-    let f = finished(reader);
-    if f.number != 0 {
-        return Ran::none(taken, f.number, f.detail);
-    }
-    let a = after_file(reader, turns, pages, frames, memory, unshadowed);
-    let house = a.house;
-    Ran {
-        taken,
-        number: a.number,
-        detail: a.detail,
-        words: memory.len(),
-        house,
+    match finished(reader) {
+        Ok(_) => {
+            let mut house = House::none();
+            let outcome = after_boot(
+                reader, pages, turns[0], frames, memory, turns[1], unshadowed, &mut house,
+            );
+            Ran {
+                taken,
+                words: memory.len(),
+                house,
+                outcome,
+            }
+        }
+        Err(refusal) => Ran::none(taken, Err(refusal)),
     }
 }
 
@@ -158,19 +148,16 @@ fn held_house(taken: Taken, reader: Reader, memory: &[u32]) -> Ran
     ensures words_in_bounds { result.words ≤ length memory.now }
 {
     if taken.failed() {
-        return Ran::none(taken, 0, 0);
+        return Ran::none(taken, Ok(0));
     }
-    let f = finished(reader);
-    if f.number != 0 {
-        return Ran::none(taken, f.number, f.detail);
-    }
-    let house = House::none();
-    Ran {
-        taken,
-        number: 0,
-        detail: 0,
-        words: memory.len(),
-        house,
+    match finished(reader) {
+        Ok(_) => Ran {
+            taken,
+            words: memory.len(),
+            house: House::none(),
+            outcome: Ok(0),
+        },
+        Err(refusal) => Ran::none(taken, Err(refusal)),
     }
 }
 

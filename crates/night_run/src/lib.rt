@@ -8,14 +8,17 @@ mod input;
 mod restoring;
 mod system;
 
-ghost use Rattle.std.specs.Prelude.{◌≡◌, ◌≤◌, length};
+ghost use Rattle.std.specs.Prelude.{◌≡◌, List, ℕ, ◌≤◌, length};
 ghost use Rattle.house.specs.House.{no_house};
-ghost use Rattle.night_run.specs.Ran.{no_frames, house_file_by, saved_file, either_file, either_held, Handed};
+ghost use Rattle.house.specs.Turns.{world};
+ghost use Rattle.house.specs.Calls.{answered};
+ghost use Rattle.house.specs.Refusals.{answer_of};
+ghost use Rattle.night_run.specs.Ran.{outcome_of, no_frames, house_file_by, saved_file, either_file, either_held, Handed};
 
 use booting::{boot_from, hold_from};
 use choice::{is_saved, room};
 use files::Source;
-use house::House;
+use house::{Answer, Done, House, Refusal};
 pub use input::Taken;
 use input::take_head;
 use restoring::restore_from;
@@ -23,29 +26,41 @@ use restoring::restore_from;
 // The memory that a program lends: 1,024 frames.
 pub const WORDS: usize = 1048576;
 
-// What was read, and what it came to: a house number and its detail, the house, and how many words of the lent memory are its.
+// The detail of what is done, or what refuses it.
+pub type Outcome = Result<u64, Refusal>;
+
+// What was read, and what it came to: how many words of the lent memory are the house's, the house that is left, and the outcome. A refused run leaves the house
+// that boot made; all other refusals leave none.
 #[derive(Clone, Copy)]
 pub struct Ran {
     pub taken: Taken,
-    pub number: u32,
-    pub detail: u64,
     pub words: usize,
     pub house: House,
+    pub outcome: Outcome,
 }
 
 impl Ran {
     // There is no house.
-    pub(crate) fn none(taken: Taken, number: u32, detail: u64) -> Ran
-        ensures { result ≡ record { taken = taken; number = number; detail = detail; words = 0; house = no_house } }
+    pub(crate) fn none(taken: Taken, outcome: Outcome) -> Ran
+        ensures { result ≡ record { taken = taken; words = 0; house = no_house; outcome = outcome } }
     {
-        let house = House::none();
         Ran {
             taken,
-            number,
-            detail,
             words: 0,
-            house,
+            house: House::none(),
+            outcome,
         }
+    }
+
+    // As an answer, which has the house only where all was done.
+    pub fn answer(self) -> Answer
+        ensures { (m : List ℕ) → answer_of self.house result m ≡ answered (outcome_of self.outcome) (world self.house m) }
+    {
+        let detail = self.outcome?;
+        Ok(Done {
+            detail,
+            house: self.house,
+        })
     }
 }
 

@@ -8,6 +8,7 @@ ghost use Rattle.night_run.specs.Ran.{refused_over, saved_over, SavedGoing, Save
 use crate::input::take_piece;
 use crate::{Ran, Taken};
 use files::Source;
+use house::House;
 use restore::Restoring;
 use restore::reading::{begin, finish, read};
 
@@ -68,15 +69,21 @@ pub fn restore_from(source: &mut Source, t: Taken, head: &[u8], memory: &mut [u3
     let x = take_saved(source, t, first, &mut held, memory);
     let taken = x.taken;
     if taken.failed() {
-        return Ran::none(taken, 0, 0);
+        return Ran::none(taken, Ok(0));
     }
-    let a = finish(x.restoring);
-    let house = a.house;
-    Ran {
-        taken,
-        number: a.number,
-        detail: a.detail,
-        words: memory.len(),
-        house,
+    let words = memory.len();
+    match finish(x.restoring) {
+        Ok(done) => Ran {
+            taken,
+            words,
+            house: done.house,
+            outcome: Ok(done.detail),
+        },
+        Err(refusal) => Ran {
+            taken,
+            words,
+            house: House::none(),
+            outcome: Err(refusal),
+        },
     }
 }
