@@ -1,9 +1,10 @@
 -- Saving and reading back: what is kept, and what is told.
 use Rattle.std.proofs.Common.{◌≡◌, ℕ, List, [], ◌++◌, take, drop, sym, ap, ◌∙◌, subst}
+use Rattle.std.specs.Prelude.{Result, Ok, Err}
 use Rattle.house.specs.declared.House.{House}
-use Rattle.house.specs.Boot.{verdict}
-use Rattle.house.specs.Turns.{world}
-use Rattle.house.specs.Calls.{Answered, answered}
+use Rattle.house.specs.Refusals.{answer_of}
+use Rattle.house.specs.declared.Done.{Done}
+use Rattle.house.specs.declared.refusal.Refusal.{Refusal}
 use Rattle.decimal.specs.Texts.{Puts}
 use Rattle.save.specs.Reading.{Reading, begun, lent}
 use Rattle.save.specs.Calls.{read_piece, finished}
@@ -13,7 +14,7 @@ use Rattle.drill_script.specs.declared.commands.Command.{Command}
 use Rattle.drill_script.specs.declared.commands.Op.TheVariants.{Save, Piece}
 use Rattle.drill_script.specs.Commands.{number_of}
 use Rattle.drill_script.proofs.Ops.{is_no}
-use Rattle.drill.specs.Told.{most_told, told_of}
+use Rattle.drill.specs.Told.{most_told, told_of, answer_told}
 use Rattle.drill.specs.Saving.{save_text_of, begun_by, piece_of, detail_of, piece_text_of, finish_text_of, apart, Keeps, keeps, kept_of, saving_text_of}
 
 -- a piece: the memory of the reading before it does not matter
@@ -30,13 +31,12 @@ module _ {text text' : List ℕ} {used end : ℕ} (c : Command) where
       subst (λ (z : Reading). Puts text used text' end (told_of (number_of c.op) z.progress.refusal (detail_of z.progress) h z.progress.memory) most_told) e
       (subst (λ (y : ℕ). Puts text used text' end (told_of (number_of c.op) x.refusal y h m') most_told) ed p)
 
-  pub finish_told : (s : Reading) (m : List ℕ) (n d : ℕ) (h : House) → answered (verdict n d) (world h []) ≡ finished s
-      → Puts text used text' end (told_of (number_of c.op) n d h m) most_told → (h ≡ (finished s).world.house) × Puts text used text' end (finish_text_of c s m) most_told
+  -- the answer at the end says the same over the memory that is told of
+  pub finish_told : (s : Reading) (m : List ℕ) (g : House) (a : Result Done Refusal) → answer_of g a [] ≡ finished s
+      → Puts text used text' end (answer_told (number_of c.op) (answer_of g a m) m) most_told → Puts text used text' end (finish_text_of c s m) most_told
   unfolding finish_text_of
-  finish_told s m n d h e p = (
-    ap (λ (a : Answered). a.world.house) e,
-    subst (λ (a : Answered). Puts text used text' end (told_of (number_of c.op) a.verdict.number a.verdict.detail a.world.house m) most_told) e p,
-  )
+  finish_told s m g (Ok done) e p = rw (← e) p
+  finish_told s m g (Err r) e p = rw (← e) p
 
 module _ (c : Command) (more : List ℕ) (lent : ℕ) (h : House) (m : List ℕ) (s : Reading) where
   abbrev Now : Keeps → Type 0

@@ -6,7 +6,7 @@ use Rattle.house.specs.declared.House.{House}
 use Rattle.house.specs.Lists.{list_from}
 use Rattle.house.specs.House.{no_house}
 use Rattle.house.specs.Turns.{World, world}
-use Rattle.house.specs.Calls.{Answered, Read, boot_call, run_call, start_call, stop_call, empty_call, read_call}
+use Rattle.house.specs.Calls.{Answered, Read, read, boot_call, run_call, start_call, stop_call, empty_call, read_call}
 use Rattle.drill_script.specs.declared.commands.Command.{Command}
 use Rattle.drill_script.specs.declared.commands.Op.TheVariants.{Boot, Run, Start, Stop, ReadOut, PokeMemory, SetLength, PokeHouse, Clear, Audit, Mend, Unshadowed}
 use Rattle.drill_script.specs.Commands.{◌is◌, number_of}
@@ -62,10 +62,18 @@ called_of c more h m =
     else when c.op is Unshadowed then unshadowed_call (world h m) c.a
     else empty_call (world h m) c.a
 
+-- the house that it was given, which a refused one leaves: a boot is given none
+abbrev pub given_of : Op → House → House
+given_of op h = when op is Boot then no_house else h
+
 -- into an output of so many words
 unfoldable pub read_out_of : Command → List ℕ → House → List ℕ → ℕ → Read
 read_out_of c more h m words =
     read_call (world h m) c.a c.b (word_at more 0 + word_at more 4 * 4294967296) (list_from marked_of 0 words)
+
+-- a read-out's answer, with the output that it leaves
+abbrev pub read_left : Answered → List ℕ → Read
+read_left a out = read a.verdict a.world.house out
 
 unfoldable pub call_text_of : Command → List ℕ → House → List ℕ → List ℕ
 call_text_of c more h m =

@@ -1,12 +1,12 @@
 // The commands of the house: the calls, a poke, and clear.
 ghost use Rattle.std.specs.Prelude.{◌≡◌, ◌≤◌, length};
-ghost use Rattle.house.specs.Boot.{verdict};
+ghost use Rattle.house.specs.House.{no_house};
 ghost use Rattle.house.specs.Turns.{world};
-ghost use Rattle.house.specs.Calls.{answered, read as read_of};
+ghost use Rattle.house.specs.Refusals.{answer_of};
 ghost use Rattle.decimal.specs.Texts.{Puts};
 ghost use Rattle.drill.specs.Fit.{Plays, Boots};
 ghost use Rattle.drill.specs.Told.{most_told, most_read};
-ghost use Rattle.drill.specs.Player.{boot_of, called_of, read_out_of, call_text_of, read_text_of, audit_text_of, made_of, made_text_of, more_of, played_of, text_of};
+ghost use Rattle.drill.specs.Player.{boot_of, called_of, given_of, read_out_of, read_left, call_text_of, read_text_of, audit_text_of, made_of, made_text_of, more_of, played_of, text_of};
 
 use crate::reading::Reading;
 use crate::told;
@@ -16,12 +16,12 @@ use drill_script::commands::{Command, Op};
 use drill_script::poke::poke;
 use drill_script::words;
 use drill_text::{ROOM, lines};
-use house::{Answer, House};
+use house::{Answer, Done, House};
 use hypervisor::calls;
 
 // The house and the text used after a call.
 #[derive(Clone, Copy)]
-pub struct Done {
+pub struct AfterCall {
     pub house: House,
     pub used: usize,
 }
@@ -39,7 +39,7 @@ fn booted(c: Command, more: &[u8], memory: &[u32], pages: &mut [u32], frames: &m
     requires fact_1 { Boots c (length more.now) }
     requires fact_2 { 16 ≤ length pages.old }
     requires fact_3 { 4096 ≤ length frames.old }
-    ensures { answered (verdict result.number result.detail) (world result.house memory.now) ≡ boot_of c more.now memory.now }
+    ensures { answer_of no_house result memory.now ≡ boot_of c more.now memory.now }
 {
     let n = wide(c.a);
     let l = wide(c.c);
@@ -59,7 +59,7 @@ fn called(
 ) -> Answer
     requires fact_1 { (c.op ≡ Op.Boot → Boots c (length more.now)) }
     requires fact_2 { 4096 ≤ length frames.old }
-    ensures { answered (verdict result.number result.detail) (world result.house memory.new) ≡ called_of c more.now h memory.old }
+    ensures { answer_of (given_of c.op h) result memory.new ≡ called_of c more.now h memory.old }
 {
     match c.op {
         Op::Boot => booted(c, more, memory, pages, frames),
@@ -72,15 +72,26 @@ fn called(
     }
 }
 
+// The house that it is given, which a refused one leaves: a boot is given none.
+fn given(h: House, op: Op) -> House
+    ensures { result ≡ given_of op h }
+{
+    if op == Op::Boot { House::none() } else { h }
+}
+
 // A read-out: the two halves of the count stand behind the command's four words.
 fn read_out(h: House, c: Command, more: &[u8], memory: &[u32], output: &mut [u32]) -> Answer
     requires fact_1 { 8 ≤ length more.now }
     requires fact_2 { length output.old ≤ 4096 }
-    ensures { read_of (verdict result.number result.detail) result.house output.new ≡ read_out_of c more.now h memory.now (length output.old) }
+    ensures { read_left (answer_of h result memory.now) output.new ≡ read_out_of c more.now h memory.now (length output.old) }
 {
     let count = words::word(more, 0) as u64 + words::word(more, 4) as u64 * 0x1_0000_0000;
     words::mark(output);
-    calls::read_out(h, memory, c.a, c.b, count, output)
+    calls::read_out(h, memory, c.a, c.b, count, output)?;
+    Ok(Done {
+        detail: count,
+        house: h,
+    })
 }
 
 // A call but a read-out and an audit, and its text.
@@ -93,15 +104,16 @@ fn call(
     frames: &mut [u32],
     text: &mut [u8; ROOM],
     used: usize,
-) -> Done
+) -> AfterCall
     requires fact_1 { (c.op ≡ Op.Boot → Boots c (length more.now)) }
     requires fact_2 { 4096 ≤ length frames.old }
     ensures { (world result.house memory.new ≡ (called_of c more.now h memory.old).world) × Puts text.old used text.new result.used (call_text_of c more.now h memory.old) most_told }
 {
-    let a = called(h, c, more, memory, pages, frames);
-    let house = a.house;
-    let end = told::call(text, used, c.op, a, memory);
-    Done { house, used: end }
+    let given = given(h, c.op);
+    let answer = called(h, c, more, memory, pages, frames);
+    let end = told::answer(text, used, c.op, given, answer, memory);
+    let house = told::left(given, answer);
+    AfterCall { house, used: end }
 }
 
 // A read-out, and its text with the output's.
@@ -113,41 +125,26 @@ fn read(
     output: &mut [u32],
     text: &mut [u8; ROOM],
     used: usize,
-) -> Done
+) -> usize
     requires fact_1 { 8 ≤ length more.now }
     requires fact_2 { length output.old ≤ 4096 }
-    ensures { (result.house ≡ h) × Puts text.old used text.new result.used (read_text_of c more.now h memory.now (length output.old)) most_read }
+    ensures { Puts text.old used text.new result (read_text_of c more.now h memory.now (length output.old)) most_read }
 {
-    let a = read_out(h, c, more, memory, output);
-    let house = a.house;
-    let called = told::call(text, used, c.op, a, memory);
-    let shown = told::shown(a.number, a.detail);
-    let end = lines::output(text, called, output, shown);
-    Done { house, used: end }
+    let answer = read_out(h, c, more, memory, output);
+    let called = told::answer(text, used, c.op, h, answer, memory);
+    lines::output(text, called, output, told::shown(answer))
 }
 
 // An audit, and its text with the first stale entry's.
-fn audit(h: House, c: Command, memory: &[u32], text: &mut [u8; ROOM], used: usize) -> Done
-    ensures { (result.house ≡ h) × Puts text.old used text.new result.used (audit_text_of c h memory.now) most_read }
+fn audit(h: House, c: Command, memory: &[u32], text: &mut [u8; ROOM], used: usize) -> usize
+    ensures { Puts text.old used text.new result (audit_text_of c h memory.now) most_read }
 {
-    let f = staleness::audit(h, memory);
-    let a = Answer {
-        number: f.number,
-        detail: 0,
-        house: h,
-    };
-    let called = told::call(text, used, c.op, a, memory);
-    if f.number != 0 {
-        return Done {
-            house: h,
-            used: called,
-        };
-    }
-    let found = f.stale.then_some((f.partition, f.page));
-    let end = lines::stale(text, called, found);
-    Done {
-        house: h,
-        used: end,
+    match staleness::audit(h, memory) {
+        Ok(first) => {
+            let called = told::call(text, used, c.op, 0, 0, h, memory);
+            lines::stale(text, called, first.map(|s| (s.partition, s.page)))
+        }
+        Err(refusal) => told::call(text, used, c.op, refusal.number(), 0, h, memory),
     }
 }
 
@@ -161,7 +158,7 @@ fn made(
     many: &mut [u32],
     text: &mut [u8; ROOM],
     used: usize,
-) -> Done
+) -> AfterCall
     requires fact_1 { (c.op ≡ Op.ReadOut → (c.c ≤ 4096) × (8 ≤ length more.now)) }
     requires fact_2 { (c.op ≡ Op.Boot → Boots c (length more.now)) }
     requires fact_3 { 4096 ≤ length many.old }
@@ -170,9 +167,19 @@ fn made(
     match c.op {
         Op::ReadOut => {
             let n = wide(c.c);
-            read(h, c, more, memory, &mut many[..n], text, used)
+            let end = read(h, c, more, memory, &mut many[..n], text, used);
+            AfterCall {
+                house: h,
+                used: end,
+            }
         }
-        Op::Audit => audit(h, c, memory, text, used),
+        Op::Audit => {
+            let end = audit(h, c, memory, text, used);
+            AfterCall {
+                house: h,
+                used: end,
+            }
+        }
         _ => call(h, c, more, memory, few, many, text, used),
     }
 }

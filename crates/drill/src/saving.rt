@@ -1,23 +1,22 @@
 // A save, a piece of a reading, and its end.
 ghost use Rattle.std.specs.Prelude.{◌≡◌, ℕ, ◌≤◌, List, [], length};
 ghost use Rattle.decimal.specs.Texts.{Puts};
-ghost use Rattle.save.specs.Calls.{finished, written as written_by};
-ghost use Rattle.house.specs.Boot.{verdict};
+ghost use Rattle.save.specs.Calls.{finished};
+ghost use Rattle.saver.specs.Answers.{answer_of as saved_by};
 ghost use Rattle.restore.specs.Standing.{progress_at, reading_at};
 ghost use Rattle.drill.specs.Fit.{Plays};
 ghost use Rattle.drill.specs.Told.{most_told, most_read};
 ghost use Rattle.drill.specs.Player.{more_of};
 ghost use Rattle.drill.specs.Saving.{marked_bytes, saved_of, save_text_of, begun_by, cleared_by, piece_of, detail_of, piece_text_of, finish_text_of, keeps, kept_of, saving_text_of};
 
-use crate::calls::Done;
+use crate::calls::AfterCall;
 use crate::reading::Reading;
 use crate::told;
 use dlx::words::wide;
 use drill_script::commands::{Command, Op};
 use drill_text::{ROOM, lines};
-use house::{Answer, House};
+use house::{House, Refusal};
 use restore::{Reader, Restoring};
-use saver::piece::Saved;
 
 // The house, the reading, and the text used, after a command.
 #[derive(Clone, Copy)]
@@ -42,8 +41,8 @@ fn mark(output: &mut [u8])
     }
 }
 
-fn saved(h: House, c: Command, memory: &[u32], output: &mut [u8]) -> Saved
-    ensures { written_by (verdict result.number result.detail) result.count result.house output.new ≡ saved_of c h memory.now (length output.old) }
+fn saved(h: House, c: Command, memory: &[u32], output: &mut [u8]) -> Result<usize, Refusal>
+    ensures { saved_by h result output.new ≡ saved_of c h memory.now (length output.old) }
 {
     mark(output);
     let at = c.a as u64 + c.b as u64 * 0x1_0000_0000;
@@ -61,15 +60,17 @@ fn save(
 ) -> usize
     ensures { Puts text.old used text.new result (save_text_of c h memory.now (length output.old)) most_read }
 {
-    let s = saved(h, c, memory, output);
-    let house = s.house;
-    let a = Answer {
-        number: s.number,
-        detail: s.detail,
-        house,
-    };
-    let called = told::call(text, used, c.op, a, memory);
-    lines::written(text, called, s.count, output)
+    match saved(h, c, memory, output) {
+        Ok(count) => {
+            let called = told::call(text, used, c.op, 0, 0, h, memory);
+            lines::written(text, called, count, output)
+        }
+        Err(refusal) => {
+            let detail = refusal.detail();
+            let called = told::call(text, used, c.op, refusal.number(), detail, h, memory);
+            lines::written(text, called, 0, output)
+        }
+    }
 }
 
 // The detail of a reading's refusal so far.
@@ -124,12 +125,8 @@ fn piece(
 {
     let x = taken(c, more, r, held, memory);
     let reader = x.reader;
-    let a = Answer {
-        number: reader.refusal,
-        detail: detail(reader),
-        house: h,
-    };
-    let end = told::call(text, used, c.op, a, memory);
+    let detail = detail(reader);
+    let end = told::call(text, used, c.op, reader.refusal, detail, h, memory);
     Pieced {
         restoring: x,
         used: end,
@@ -137,13 +134,14 @@ fn piece(
 }
 
 // The end of a reading, and its text.
-fn finish(c: Command, r: Restoring, memory: &[u32], text: &mut [u8; ROOM], used: usize) -> Done
+fn finish(c: Command, r: Restoring, memory: &[u32], text: &mut [u8; ROOM], used: usize) -> AfterCall
     ensures { (held : List ℕ) → (result.house ≡ (finished (reading_at r.reader r.house held [])).world.house) × Puts text.old used text.new result.used (finish_text_of c (reading_at r.reader r.house held []) memory.now) most_told }
 {
-    let a = restore::reading::finish(r);
-    let house = a.house;
-    let end = told::call(text, used, c.op, a, memory);
-    Done { house, used: end }
+    let none = House::none();
+    let answer = restore::reading::finish(r);
+    let end = told::answer(text, used, c.op, none, answer, memory);
+    let house = told::left(none, answer);
+    AfterCall { house, used: end }
 }
 
 // The reading behind another command.

@@ -1,9 +1,12 @@
 // What is told, and when it is written.
-ghost use Rattle.std.specs.Prelude.{◌≡◌, ◌+◌, ◌<◌, ◌≤◌, ◌++◌, length};
+ghost use Rattle.std.specs.Prelude.{◌≡◌, List, ℕ, ◌+◌, ◌<◌, ◌≤◌, ◌++◌, length};
 ghost use Rattle.decimal.specs.Decimals.{decimal};
 ghost use Rattle.decimal.specs.Texts.{ascii, Puts};
 ghost use Rattle.drill_script.specs.Commands.{number_of};
-ghost use Rattle.drill.specs.Told.{most_told, told_of, shown_of};
+ghost use Rattle.house.specs.Turns.{world};
+ghost use Rattle.house.specs.Refusals.{answer_of};
+ghost use Rattle.house.specs.declared.House.{House};
+ghost use Rattle.drill.specs.Told.{most_told, told_of, answer_told, shown_by};
 
 use command::put_out;
 use decimal::{put_byte, put_decimal, put_text};
@@ -11,31 +14,66 @@ use drill_script::commands::Op;
 use drill_text::partitions::partitions;
 use drill_text::queues::queues;
 use drill_text::{ROOM, lines};
-use house::Answer;
+use house::{Answer, House};
 
-// The text of a call.
-pub fn call(text: &mut [u8; ROOM], used: usize, op: Op, a: Answer, memory: &[u32]) -> usize
-    ensures { Puts text.old used text.new result (told_of (number_of op) a.number a.detail a.house memory.now) most_told }
+// The text of a call that comes to this number and detail, and leaves this house.
+pub fn call(
+    text: &mut [u8; ROOM],
+    used: usize,
+    op: Op,
+    number: u32,
+    detail: u64,
+    house: House,
+    memory: &[u32],
+) -> usize
+    ensures { Puts text.old used text.new result (told_of (number_of op) number detail house memory.now) most_told }
 {
-    let house = a.house;
-    let called = lines::call(text, used, op.number(), a.number, a.detail);
+    let called = lines::call(text, used, op.number(), number, detail);
     let housed = lines::house(text, called, house);
     let parted = partitions(text, housed, house);
     let queued = queues(text, parted, house);
     lines::memory(text, queued, memory)
 }
 
-// How many words are shown of a read-out's output.
-pub fn shown(number: u32, detail: u64) -> usize
-    ensures { result ≡ shown_of number detail }
+// The text of an answer of a call that was given this house.
+pub fn answer(
+    text: &mut [u8; ROOM],
+    used: usize,
+    op: Op,
+    given: House,
+    answer: Answer,
+    memory: &[u32],
+) -> usize
+    ensures { Puts text.old used text.new result (answer_told (number_of op) (answer_of given answer memory.now) memory.now) most_told }
 {
-    if number != 0 {
-        return 0;
+    match answer {
+        Ok(done) => call(text, used, op, 0, done.detail, done.house, memory),
+        Err(refusal) => {
+            let number = refusal.number();
+            call(text, used, op, number, refusal.detail(), given, memory)
+        }
     }
-    if detail > 8 {
-        return 0;
+}
+
+// The house that it leaves.
+pub fn left(given: House, answer: Answer) -> House
+    ensures { (m : List ℕ) → world result m ≡ (answer_of given answer m).world }
+{
+    match answer {
+        Ok(done) => done.house,
+        Err(_) => given,
     }
-    detail as usize
+}
+
+// How many words are shown of the output of a read-out.
+#[tactic(auto, unfolding(crate::specs::Told::shown_of))]
+pub fn shown(answer: Answer) -> usize
+    ensures { (given : House) (m : List ℕ) → result ≡ shown_by (answer_of given answer m).verdict }
+{
+    match answer {
+        Ok(done) if done.detail <= 8 => done.detail as usize,
+        _ => 0,
+    }
 }
 
 // Writes the text.

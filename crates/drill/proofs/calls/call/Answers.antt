@@ -1,11 +1,10 @@
-use Rattle.std.proofs.Common.{ap}
-use Rattle.house.specs.Calls.{Answered}
 use Rattle.drill.specs.Player.{call_text_of}
+use Rattle.drill.proofs.Shown.{memory_left}
 use Rattle.drill.proofs.calls.call.Goals as goal
-
-pub called-a-requires : goal.called-a-requires
-called-a-requires c = record { fact_1 = c.requires.fact_1; fact_2 = c.requires.fact_2 }
 
 pub returns : goal.returns
 unfolding call_text_of
-returns c = (ap (λ (x : Answered). x.world) c.called-a.ensures, rw (← c.called-a.ensures) c.call-end.ensures)
+returns c = (
+  rw (← c.called-answer.ensures, ← c.given-given.ensures) (c.left-house.ensures _),
+  rw (← c.called-answer.ensures, ← c.given-given.ensures, memory_left c.given-given.result c.called-answer.result c.called-answer.new.memory) c.answer-end.ensures,
+)

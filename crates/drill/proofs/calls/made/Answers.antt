@@ -1,4 +1,4 @@
-use Rattle.std.proofs.Common.{◌≡◌, length, take, sym, ap, ◌∙◌, arith, length-take-le}
+use Rattle.std.proofs.Common.{◌≡◌, length, take, refl, sym, ap, ◌∙◌, arith, length-take-le}
 use Rattle.decimal.proofs.Texts.{roomy}
 use Rattle.drill.specs.Told.{most_read}
 use Rattle.drill.specs.Player.{made_of, made_text_of}
@@ -14,8 +14,8 @@ slice_bounds-read-end c = omega (arith, c.wide-n.ensures, (c.requires.fact_1 c.i
 pub slice_bounds-read-end-in-ReadOut : goal.slice_bounds-read-end-in-ReadOut
 slice_bounds-read-end-in-ReadOut c = sym (length-take-le c.wide-n.result c.args.many.now (omega (arith, c.wide-n.ensures, (c.requires.fact_1 c.in-ReadOut.is).0, c.requires.fact_3)))
 
-pub read-requires : goal.read-requires
-read-requires c =
+pub read-end-requires : goal.read-end-requires
+read-end-requires c =
     let q = c.requires.fact_1 c.in-ReadOut.is in
     let n : length (take c.wide-n.result c.args.many.now) ≡ c.wide-n.result = length-take-le _ _ (omega (arith, c.wide-n.ensures, q.0, c.requires.fact_3)) in record { fact_1 = q.1; fact_2 = omega (arith, n, c.wide-n.ensures, q.0) }
 
@@ -25,14 +25,14 @@ returns-in-ReadOut c =
     let d = is_yes _ _ c.in-ReadOut.is in
     let q = c.requires.fact_1 c.in-ReadOut.is in
     let n : length (take c.wide-n.result c.args.many.now) ≡ c.args.c.c = length-take-le _ _ (omega (arith, c.wide-n.ensures, q.0, c.requires.fact_3)) ∙ c.wide-n.ensures in
-    (rw (d, c.read.ensures.0), rw d (as_many _ _ _ _ n c.read.ensures.1))
+    (rw d refl, rw d (as_many _ _ _ _ n c.read-end.ensures))
 
 pub returns-in-Audit : goal.returns-in-Audit
 unfolding made_of made_text_of
 returns-in-Audit c =
     let d = ap (λ o. o is ReadOut) c.in-Audit.is in
     let e = is_yes _ _ c.in-Audit.is in
-    (rw (d, e, c.audit.ensures.0), rw (d, e) c.audit.ensures.1)
+    (rw (d, e) refl, rw (d, e) c.audit-end.ensures)
 
 pub call-requires : goal.call-requires
 call-requires c = record { fact_1 = c.requires.fact_2; fact_2 = c.requires.fact_3 }
