@@ -8,6 +8,7 @@ use Rattle.house.specs.House.{no_house}
 use Rattle.house.specs.Turns.{World, world}
 use Rattle.house.specs.Calls.{Answered, Read, read, boot_call, run_call, start_call, stop_call, empty_call, read_call}
 use Rattle.drill_script.specs.declared.commands.Command.{Command}
+use Rattle.drill_script.specs.declared.commands.Op.{Op}
 use Rattle.drill_script.specs.declared.commands.Op.TheVariants.{Boot, Run, Start, Stop, ReadOut, PokeMemory, SetLength, PokeHouse, Clear, Audit, Mend, Unshadowed}
 use Rattle.drill_script.specs.Commands.{◌is◌, number_of}
 use Rattle.drill_script.specs.Words.{word_at, marked_of, filled_of}
