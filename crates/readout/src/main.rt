@@ -15,7 +15,7 @@ ghost use Rattle.report.specs.Report.{refused_text};
 ghost use Rattle.night_run.specs.Ran.{no_frames, either_file, Told};
 ghost use Rattle.readout.specs.Printed.{is_raw, words_text, refused_out, read_text, printed, read_refusal, refusal_of};
 
-use command::{Number, asks_help, fail, number_in, open, put_out, wrong};
+use command::{asks_help, fail, number_in, open, put_out, wrong};
 use dlx::words::wide;
 use files::{Source, print};
 use house::House;
@@ -244,16 +244,15 @@ fn help(rt: &HostRuntime) {
 }
 
 // The number that argument i says. Where it says none, that is told.
-fn number_at(rt: &HostRuntime, i: usize, expected: &[u8], most: u64) -> Number
-    ensures { result.value ≤ most }
+fn number_at(rt: &HostRuntime, i: usize, expected: &[u8], most: u64) -> Option<u64>
+    ensures { IfSome result (λ n. n ≤ most) }
 {
     let mut word = files::buffer();
     let length = files::word(rt, i, &mut word);
     let n = number_in(&word[..length], most);
-    if n.said {
-        return n;
+    if n.is_none() {
+        wrong(rt, expected, &word[..length]);
     }
-    wrong(rt, expected, &word[..length]);
     n
 }
 
@@ -285,29 +284,25 @@ fn with_words(rt: &HostRuntime, path: &[u8], given: usize) {
     let Some(form) = asked_form(rt, given) else {
         return;
     };
-    let partition = number_at(rt, 2, b"PARTITION, a decimal below 4294967296", 0xFFFF_FFFF);
-    if !partition.said {
+    let Some(partition) = number_at(rt, 2, b"PARTITION, a decimal below 4294967296", 0xFFFF_FFFF)
+    else {
         return;
-    }
-    let address = number_at(rt, 3, b"ADDRESS, a decimal below 4294967296", 0xFFFF_FFFF);
-    if !address.said {
+    };
+    let Some(address) = number_at(rt, 3, b"ADDRESS, a decimal below 4294967296", 0xFFFF_FFFF) else {
         return;
-    }
-    let count = number_at(
+    };
+    let Some(count) = number_at(
         rt,
         4,
         b"COUNT, a decimal below 18446744073709551616",
         0xFFFF_FFFF_FFFF_FFFF,
-    );
-    if !count.said {
+    ) else {
         return;
-    }
-    let i = partition.value as u32;
-    let a = address.value as u32;
+    };
     let w = Want {
-        partition: i,
-        address: a,
-        count: count.value,
+        partition: partition as u32,
+        address: address as u32,
+        count,
         form,
     };
     open_and_read(rt, path, w);

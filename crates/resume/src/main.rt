@@ -12,7 +12,7 @@ ghost use Rattle.report.specs.Printed.{printed};
 ghost use Rattle.night_run.specs.Ran.{Told, Left};
 ghost use Rattle.resume.specs.Resumed.{resumed_file};
 
-use command::{Number, asks_help, fail, number_in, open, put_out, wrong};
+use command::{asks_help, fail, number_in, open, put_out, wrong};
 use decimal::is;
 use files::{Source, print, try_word};
 use house::House;
@@ -145,32 +145,30 @@ fn with_out(rt: &HostRuntime, name: &[u8], steps: u64) {
 }
 
 // The number that the second word says. Where it says none, that is told.
-fn steps_said(rt: &HostRuntime) -> Number {
+fn steps_said(rt: &HostRuntime) -> Option<u64> {
     let mut word = files::buffer();
     let length = files::word(rt, 2, &mut word);
     let n = number_in(&word[..length], 0xFFFF_FFFF_FFFF_FFFF);
-    if n.said {
-        return n;
+    if n.is_none() {
+        wrong(
+            rt,
+            b"STEPS, a decimal below 18446744073709551616",
+            &word[..length],
+        );
     }
-    wrong(
-        rt,
-        b"STEPS, a decimal below 18446744073709551616",
-        &word[..length],
-    );
     n
 }
 
 // With the words behind SAVED.
 fn with_words(rt: &HostRuntime, name: &[u8], given: usize) {
-    let steps = steps_said(rt);
-    if !steps.said {
+    let Some(steps) = steps_said(rt) else {
         return;
-    }
+    };
     if given == 3 {
-        open_and_run(rt, name, steps.value, b"", false);
+        open_and_run(rt, name, steps, b"", false);
         return;
     }
-    with_out(rt, name, steps.value);
+    with_out(rt, name, steps);
 }
 
 fn main(rt: HostRuntime) {
