@@ -4,8 +4,6 @@ use lib.Seq.{sets}
 use Rattle.dlx.specs.Choice.{when◌then◌else◌}
 use Rattle.dlx.proofs.Tests.{by_test}
 use Rattle.housefile.specs.Records.{wrong, number, words_of}
-use Rattle.std.specs.Prelude.{Option}
-use Rattle.housefile.specs.declared.Kind.{Kind}
 use Rattle.housefile.specs.Reader.{Read, read, within, spoils, placed, further, completed, settled, fed, answer_of}
 use Rattle.housefile.specs.declared.Record.{Record}
 use Rattle.housefile.specs.declared.Reader.{Reader}
@@ -21,7 +19,7 @@ word_lt (a ∷ b ∷ c ∷ []) g = omega (arith, g 0, g 1, g 2)
 word_lt (a ∷ b ∷ c ∷ d ∷ bs) g = omega (arith, g 0, g 1, g 2, g 3)
 
 -- the state behind a whole record
-unfoldable pub behind : Reader → ℕ → Option Kind → Read → Read
+unfoldable pub behind : Reader → ℕ → ℕ → Read → Read
 behind r size kind q =
     let x = completed r (of 0 size kind 0 0) q.pages in
     read x.0 q.turns x.1 q.frames q.memory
@@ -63,7 +61,7 @@ module _ (r : Reader) (o : Open r) where
 
 -- ---- a body whose words go one by one to their places in one list
 
-module _ (r : Reader) (o : Open r) (size : ℕ) (kind : Option Kind) (into : List ℕ → Read) (place : ℕ → ℕ) (first : ℕ) (P : ℕ → Type 0)
+module _ (r : Reader) (o : Open r) (size kind : ℕ) (into : List ℕ → Read) (place : ℕ → ℕ) (first : ℕ) (P : ℕ → Type 0)
     (next : (j : ℕ) → first ≤ j → place (suc j) ≡ suc (place j))
     (keeps : (j frame w : ℕ) → first ≤ j → P frame → P (when eqb (9 + 4 * j) 9 then w else frame))
     (fine : (n : Record) (j frame w : ℕ) → first ≤ j → P frame → spoils (within r n) (of (10 + 4 * j) size kind frame w) ≡ false)

@@ -1,9 +1,7 @@
 -- One byte at a time: where the reading stands within a record.
 use Rattle.std.proofs.Common.{◌≡◌, ℕ, ◌+◌, ◌%◌, ◌<◌, true, false, not, ◌||◌, eqb, ltb, List, [], ◌∷◌, get_or, drop, refl, ap, ◌∙◌, get_or-drop}
 use Rattle.housefile.specs.Records.{wrong}
-use Rattle.std.specs.Prelude.{Option}
-use Rattle.housefile.specs.declared.Kind.{Kind}
-use Rattle.housefile.specs.Reader.{number_of, Read, read, within, further, spoils, placed, settled, took, fed, answer_of}
+use Rattle.housefile.specs.Reader.{Read, read, within, further, spoils, placed, settled, took, fed, answer_of}
 use Rattle.housefile.specs.declared.Record.{Record}
 use Rattle.housefile.specs.declared.Reader.{Reader}
 
@@ -19,7 +17,7 @@ drop_bytes n bs h i = rw (get_or-drop n bs i 0) (h (n + i))
 abbrev pub on : Read → Record → Read
 on s n = read (within s.reader n) s.turns s.pages s.frames s.memory
 
-abbrev pub of : ℕ → ℕ → Option Kind → ℕ → ℕ → Record
+abbrev pub of : ℕ → ℕ → ℕ → ℕ → ℕ → Record
 of bytes size kind frame word = record { bytes = bytes; size = size; kind = kind; frame = frame; word = word }
 
 -- on through the byte that makes the record c, whatever stood at hand before it
@@ -30,7 +28,7 @@ through s t u c bs x e = x.1 ∙ ap (λ (y : Read). fed y bs) (e x.0)
 -- bytes are taken: nothing wrong so far, and no kind 4
 pub record Open (r : Reader) : Type 0 where
   pub not_wrong : r.wrong ≡ false
-  pub not_last : eqb (number_of r.last) 4 ≡ false
+  pub not_last : eqb r.last 4 ≡ false
 
 -- ---- a wrong record: nothing after it is looked at
 

@@ -6,9 +6,7 @@ use Rattle.dlx.specs.Choice.{when◌then◌else◌}
 use Rattle.dlx.proofs.Tests.{by_test, and_left}
 use Rattle.house.proofs.Lists.Bounded.{and_right, one_way}
 use Rattle.housefile.specs.Records.{number, words_of, size, kind, body, may_come, record_right, File, no_file, with_record, wrong, right, read_from, reading_of}
-use Rattle.std.specs.Prelude.{Option, None}
-use Rattle.housefile.specs.declared.Kind.{Kind}
-use Rattle.housefile.specs.Reader.{kind_of, number_of, Read, read, no_record, no_read, completed, took, fed, answer_of}
+use Rattle.housefile.specs.Reader.{Read, read, no_record, no_read, completed, took, fed, answer_of}
 use Rattle.housefile.specs.declared.Reader.{Reader}
 use Rattle.housefile.proofs.Machine.{fed_pieces}
 use Rattle.housefile.proofs.Steps.{Bytes, drop_bytes, Open, stuck, wrong_answer}
@@ -28,14 +26,14 @@ pub record Holds (f : File) (pages frames : List ℕ) : Type 0 where
   pub lists : length f.pages ≤ 8
   pub total : length f.frames ≤ 256 * length f.pages
 
-abbrev pub stands : File → Option Kind → ℕ → List ℕ → List ℕ → Read
+abbrev pub stands : File → ℕ → ℕ → List ℕ → List ℕ → Read
 stands f last start pages frames =
     let r : Reader = record { wrong = false; start = start; last = last; lists = length f.pages; total = length f.frames; at = no_record } in
     read r (f.q ∷ f.run ∷ []) pages frames f.memory
 
 -- ---- at the end, and behind it
 
-ended : (f : File) (last : Option Kind) (start : ℕ) (pages frames bs : List ℕ) → Holds f pages frames → eqb (number_of last) 4 ≡ true
+ended : (f : File) (last start : ℕ) (pages frames bs : List ℕ) → Holds f pages frames → eqb last 4 ≡ true
     → answer_of (fed (stands f last start pages frames) bs) ≡ (when eqb (length bs) 0 then right f else wrong start)
 unfolding fed took answer_of
 ended f last start pages frames [] h e = simp (e, h.counts, h.numbers)
@@ -48,28 +46,28 @@ ended f last start pages frames (b ∷ bs) h e =
 front : (bs : List ℕ) → 4 ≤ size bs → number (take 4 (body bs)) ≡ number (take 4 (drop 6 bs))
 front bs l = ap number (take-take 4 (size bs) (drop 6 bs) l)
 
-module _ (f : File) (last : Option Kind) (start : ℕ) (pages frames bs : List ℕ) (h : Holds f pages frames) (g : Bytes bs) (more : eqb (number_of last) 4 ≡ false) where
+module _ (f : File) (last start : ℕ) (pages frames bs : List ℕ) (h : Holds f pages frames) (g : Bytes bs) (more : eqb last 4 ≡ false) where
   opens : Open (stands f last start pages frames).reader
   opens = record { not_wrong = refl; not_last = more }
 
-  record_wrong : record_right (number_of last) (length f.pages) bs ≡ false → answer_of (fed (stands f last start pages frames) bs) ≡ wrong start
+  record_wrong : record_right last (length f.pages) bs ≡ false → answer_of (fed (stands f last start pages frames) bs) ≡ wrong start
   unfolding record_right
   record_wrong w =
       let s = stands f last start pages frames in
       by_test (leb 6 (length bs))
       (λ e₁. let l = leb-true 6 (length bs) e₁ in
-      by_test (may_come (number_of last) (length f.pages) (kind bs) (size bs))
+      by_test (may_come last (length f.pages) (kind bs) (size bs))
       (λ e₂. by_test (leb (6 + size bs) (length bs))
       (λ e₃. by_test (eqb (kind bs) 3)
       (λ e₄.
-      let z : size bs ≡ 4100 = loads (number_of last) (length f.pages) (kind bs) (size bs) e₂ (eqb-true (kind bs) 3 e₄) in
+      let z : size bs ≡ 4100 = loads last (length f.pages) (kind bs) (size bs) e₂ (eqb-true (kind bs) 3 e₄) in
       by_test (ltb (number (take 4 (body bs))) 16)
-      (λ e₅. one_way (record_right (number_of last) (length f.pages) bs) (simp (e₁, e₂, e₃, e₄, e₅)) w)
+      (λ e₅. one_way (record_right last (length f.pages) bs) (simp (e₁, e₂, e₃, e₄, e₅)) w)
       (λ e₅. frame_wrong s opens bs g e₂ (eqb-true (kind bs) 3 e₄) z (omega (arith, leb-true (6 + size bs) (length bs) e₃))
       (omega (arith, front bs (omega arith), ltb-false (number (take 4 (body bs))) 16 e₅))))
-      (λ e₄. one_way (record_right (number_of last) (length f.pages) bs) (simp (e₁, e₂, e₃, e₄)) w))
+      (λ e₄. one_way (record_right last (length f.pages) bs) (simp (e₁, e₂, e₃, e₄)) w))
       (λ e₃. cut_short s opens bs g l e₂ (leb-false (6 + size bs) (length bs) e₃)
-      (by_kind (number_of last) (length f.pages) (kind bs) (size bs) e₂ (λ _ z. omega arith) (λ _ _ _ z. omega arith) (λ _ z. omega arith) (λ _ z. omega arith))))
+      (by_kind last (length f.pages) (kind bs) (size bs) e₂ (λ _ z. omega arith) (λ _ _ _ z. omega arith) (λ _ z. omega arith) (λ _ z. omega arith))))
       (λ e₂. header_wrong s opens bs g l e₂))
       (λ e₁. few s opens no_record bs (omega (arith, leb-false 6 (length bs) e₁)))
 
@@ -78,12 +76,12 @@ module _ (f : File) (last : Option Kind) (start : ℕ) (pages frames bs : List �
   Next k z =
       (pages' : List ℕ) × (frames' : List ℕ) × Holds (with_record f k (take z (drop 6 bs))) pages' frames'
       × (fed (stands f last start pages frames) bs
-      ≡ fed (stands (with_record f k (take z (drop 6 bs))) (kind_of k) (start + (6 + z)) pages' frames') (drop (6 + z) bs))
+      ≡ fed (stands (with_record f k (take z (drop 6 bs))) k (start + (6 + z)) pages' frames') (drop (6 + z) bs))
 
   here : (k z : ℕ) → kind bs ≡ k → size bs ≡ z → Next k z → Next (kind bs) (size bs)
   here k z ek ez x = subst (λ (i : ℕ). Next i (size bs)) (sym ek) (subst (λ (i : ℕ). Next k i) (sym ez) x)
 
-  module _ (comes : may_come (number_of last) (length f.pages) (kind bs) (size bs) ≡ true) (fits : start + length bs < 2 ^ 64) where
+  module _ (comes : may_come last (length f.pages) (kind bs) (size bs) ≡ true) (fits : start + length bs < 2 ^ 64) where
     turns_next : kind bs ≡ 1 → size bs ≡ 8 → 14 ≤ length bs → Next 1 8
     unfolding words_of behind completed
     turns_next ek ez l =
@@ -167,19 +165,19 @@ module _ (f : File) (last : Option Kind) (start : ℕ) (pages frames bs : List �
         let at : (start + 6) % 2 ^ 64 ≡ start + 6 = omega arith in
         (pages, frames, rw e h, empty_fed s opens bs g comes 4 0 ek ez l refl ∙ rw (e, at))
 
-  record_next : start + length bs < 2 ^ 64 → record_right (number_of last) (length f.pages) bs ≡ true → (6 + size bs ≤ length bs) × Next (kind bs) (size bs)
+  record_next : start + length bs < 2 ^ 64 → record_right last (length f.pages) bs ≡ true → (6 + size bs ≤ length bs) × Next (kind bs) (size bs)
   unfolding record_right
   record_next fits e =
       let L = length f.pages in
       let a = leb 6 (length bs) in
-      let b = may_come (number_of last) L (kind bs) (size bs) in
+      let b = may_come last L (kind bs) (size bs) in
       let c = leb (6 + size bs) (length bs) in
       let d = not (eqb (kind bs) 3) || ltb (number (take 4 (body bs))) 16 in
       let whole = and_left (a && b && c) d e in
       let comes = and_right a b (and_left (a && b) c whole) in
       let l = leb-true (6 + size bs) (length bs) (and_right (a && b) c whole) in (
         l,
-        by_kind (number_of last) L (kind bs) (size bs) comes
+        by_kind last L (kind bs) (size bs) comes
             (λ ek ez. here 1 8 ek ez (turns_next comes fits ek ez (omega arith)))
             (λ ek m four b.
             let n = size bs / 4 in
@@ -191,34 +189,22 @@ module _ (f : File) (last : Option Kind) (start : ℕ) (pages frames bs : List �
             (λ ek ez. here 4 0 ek ez (end_next comes fits ek ez (omega arith))),
       )
 
-  -- its kind is one of the four
-  known : record_right (number_of last) (length f.pages) bs ≡ true → number_of (kind_of (kind bs)) ≡ kind bs
-  unfolding record_right
-  known e =
-      let L = length f.pages in
-      let a = leb 6 (length bs) in
-      let b = may_come (number_of last) L (kind bs) (size bs) in
-      let c = leb (6 + size bs) (length bs) in
-      let comes = and_right a b (and_left (a && b) c (and_left (a && b && c) (not (eqb (kind bs) 3) || ltb (number (take 4 (body bs))) 16) e)) in
-      by_kind (number_of last) L (kind bs) (size bs) comes (λ k _. rw k) (λ k _ _ _. rw k) (λ k _. rw k) (λ k _. rw k)
-
 -- ---- the file
 
-reads_from : (n : ℕ) (f : File) (last : Option Kind) (start : ℕ) (pages frames bs : List ℕ) → Holds f pages frames → Bytes bs → length bs < n → start + length bs < 2 ^ 64
-    → answer_of (fed (stands f last start pages frames) bs) ≡ read_from n f (number_of last) start bs
+reads_from : (n : ℕ) (f : File) (last start : ℕ) (pages frames bs : List ℕ) → Holds f pages frames → Bytes bs → length bs < n → start + length bs < 2 ^ 64
+    → answer_of (fed (stands f last start pages frames) bs) ≡ read_from n f last start bs
 unfolding read_from
 reads_from zero f last start pages frames bs h g l fits = absurd (omega arith)
 reads_from (suc n) f last start pages frames bs h g l fits =
-    by_test (eqb (number_of last) 4)
+    by_test (eqb last 4)
     (λ e. ended f last start pages frames bs h e ∙ rw e)
-    λ e. by_test (record_right (number_of last) (length f.pages) bs)
+    λ e. by_test (record_right last (length f.pages) bs)
     (λ q.
     let x = record_next f last start pages frames bs h g e fits q in
     let d = length-drop (6 + size bs) bs in
     ap answer_of x.1.3
-    ∙ reads_from n (with_record f (kind bs) (body bs)) (kind_of (kind bs)) (start + (6 + size bs)) x.1.0 x.1.1 (drop (6 + size bs) bs) x.1.2
+    ∙ reads_from n (with_record f (kind bs) (body bs)) (kind bs) (start + (6 + size bs)) x.1.0 x.1.1 (drop (6 + size bs) bs) x.1.2
     (drop_bytes (6 + size bs) bs g) (omega (arith, d, x.0)) (omega (arith, d, x.0))
-    ∙ ap (λ (k : ℕ). read_from n (with_record f (kind bs) (body bs)) k (start + (6 + size bs)) (drop (6 + size bs) bs)) (known f last start pages frames bs h g e q)
     ∙ rw (e, q))
     (λ q. record_wrong f last start pages frames bs h g e q ∙ rw (e, q))
 
@@ -226,7 +212,7 @@ reads_from (suc n) f last start pages frames bs h g l fits =
 pub reads : (bs : List ℕ) → ((i : ℕ) → get_or bs i 0 < 256) → length bs < 2 ^ 64 → answer_of (fed no_read bs) ≡ reading_of bs
 unfolding reading_of
 reads bs g l =
-    reads_from (suc (length bs)) no_file None 0 (replicate 8 0) (replicate 2048 0) bs
+    reads_from (suc (length bs)) no_file 0 0 (replicate 8 0) (replicate 2048 0) bs
     (record {
       counts = refl;
       numbers = refl;

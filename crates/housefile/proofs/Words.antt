@@ -3,9 +3,7 @@ use Rattle.std.proofs.Common.{◌≡◌, ℕ, ◌+◌, ◌*◌, ◌/◌, ◌%◌
 use mathlib.Core.Bool.{or-true}
 use Rattle.dlx.specs.Choice.{when◌then◌else◌}
 use Rattle.housefile.specs.Records.{wrong, number, size, kind}
-use Rattle.std.specs.Prelude.{Option, None}
-use Rattle.housefile.specs.declared.Kind.{Kind}
-use Rattle.housefile.specs.Reader.{kind_of, Read, no_record, shifted, further, settled, took, fed, answer_of}
+use Rattle.housefile.specs.Reader.{Read, no_record, shifted, further, settled, took, fed, answer_of}
 use Rattle.housefile.specs.declared.Record.{Record}
 use Rattle.housefile.proofs.Steps.{Bytes, on, of, Open, took_on, quiet, open_answer}
 
@@ -18,7 +16,7 @@ module _ (a b c d : ℕ) (la : a < 256) (lb : b < 256) (lc : c < 256) (ld : d < 
 
 -- ---- a word
 
-module _ (s : Read) (o : Open s.reader) (size : ℕ) (kind : Option Kind) where
+module _ (s : Read) (o : Open s.reader) (size kind : ℕ) where
   further_is : (p q frame word b : ℕ) → q ≡ p + 1 → 6 ≤ p → p < 2 ^ 31
       → further (of p size kind frame word) b ≡ of q size kind (when eqb p 9 then shifted word b else frame) (shifted word b)
   unfolding further
@@ -67,7 +65,7 @@ module _ (s : Read) (o : Open s.reader) (size : ℕ) (kind : Option Kind) where
 -- ---- the header
 
 abbrev pub headed : List ℕ → Record
-headed bs = of 6 (size bs) (kind_of (kind bs)) 0 (number (take 4 (drop 2 bs)))
+headed bs = of 6 (size bs) (kind bs) 0 (number (take 4 (drop 2 bs)))
 
 module _ (s : Read) (o : Open s.reader) where
   -- a byte before the header is whole
@@ -106,14 +104,14 @@ module _ (s : Read) (o : Open s.reader) where
       let z₄ : w₄ ≡ number (a ∷ b ∷ c ∷ d ∷ []) = word_of a b c d (g 0) (g 1) (g 2) (g 3) 0 (omega arith) in
       let z₆ : w₆ ≡ number (c ∷ d ∷ e ∷ f ∷ []) = word_of c d e f (g 2) (g 3) (g 4) (g 5) w₂ (omega (arith, g 0, g 1)) in
       let k : number (c ∷ d ∷ e ∷ f ∷ []) / 2 ^ 16 ≡ number (e ∷ f ∷ []) = omega (arith, g 2, g 3) in (
-        of 5 w₄ None 0 w₅,
+        of 5 w₄ 0 0 w₅,
         ap (λ (x : Read). fed (took (took (took (took (took x b) c) d) e) f) bs) (early no_record a (omega arith))
-            ∙ ap (λ (x : Read). fed (took (took (took (took x c) d) e) f) bs) (early (of 1 0 None 0 w₁) b (omega arith))
-            ∙ ap (λ (x : Read). fed (took (took (took x d) e) f) bs) (early (of 2 0 None 0 w₂) c (omega arith))
-            ∙ ap (λ (x : Read). fed (took (took x e) f) bs) (early (of 3 0 None 0 w₃) d (omega arith))
-            ∙ ap (λ (x : Read). fed (took x f) bs) (early (of 4 w₄ None 0 w₄) e (omega arith))
-            ∙ ap (λ (x : Read). fed x bs) (took_on s o (of 5 w₄ None 0 w₅) f
-            ∙ ap (λ (x : ℕ). settled (on s (of 5 w₄ None 0 w₅)) (of 6 x (kind_of (w₆ / 2 ^ 16)) 0 w₆)) z₄
-            ∙ ap (λ (x : ℕ). settled (on s (of 5 w₄ None 0 w₅)) (of 6 (number (a ∷ b ∷ c ∷ d ∷ [])) (kind_of (x / 2 ^ 16)) 0 x)) z₆
-            ∙ ap (λ (x : ℕ). settled (on s (of 5 w₄ None 0 w₅)) (of 6 (number (a ∷ b ∷ c ∷ d ∷ [])) (kind_of x) 0 (number (c ∷ d ∷ e ∷ f ∷ [])))) k),
+            ∙ ap (λ (x : Read). fed (took (took (took (took x c) d) e) f) bs) (early (of 1 0 0 0 w₁) b (omega arith))
+            ∙ ap (λ (x : Read). fed (took (took (took x d) e) f) bs) (early (of 2 0 0 0 w₂) c (omega arith))
+            ∙ ap (λ (x : Read). fed (took (took x e) f) bs) (early (of 3 0 0 0 w₃) d (omega arith))
+            ∙ ap (λ (x : Read). fed (took x f) bs) (early (of 4 w₄ 0 0 w₄) e (omega arith))
+            ∙ ap (λ (x : Read). fed x bs) (took_on s o (of 5 w₄ 0 0 w₅) f
+            ∙ ap (λ (x : ℕ). settled (on s (of 5 w₄ 0 0 w₅)) (of 6 x (w₆ / 2 ^ 16) 0 w₆)) z₄
+            ∙ ap (λ (x : ℕ). settled (on s (of 5 w₄ 0 0 w₅)) (of 6 (number (a ∷ b ∷ c ∷ d ∷ [])) (x / 2 ^ 16) 0 x)) z₆
+            ∙ ap (λ (x : ℕ). settled (on s (of 5 w₄ 0 0 w₅)) (of 6 (number (a ∷ b ∷ c ∷ d ∷ [])) x 0 (number (c ∷ d ∷ e ∷ f ∷ [])))) k),
       )

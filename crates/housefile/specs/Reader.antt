@@ -1,28 +1,10 @@
 -- The file read byte by byte, whatever pieces the bytes come in: where the reading stands after each of them.
-use Rattle.std.specs.Prelude.{Option, Some, None, ℕ, ◌+◌, ◌-◌, ◌*◌, ◌/◌, ◌%◌, ◌^◌, Bool, true, false, not, ◌&&◌, ◌||◌, List, [], ◌∷◌, take, replicate, ◌==◌, nat_eq, nat_le, nat_lt, slice_index, slice_set}
+use Rattle.std.specs.Prelude.{ℕ, ◌+◌, ◌-◌, ◌*◌, ◌/◌, ◌%◌, ◌^◌, Bool, true, false, not, ◌&&◌, ◌||◌, List, [], ◌∷◌, take, replicate, ◌==◌, nat_eq, nat_le, nat_lt, slice_index, slice_set}
 use Rattle.dlx.specs.Choice.{when◌then◌else◌}
 use Rattle.dlx.specs.Words.{plus}
 use Rattle.housefile.specs.Records.{may_come, file, Reading, wrong, right}
-use Rattle.housefile.specs.declared.Kind.{Kind}
-use Rattle.housefile.specs.declared.Kind.TheVariants.{Turns, Pages, Frame, End}
 use Rattle.housefile.specs.declared.Record.{Record}
 use Rattle.housefile.specs.declared.Reader.{Reader}
-
--- the kind of a number in a record's head, and the number of a kind, 0 for none
-abbrev pub kind_of : ℕ → Option Kind
-kind_of k =
-    when k == 1 then Some Turns else
-    when k == 2 then Some Pages else
-    when k == 3 then Some Frame else
-    when k == 4 then Some End else
-    None
-
-abbrev pub number_of : Option Kind → ℕ
-number_of None = 0
-number_of (Some Turns) = 1
-number_of (Some Pages) = 2
-number_of (Some Frame) = 3
-number_of (Some End) = 4
 
 -- the reader, and the lists it reads into: q and run length, page counts, frames, the memory
 pub record Read : Type 0 where
@@ -37,10 +19,10 @@ read r turns pages frames memory = record { reader = r; turns = turns; pages = p
 
 -- no byte of a record has come
 abbrev pub no_record : Record
-no_record = record { bytes = 0; size = 0; kind = None; frame = 0; word = 0 }
+no_record = record { bytes = 0; size = 0; kind = 0; frame = 0; word = 0 }
 
 abbrev pub no_reader : Reader
-no_reader = record { wrong = false; start = 0; last = None; lists = 0; total = 0; at = no_record }
+no_reader = record { wrong = false; start = 0; last = 0; lists = 0; total = 0; at = no_record }
 
 abbrev pub no_read : Read
 no_read = read no_reader (replicate 2 0) (replicate 8 0) (replicate 2048 0) (replicate 16384 0)
@@ -58,7 +40,7 @@ further n b =
     record {
       bytes = plus n.bytes 1;
       size = when n.bytes == 3 then w else n.size;
-      kind = when n.bytes == 5 then kind_of (w / 2 ^ 16) else n.kind;
+      kind = when n.bytes == 5 then w / 2 ^ 16 else n.kind;
       frame = when n.bytes == 9 then w else n.frame;
       word = w;
     }
@@ -66,17 +48,17 @@ further n b =
 -- its header is whole and may not come here, or its frame number is, and not below 16
 unfoldable pub spoils : Reader → Record → Bool
 spoils r n =
-    (n.bytes == 6) && not (may_come (number_of r.last) r.lists (number_of n.kind) n.size)
-    || n.bytes == 10 && number_of n.kind == 3 && nat_le 16 n.frame
+    (n.bytes == 6) && not (may_come r.last r.lists n.kind n.size)
+    || n.bytes == 10 && n.kind == 3 && nat_le 16 n.frame
 
 -- a word of its body is whole: word j, at its place
 unfoldable pub placed : Reader → Record → Read → Read
 placed r n s =
     let j = n.bytes / 4 - 2 in
     when nat_lt n.bytes 10 || not (n.bytes % 4 == 2) then s else
-    when number_of n.kind == 1 then read s.reader (slice_set s.turns j n.word) s.pages s.frames s.memory else
-    when number_of n.kind == 2 then read s.reader s.turns s.pages (slice_set s.frames (r.total + j) n.word) s.memory else
-    when number_of n.kind == 3 && not (j == 0) then
+    when n.kind == 1 then read s.reader (slice_set s.turns j n.word) s.pages s.frames s.memory else
+    when n.kind == 2 then read s.reader s.turns s.pages (slice_set s.frames (r.total + j) n.word) s.memory else
+    when n.kind == 3 && not (j == 0) then
     read s.reader s.turns s.pages s.frames (slice_set s.memory (n.frame * 1024 + (j - 1)) n.word)
     else s
 
@@ -84,8 +66,8 @@ placed r n s =
 unfoldable pub completed : Reader → Record → List ℕ → Reader × List ℕ
 completed r n pages =
     let next = (r.start + (6 + n.size)) % 2 ^ 64 in
-    when number_of n.kind == 2 then (
-      record { wrong = false; start = next; last = n.kind; lists = plus r.lists 1; total = plus r.total (n.size / 4); at = no_record },
+    when n.kind == 2 then (
+      record { wrong = false; start = next; last = 2; lists = plus r.lists 1; total = plus r.total (n.size / 4); at = no_record },
       slice_set pages r.lists (n.size / 4),
     ) else
     (record { wrong = false; start = next; last = n.kind; lists = r.lists; total = r.total; at = no_record }, pages)
@@ -111,7 +93,7 @@ unfoldable pub took : Read → ℕ → Read
 took s b =
     let r = s.reader in
     when r.wrong then s else
-    when number_of r.last == 4 then read (spoiled r) s.turns s.pages s.frames s.memory else
+    when r.last == 4 then read (spoiled r) s.turns s.pages s.frames s.memory else
     settled s (further r.at b)
 
 unfoldable pub fed : Read → List ℕ → Read
@@ -123,6 +105,6 @@ fed s (b ∷ bs) = fed (took s b) bs
 unfoldable pub answer_of : Read → Reading
 answer_of s =
     let r = s.reader in
-    when not r.wrong && nat_eq (number_of r.last) 4 then
+    when not r.wrong && nat_eq r.last 4 then
     right (file (slice_index s.turns 0) (slice_index s.turns 1) (take r.lists s.pages) (take r.total s.frames) s.memory)
     else wrong r.start

@@ -6,36 +6,26 @@ ghost use Rattle.std.specs.Prelude.{◌≡◌, ℕ, min, List, length, slice_set
 ghost use Rattle.dlx.specs.Choice.{when◌then◌else◌};
 ghost use Rattle.house.specs.Boot.{verdict};
 ghost use Rattle.housefile.specs.Records.{may_come, verdict_of};
-ghost use Rattle.housefile.specs.Reader.{kind_of, number_of, no_record, no_reader, read, further, spoils, spoiled, placed, completed, settled, took, fed, answer_of};
+ghost use Rattle.housefile.specs.Reader.{no_record, no_reader, read, further, spoils, spoiled, placed, completed, settled, took, fed, answer_of};
 
 use dlx::words::wide;
 
-// What a record holds: q and the run length, a partition's pages, a frame's words, or nothing, at the file's end. These are the kinds 1 to 4.
-#[derive(Clone, Copy, PartialEq, Eq)]
-pub enum Kind {
-    Turns,
-    Pages,
-    Frame,
-    End,
-}
-
-// The record at hand: how many of its bytes have come, its body length, its kind (none yet, or one that is unknown), the frame number in front of a kind 3, and
-// the last four bytes.
+// The record at hand: how many of its bytes have come, its body length, its kind, the frame number in front of a kind 3, and the last four bytes.
 #[derive(Clone, Copy)]
 pub struct Record {
     pub bytes: u32,
     pub size: u32,
-    pub kind: Option<Kind>,
+    pub kind: u32,
     pub frame: u32,
     pub word: u32,
 }
 
-// Whether the record at hand is wrong, where it starts, the kind of the one before, the lists so far and their frames.
+// Whether the record at hand is wrong, where it starts, the kind of the one before (0: none yet), the lists so far and their frames.
 #[derive(Clone, Copy)]
 pub struct Reader {
     pub wrong: bool,
     pub start: u64,
-    pub last: Option<Kind>,
+    pub last: u32,
     pub lists: u32,
     pub total: u32,
     pub at: Record,
@@ -48,21 +38,6 @@ pub struct Finish {
     pub detail: u64,
 }
 
-impl Kind {
-    // The kind of this number.
-    fn of(number: u32) -> Option<Kind>
-        ensures { result ≡ kind_of number }
-    {
-        match number {
-            1 => Some(Kind::Turns),
-            2 => Some(Kind::Pages),
-            3 => Some(Kind::Frame),
-            4 => Some(Kind::End),
-            _ => None,
-        }
-    }
-}
-
 impl Record {
     // No byte has come.
     fn none() -> Record
@@ -71,7 +46,7 @@ impl Record {
         Record {
             bytes: 0,
             size: 0,
-            kind: None,
+            kind: 0,
             frame: 0,
             word: 0,
         }
@@ -86,7 +61,7 @@ impl Reader {
         Reader {
             wrong: false,
             start: 0,
-            last: None,
+            last: 0,
             lists: 0,
             total: 0,
             at: Record::none(),
@@ -117,7 +92,7 @@ fn further(n: Record, b: u8) -> Record
     match n.bytes {
         3 => Record { size: word, ..more },
         5 => Record {
-            kind: Kind::of(word / 0x1_0000),
+            kind: word / 0x1_0000,
             ..more
         },
         9 => Record {
@@ -130,16 +105,14 @@ fn further(n: Record, b: u8) -> Record
 
 // A record of this kind and body length may come after one of the kind `last`.
 #[tactic(auto, unfolding(crate::specs::Records::may_come))]
-fn may_come(last: Option<Kind>, lists: u32, kind: Option<Kind>, size: u32) -> bool
-    ensures { result ≡ may_come (number_of last) lists (number_of kind) size }
+fn may_come(last: u32, lists: u32, kind: u32, size: u32) -> bool
+    ensures { result ≡ may_come last lists kind size }
 {
-    match (last, kind) {
-        (None, Some(Kind::Turns)) => size == 8,
-        (Some(Kind::Turns | Kind::Pages), Some(Kind::Pages)) => {
-            lists < 8 && size % 4 == 0 && size <= 1024
-        }
-        (Some(Kind::Pages | Kind::Frame), Some(Kind::Frame)) => size == 4100,
-        (Some(Kind::Pages | Kind::Frame), Some(Kind::End)) => size == 0,
+    match kind {
+        1 => last == 0 && size == 8,
+        2 => (last == 1 || last == 2) && lists < 8 && size % 4 == 0 && size <= 1024,
+        3 => (last == 2 || last == 3) && size == 4100,
+        4 => (last == 2 || last == 3) && size == 0,
         _ => false,
     }
 }
@@ -151,7 +124,7 @@ fn spoils(r: Reader, n: Record) -> bool
 {
     match n.bytes {
         6 => !may_come(r.last, r.lists, n.kind, n.size),
-        10 => matches!(n.kind, Some(Kind::Frame)) && 16 <= n.frame,
+        10 => n.kind == 3 && 16 <= n.frame,
         _ => false,
     }
 }
@@ -166,9 +139,9 @@ fn place(r: Reader, n: Record, turns: &mut [u32; 2], frames: &mut [u32; 2048], m
     }
     let j = wide(n.bytes / 4 - 2);
     match n.kind {
-        Some(Kind::Turns) => put(turns, j, n.word),
-        Some(Kind::Pages) => put(frames, wide(r.total) + j, n.word),
-        Some(Kind::Frame) if j != 0 => put(memory, wide(n.frame) * 1024 + (j - 1), n.word),
+        1 => put(turns, j, n.word),
+        2 => put(frames, wide(r.total) + j, n.word),
+        3 if j != 0 => put(memory, wide(n.frame) * 1024 + (j - 1), n.word),
         _ => {}
     }
 }
@@ -185,7 +158,7 @@ fn complete(r: Reader, n: Record, pages: &mut [u32; 8]) -> Reader
         at: Record::none(),
         ..r
     };
-    if !matches!(n.kind, Some(Kind::Pages)) {
+    if n.kind != 2 {
         return next;
     }
     let count = n.size / 4;
@@ -241,7 +214,7 @@ fn take(
     if r.wrong {
         return r;
     }
-    if matches!(r.last, Some(Kind::End)) {
+    if r.last == 4 {
         return spoil(r);
     }
     settle(r, further(r.at, b), turns, pages, frames, memory)
@@ -267,7 +240,6 @@ pub fn feed(
 }
 
 // At the file's end.
-#[tactic(auto, unfolding(crate::specs::Reader::answer_of, crate::specs::Records::verdict_of))]
 pub fn finished(r: Reader) -> Finish
     ensures { (turns pages frames memory : List ℕ) → verdict result.number result.detail ≡ verdict_of (answer_of (read r turns pages frames memory)) }
 {
@@ -277,7 +249,7 @@ pub fn finished(r: Reader) -> Finish
             detail: r.start,
         };
     }
-    if !matches!(r.last, Some(Kind::End)) {
+    if r.last != 4 {
         return Finish {
             number: 15,
             detail: r.start,

@@ -22,7 +22,7 @@ use Rattle.unshadowed_run.specs.Calls.{run_by}
 use Rattle.engines.specs.Promises.{emptied_by}
 use Rattle.engines.proofs.Booted.{booted_runs}
 use Rattle.housefile.specs.Records.{Reading, wrong, right, File, verdict_of, reading_of}
-use Rattle.housefile.specs.Reader.{number_of, Read, read, no_reader, no_read, fed, answer_of}
+use Rattle.housefile.specs.Reader.{Read, read, no_reader, no_read, fed, answer_of}
 use Rattle.housefile.specs.declared.Reader.{Reader}
 use Rattle.housefile.proofs.WholeFile.{reads, wrong_fixed}
 use Rattle.housefile.proofs.Parts.{take_there}
@@ -112,11 +112,11 @@ pub file_done : (u : Bool) (n d : ℕ) (s : Read) → verdict n d ≡ verdict_of
     emptied_by u (after_boot (boot_call (take s.reader.lists s.pages) (get_or s.turns 0 0) (take s.reader.total s.frames) s.memory) (get_or s.turns 1 0))
     ≡ ran_by u (answer_of s)
 unfolding ran_of answer_of
-file_done u n d s e z = chosen (ran_by u) (not s.reader.wrong && eqb (number_of s.reader.last) 4) _ s.reader.start n d e z
+file_done u n d s e z = chosen (ran_by u) (not s.reader.wrong && eqb s.reader.last 4) _ s.reader.start n d e z
 
 pub file_held : (n d : ℕ) (s : Read) → verdict n d ≡ verdict_of (answer_of s) → n ≡ 0 → answered (verdict 0 0) (world no_house s.memory) ≡ held_of (answer_of s)
 unfolding held_of answer_of
-file_held n d s e z = chosen held_of (not s.reader.wrong && eqb (number_of s.reader.last) 4) _ s.reader.start n d e z
+file_held n d s e z = chosen held_of (not s.reader.wrong && eqb s.reader.last 4) _ s.reader.start n d e z
 
 -- ---- the whole file
 
