@@ -45,18 +45,14 @@ fn saved(
     number: u32,
     house: House,
     memory: &[u32],
-    path: &[u8],
-    saving: bool,
+    out: Option<&[u8]>,
 ) -> bool
     requires { number ≡ 0 → Left (resumed_file steps) t (world house memory.now) }
 {
-    if !saving {
-        return true;
+    match out {
+        Some(path) if number == 0 => save_left(rt, t, steps, house, memory, path),
+        _ => true,
     }
-    if number != 0 {
-        return true;
-    }
-    save_left(rt, t, steps, house, memory, path)
 }
 
 // Prints a text: the one for the file that was read.
@@ -76,14 +72,7 @@ fn tell(rt: &HostRuntime, t: Taken, steps: u64, number: u32, detail: u64, house:
 }
 
 // Reads the source, runs it on, saves and prints. A read that fails prints nothing and says why, and so does a save.
-fn resume(
-    rt: &HostRuntime,
-    source: &mut Source,
-    steps: u64,
-    name: &[u8],
-    path: &[u8],
-    saving: bool,
-) {
+fn resume(rt: &HostRuntime, source: &mut Source, steps: u64, name: &[u8], out: Option<&[u8]>) {
     let mut memory = [0u32; WORDS];
     let x = resume_file(source, steps, &mut memory);
     let taken = x.taken;
@@ -93,16 +82,7 @@ fn resume(
     }
     let house = x.house;
     let n = x.words;
-    if !saved(
-        rt,
-        taken,
-        steps,
-        x.number,
-        house,
-        &memory[..n],
-        path,
-        saving,
-    ) {
+    if !saved(rt, taken, steps, x.number, house, &memory[..n], out) {
         return;
     }
     tell(rt, taken, steps, x.number, x.detail, house);
@@ -122,9 +102,9 @@ fn help(rt: &HostRuntime) {
 }
 
 // Opens the file and goes on.
-fn open_and_run(rt: &HostRuntime, name: &[u8], steps: u64, path: &[u8], saving: bool) {
+fn open_and_run(rt: &HostRuntime, name: &[u8], steps: u64, out: Option<&[u8]>) {
     match open(rt, name) {
-        Ok(mut source) => resume(rt, &mut source, steps, name, path, saving),
+        Ok(mut source) => resume(rt, &mut source, steps, name, out),
         Err(why) => fail(rt, name, why),
     }
 }
@@ -139,7 +119,7 @@ fn with_out(rt: &HostRuntime, name: &[u8], steps: u64) {
     }
     let mut path = files::buffer();
     match try_word(rt, 4, &mut path) {
-        Ok(length) => open_and_run(rt, name, steps, &path[..length], true),
+        Ok(length) => open_and_run(rt, name, steps, Some(&path[..length])),
         Err(why) => fail(rt, b"OUT", why),
     }
 }
@@ -165,7 +145,7 @@ fn with_words(rt: &HostRuntime, name: &[u8], given: usize) {
         return;
     };
     if given == 3 {
-        open_and_run(rt, name, steps, b"", false);
+        open_and_run(rt, name, steps, None);
         return;
     }
     with_out(rt, name, steps);

@@ -17,6 +17,7 @@ fn run_on(house: House, memory: &mut [u32], steps: u64) -> Answer
 {
     let mut h = house;
     let mut left = steps;
+    // Not a `for`: it takes a million steps off at a time, and the last run makes what is left.
     while left > 1000000 {
         let a = run(h, memory, 1000000);
         if a.number != 0 {

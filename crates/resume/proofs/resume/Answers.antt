@@ -4,7 +4,6 @@ use Rattle.resume.specs.Resumed.{resumed_file}
 use lib.Seq.{length-take-le}
 use Rattle.night_run.specs.Ran.{no_frames}
 use Rattle.night_run.proofs.Files.{told_answer, left_world}
-use borrow.Author.Rules.{rules}
 use Rattle.resume.proofs.resume.Goals as goal
 
 pub resume_file-x-requires : goal.resume_file-x-requires

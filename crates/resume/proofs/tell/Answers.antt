@@ -3,7 +3,6 @@ use Rattle.report.specs.Printed.{printed}
 use Rattle.resume.specs.Resumed.{resumed_file}
 use Rattle.report.proofs.Texts.{put_there}
 use Rattle.night_run.specs.Ran.{Told}
-use borrow.Author.Rules.{rules}
 use Rattle.resume.proofs.tell.Goals as goal
 
 pub show-requires : goal.show-requires

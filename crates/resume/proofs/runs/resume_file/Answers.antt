@@ -1,5 +1,4 @@
 use mathlib.Core.Path.{sym, ◌∙◌}
-use borrow.Author.Rules.{rules}
 use Rattle.resume.proofs.Laws.{resume_failed, resume_refused}
 use Rattle.resume.proofs.runs.resume_file.Goals as goal
 

@@ -1,9 +1,6 @@
-use mathlib.Core.Path.{◌≡◌, refl, sym, ◌∙◌}
-use lib.ListN.{length}
-use Rattle.house.specs.Turns.{world}
+use mathlib.Core.Path.{refl, ◌∙◌}
 use native.Mathlib.Omega.{arith}
-use borrow.Author.Rules.{rules}
-use Rattle.resume.proofs.Laws.{on, on_more, on_refused, on_last}
+use Rattle.resume.proofs.Laws.{on_more, on_refused, on_last}
 use Rattle.resume.proofs.runs.run_on.Goals as goal
 
 pub loop-left-init : goal.loop-left-init

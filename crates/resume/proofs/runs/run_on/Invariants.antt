@@ -1,9 +1,7 @@
-use mathlib.Core.Path.{◌≡◌, refl, sym, ◌∙◌}
+use mathlib.Core.Path.{◌≡◌}
 use lib.ListN.{length}
 use Rattle.house.specs.Turns.{world}
-use native.Mathlib.Omega.{arith}
-use borrow.Author.Rules.{rules}
-use Rattle.resume.proofs.Laws.{on, on_more, on_refused, on_last}
+use Rattle.resume.proofs.Laws.{on}
 use Rattle.resume.proofs.runs.run_on.Given as goal
 
 abbrev pub invariant-loop-left : goal.invariant-loop-left
