@@ -5,9 +5,10 @@
 mod runs;
 
 ghost use Rattle.std.specs.Prelude.{◌≡◌, List, ℕ};
-ghost use Rattle.house.specs.Boot.{verdict};
+ghost use Rattle.house.specs.declared.Done.{Done};
+ghost use Rattle.house.specs.declared.House.{House};
 ghost use Rattle.house.specs.Turns.{world};
-ghost use Rattle.house.specs.Calls.{answered};
+ghost use Rattle.house.specs.Refusals.{answer_of};
 ghost use Rattle.report.specs.Printed.{printed};
 ghost use Rattle.night_run.specs.Ran.{Told, Left};
 ghost use Rattle.resume.specs.Resumed.{resumed_file};
@@ -15,7 +16,7 @@ ghost use Rattle.resume.specs.Resumed.{resumed_file};
 use command::{asks_help, fail, number_in, open, put_out, wrong};
 use decimal::is;
 use files::{Source, print, try_word};
-use house::House;
+use house::{Answer, House};
 use keep::keep;
 use night_run::{Taken, WORDS};
 use report::text_of;
@@ -37,20 +38,19 @@ fn save_left(
     keep(rt, house, memory, path)
 }
 
-// The same where it is asked for, and the run was not refused. Answers whether all that was to be done is done.
+// The same where a path is given, and the run was not refused. Answers whether all that was to be done is done.
 fn saved(
     rt: &HostRuntime,
     t: Taken,
     steps: u64,
-    number: u32,
-    house: House,
+    answer: Answer,
     memory: &[u32],
-    out: Option<&[u8]>,
+    path: Option<&[u8]>,
 ) -> bool
-    requires { number ≡ 0 → Left (resumed_file steps) t (world house memory.now) }
+    requires { (done : Done) → answer ≡ Ok done → Left (resumed_file steps) t (world done.house memory.now) }
 {
-    match out {
-        Some(path) if number == 0 => save_left(rt, t, steps, house, memory, path),
+    match (answer, path) {
+        (Ok(done), Some(path)) => save_left(rt, t, steps, done.house, memory, path),
         _ => true,
     }
 }
@@ -63,16 +63,16 @@ fn show(rt: &HostRuntime, t: Taken, steps: u64, text: &[u8])
 }
 
 // Prints the text for the answer.
-fn tell(rt: &HostRuntime, t: Taken, steps: u64, number: u32, detail: u64, house: House)
-    requires { (m : List ℕ) × Told (resumed_file steps) printed t (printed (answered (verdict number detail) (world house m))) }
+fn tell(rt: &HostRuntime, t: Taken, steps: u64, answer: Answer)
+    requires { (given : House) × (m : List ℕ) × Told (resumed_file steps) printed t (printed (answer_of given answer m)) }
 {
     let mut out = [0u8; 1024];
-    let n = text_of(number, detail, house, &mut out);
+    let n = text_of(answer, &mut out);
     show(rt, t, steps, &out[..n]);
 }
 
 // Reads the source, runs it on, saves and prints. A read that fails prints nothing and says why, and so does a save.
-fn resume(rt: &HostRuntime, source: &mut Source, steps: u64, name: &[u8], out: Option<&[u8]>) {
+fn resume(rt: &HostRuntime, source: &mut Source, steps: u64, name: &[u8], path: Option<&[u8]>) {
     let mut memory = [0u32; WORDS];
     let x = resume_file(source, steps, &mut memory);
     let taken = x.taken;
@@ -80,12 +80,11 @@ fn resume(rt: &HostRuntime, source: &mut Source, steps: u64, name: &[u8], out: O
         fail(rt, name, source.why());
         return;
     }
-    let house = x.house;
+    let answer = x.answer();
     let n = x.words;
-    if !saved(rt, taken, steps, x.number, house, &memory[..n], out) {
-        return;
+    if saved(rt, taken, steps, answer, &memory[..n], path) {
+        tell(rt, taken, steps, answer);
     }
-    tell(rt, taken, steps, x.number, x.detail, house);
 }
 
 // ---- the command
@@ -102,9 +101,9 @@ fn help(rt: &HostRuntime) {
 }
 
 // Opens the file and goes on.
-fn open_and_run(rt: &HostRuntime, name: &[u8], steps: u64, out: Option<&[u8]>) {
+fn open_and_run(rt: &HostRuntime, name: &[u8], steps: u64, path: Option<&[u8]>) {
     match open(rt, name) {
-        Ok(mut source) => resume(rt, &mut source, steps, name, out),
+        Ok(mut source) => resume(rt, &mut source, steps, name, path),
         Err(why) => fail(rt, name, why),
     }
 }
