@@ -1,4 +1,6 @@
 -- What holds of the empty entry, and of the entry of every own frame with either protection, every access keeps of each shadow entry.
+use Prim.{Unit}
+use Rattle.std.specs.Prelude.{Result}
 use mathlib.Core.Path.{◌≡◌, sym, ◌∙◌}
 use mathlib.Core.Bool.{Bool, true, not, false≢true}
 use mathlib.Core.List.{List}
@@ -37,8 +39,8 @@ module _ (fr : List ℕ) (n : ℕ) (P : ℕ → Type 0) (empty : P 0) (own : (k 
   written_each : (h : Host) → Each P h → (a : ℕ) (f : ℕ → ℕ) (e : ℕ) → Each P (host_written fr n h a f e).1
   unfolding host_written
   written_each h k a f e =
-      either (λ (g : ℕ × Host). Each P g.1) (not (valid e)) (λ _. k) λ _.
-      either (λ (g : ℕ × Host). Each P g.1) (eqb (protection e) 1) (λ _. k)
+      either (λ (g : Result (Unit {0}) ℕ × Host). Each P g.1) (not (valid e)) (λ _. k) λ _.
+      either (λ (g : Result (Unit {0}) ℕ × Host). Each P g.1) (eqb (protection e) 1) (λ _. k)
       (λ _ px. emptied_each fr n P h.table (number e) (a / 4 % 1024) h.shadow px empty (λ _. k px))
 
   -- beside what the host keeps

@@ -1,4 +1,5 @@
 -- Two hosts that agree on a partition's table, shadow and frames answer it alike, whatever else differs and whether its shadow is right or wrong.
+use Rattle.std.specs.Prelude.{Ok}
 use mathlib.Core.Path.{◌≡◌, refl, ap}
 use mathlib.Core.Bool.{Bool, true, false, not}
 use mathlib.Core.List.{List}
@@ -7,7 +8,6 @@ use native.Mathlib.Omega.{arith}
 use lib.Dec.{eqb}
 use lib.ListN.{length, get_or, set, length-set}
 use Rattle.dlx.specs.declared.partition.Table.{Table}
-use Rattle.dlx.specs.declared.execute.Access.TheVariants.{Word}
 use Rattle.dlx.proofs.Like.{Both, Like}
 use Rattle.addresses.specs.Entries.{number, valid, protection}
 use Rattle.addresses.specs.Memory.{Host, host, hosted, given, filled, looked, served, host_read, host_written, host_reads, host_writes, emptied, host_memory}
@@ -70,7 +70,7 @@ module _ {fr base base' : List ℕ} {n : ℕ} {h h' : Host} (r : Alike fr n base
 
   read_same : (a e : ℕ) → Owned fr n e → host_read h a e ≡ host_read h' a e
   unfolding host_read
-  read_same a e o = either_both ◌≡◌ (valid e) (λ q. ap Word (own_same (number e) (a / 4 % 1024) (o q) (omega arith))) (λ _. refl)
+  read_same a e o = either_both ◌≡◌ (valid e) (λ q. ap Ok (own_same (number e) (a / 4 % 1024) (o q) (omega arith))) (λ _. refl)
 
   module _ (F : Placed fr n (length base)) (F' : Placed fr n (length base')) where
     stored_alike : (f off x : ℕ) → Own fr n f → off < 1024

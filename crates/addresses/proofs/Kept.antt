@@ -1,4 +1,6 @@
 -- What both memories keep at every access: every number a word, the lengths, and of the host that the shadow's frames are its own.
+use Prim.{Unit, tt}
+use Rattle.std.specs.Prelude.{Result}
 use mathlib.Core.Path.{◌≡◌, ap}
 use mathlib.Core.Bool.{Bool, false, not}
 use mathlib.Core.List.{List}
@@ -8,7 +10,7 @@ use borrow.Author.Tests.{not-true}
 use lib.Dec.{eqb}
 use lib.ListN.{length, get_or, replicate, length-set}
 use Rattle.dlx.specs.declared.partition.Table.{Table}
-use Rattle.dlx.proofs.Kept.{either, get_or_set_elim, KeptTable, KeptAccess, Keeps}
+use Rattle.dlx.proofs.Kept.{either, get_or_set_elim, KeptTable, KeptAccess, KeptStore, Keeps}
 use Rattle.addresses.specs.Entries.{number, valid, protection, Found, fault, found}
 use Rattle.addresses.specs.Walk.{entries}
 use Rattle.addresses.specs.Memory.{word_in, updated, Lone, lone_read, lone_written, lone_memory, Host, host, served, host_read, host_written, host_reads, host_writes, emptied, host_memory}
@@ -37,12 +39,12 @@ module _ {n : ℕ} {s : Lone} (k : KeptLone n s) where
   lone_read_kept a (fault x) w = w
   lone_read_kept a (found p q) w = k.words _
 
-  lone_written_kept : (a : ℕ) (f : ℕ → ℕ) → ((w : ℕ) → w < 2 ^ 32 → f w < 2 ^ 32) → (g : Found) → Within n g → ((lone_written s a f g).0 < 8) × KeptLone n (lone_written s a f g).1
+  lone_written_kept : (a : ℕ) (f : ℕ → ℕ) → ((w : ℕ) → w < 2 ^ 32 → f w < 2 ^ 32) → (g : Found) → Within n g → KeptStore (lone_written s a f g).0 × KeptLone n (lone_written s a f g).1
   unfolding lone_written
   lone_written_kept a f l (fault x) w = (w, k)
   lone_written_kept a f l (found p q) w =
-      either (λ (g : ℕ × Lone). (g.0 < 8) × KeptLone n g.1) (eqb q 1) (λ _. (omega arith, k))
-      (λ _. (omega arith, record { table = k.table; long = simp length-set k.long; words = updated_words s.words (word_in p a) f l k.words }))
+      either (λ (g : Result (Unit {0}) ℕ × Lone). KeptStore g.0 × KeptLone n g.1) (eqb q 1) (λ _. (omega arith, k))
+      (λ _. (tt, record { table = k.table; long = simp length-set k.long; words = updated_words s.words (word_in p a) f l k.words }))
 
 -- every access keeps KeptLone
 pub lone_keeps : (n : ℕ) → Keeps (KeptLone n) (lone_memory n)
@@ -75,8 +77,8 @@ module _ (fr : List ℕ) (n : ℕ) where
       → P (host_written fr n s a f e).1
   unfolding host_written
   written P s a f e p q =
-      either (λ (g : ℕ × Host). P g.1) (not (valid e)) (λ _. p) λ _.
-      either (λ (g : ℕ × Host). P g.1) (eqb (protection e) 1) (λ _. p) (λ _. q)
+      either (λ (g : Result (Unit {0}) ℕ × Host). P g.1) (not (valid e)) (λ _. p) λ _.
+      either (λ (g : Result (Unit {0}) ℕ × Host). P g.1) (eqb (protection e) 1) (λ _. p) (λ _. q)
 
   -- a write keeps the shadow's frames own, and the length of the words
   pub writes_shadowed : (h : Host) → Shadowed fr n h.shadow → (user : Bool) (a : ℕ) (f : ℕ → ℕ) → Shadowed fr n (host_writes fr n h user a f).1.shadow
@@ -114,11 +116,11 @@ module _ {fr : List ℕ} {n size : ℕ} {h : Host} (k : KeptHost fr n size h) wh
   unfolding host_read
   read_kept a e l = either KeptAccess (valid e) (λ _. k.words _) l
 
-  answer_kept : (a : ℕ) (f : ℕ → ℕ) (e : ℕ) → (valid e ≡ false → e < 8) → (host_written fr n h a f e).0 < 8
+  answer_kept : (a : ℕ) (f : ℕ → ℕ) (e : ℕ) → (valid e ≡ false → e < 8) → KeptStore (host_written fr n h a f e).0
   unfolding host_written
   answer_kept a f e l =
-      either (λ (g : ℕ × Host). g.0 < 8) (not (valid e)) (λ v. l (not-true _ v)) λ _.
-      either (λ (g : ℕ × Host). g.0 < 8) (eqb (protection e) 1) (λ _. omega arith) (λ _. omega arith)
+      either (λ (g : Result (Unit {0}) ℕ × Host). KeptStore g.0) (not (valid e)) (λ v. l (not-true _ v)) λ _.
+      either (λ (g : Result (Unit {0}) ℕ × Host). KeptStore g.0) (eqb (protection e) 1) (λ _. omega arith) (λ _. tt)
 
   written_kept : (a : ℕ) (f : ℕ → ℕ) (e : ℕ) → ((w : ℕ) → w < 2 ^ 32 → f w < 2 ^ 32) → KeptHost fr n size (host_written fr n h a f e).1
   written_kept a f e l =

@@ -1,6 +1,6 @@
 -- Entries of the guest's table: the page number in bits 31..12, bit 11 valid, bit 10 protected. A shadow entry is a word of the same format, with
 -- a host frame in the page number's place and all else 0; the empty one is 0.
-use Rattle.std.specs.Prelude.{Bool, not, ◌&&◌, ℕ, ◌+◌, ◌-◌, ◌*◌, ◌/◌, ◌%◌, ◌^◌, leb, eqb}
+use Rattle.std.specs.Prelude.{Bool, not, ◌&&◌, ℕ, ◌+◌, ◌-◌, ◌*◌, ◌/◌, ◌%◌, ◌^◌, leb, eqb, Option, Some, None, unwrap_or}
 use Rattle.dlx.specs.Choice.{when◌then◌else◌}
 
 abbrev pub number : ℕ → ℕ
@@ -39,12 +39,17 @@ refused store p = store && eqb p 1
 
 -- ---- entry composition, as the office display calls it: 0 is load, all else store
 
+unfoldable pub composed : Bool → Found → Option ℕ
+composed store (fault x) = None
+composed store (found k p) = when refused store p then None else Some k
+
+-- the guest page, if there is no fault
+abbrev pub composed_page : ℕ → ℕ → ℕ → Option ℕ
+composed_page e n access = composed (not (eqb access 0)) (judged n e)
+
+-- the same as one number: no page has that of a fault
 abbrev pub fault_word : ℕ
 fault_word = 2 ^ 32 - 1
 
-unfoldable pub composed : Bool → Found → ℕ
-composed store (fault x) = fault_word
-composed store (found k p) = when refused store p then fault_word else k
-
 abbrev pub composition_of : ℕ → ℕ → ℕ → ℕ
-composition_of e n access = composed (not (eqb access 0)) (judged n e)
+composition_of e n access = unwrap_or (composed_page e n access) fault_word

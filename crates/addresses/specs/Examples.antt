@@ -1,14 +1,13 @@
 -- Worked examples, as one list that proofs/Checked.antt checks by a single claim. Each row of the rules stands in square brackets, as docs/EXAMPLES.md
 -- lists them. What is compared is the answer with the whole table, memory and shadow.
-use Rattle.std.specs.Prelude.{Bool, true, false, not, ◌&&◌, List, [], ◌∷◌, ◌++◌, ℕ, zero, suc, ◌+◌, ◌^◌, eqb, set, take, drop, replicate}
+use Prim.{Unit}
+use Rattle.std.specs.Prelude.{Bool, true, false, not, ◌&&◌, List, [], ◌∷◌, ◌++◌, ℕ, zero, suc, ◌+◌, ◌^◌, eqb, set, take, drop, replicate, Result, Ok, Err}
 use mir.Val.{bool_byte}
 use Rattle.dlx.specs.Processor.{fresh_processor, no_timer}
 use Rattle.dlx.specs.Machine.{Core, core, Outcome, reply, step, steps}
 use Rattle.dlx.specs.Examples.{same}
 use Rattle.dlx.specs.declared.partition.Table.{Table}
 use Rattle.dlx.specs.declared.partition.Processor.{Processor}
-use Rattle.dlx.specs.declared.execute.Access.{Access}
-use Rattle.dlx.specs.declared.execute.Access.TheVariants.{Fault, Word}
 use Rattle.addresses.specs.Entries.{composition_of}
 use Rattle.addresses.specs.Walk.{entries}
 use Rattle.addresses.specs.Memory.{Lone, lone, lone_memory, Host, host, host_word, stale, host_memory, emptied, fresh_shadow}
@@ -84,9 +83,14 @@ same_host h k =
     eqb h.table.pto k.table.pto && eqb h.table.ptl k.table.ptl && same h.words k.words && same h.shadow k.shadow
 
 -- a word, or 0 and the fault's number
-unfoldable pub answer : Access → List ℕ
-answer (Fault n) = 0 ∷ n ∷ []
-answer (Word v) = v ∷ []
+unfoldable pub answer : Result ℕ ℕ → List ℕ
+answer (Err n) = 0 ∷ n ∷ []
+answer (Ok v) = v ∷ []
+
+-- 0 where a store is made, or the fault's number
+unfoldable pub told : Result (Unit {0}) ℕ → ℕ
+told (Err n) = n
+told (Ok u) = 0
 
 -- a load answers this word, and leaves the shadow sh and all else as it was
 unfoldable pub gives : Host → Bool → ℕ → ℕ → List ℕ → Bool
@@ -103,13 +107,13 @@ faults h user a n sh =
 unfoldable pub refuses : Host → Bool → ℕ → ℕ → List ℕ → Bool
 refuses h user a n sh =
     let g = (host_memory frames 3).write h user a (λ w. w + 7) in
-    eqb g.0 n && same_host g.1 (host h.table h.words sh)
+    eqb (told g.0) n && same_host g.1 (host h.table h.words sh)
 
 -- a store of v becomes host word i, and leaves the shadow sh and all else as it was
 unfoldable pub writes : Host → Bool → ℕ → ℕ → ℕ → List ℕ → Bool
 writes h user a v i sh =
     let g = (host_memory frames 3).write h user a (λ _. v) in
-    eqb g.0 0 && same_host g.1 (host h.table (set h.words i v) sh)
+    eqb (told g.0) 0 && same_host g.1 (host h.table (set h.words i v) sh)
 
 -- ---- the walk, system mode and fills
 
@@ -255,7 +259,7 @@ emptyings =
     ∷ same_host ((host_memory frames 3).retable (shadowed full) (table 1 6)) (guest 1 6)
     -- [store: what is written] a store's update of the word that stands there
     ∷ (let g = (host_memory frames 3).write (guest 1 6) false 0x0ABC (λ w. w + 7) in
-    eqb g.0 0 && same_host g.1 (host (table 1 6) (set memory 2735 (word 2742)) fresh_shadow))
+    eqb (told g.0) 0 && same_host g.1 (host (table 1 6) (set memory 2735 (word 2742)) fresh_shadow))
     ∷ []
 
 -- ---- stale entries
@@ -309,7 +313,7 @@ lone_loads pto ptl user a l =
 unfoldable pub lone_stores : ℕ → ℕ → Bool → ℕ → ℕ → List ℕ → Bool
 lone_stores pto ptl user a n ws =
     let g = (lone_memory 3).write (lonely pto ptl) user a (λ w. w + 7) in
-    eqb g.0 n && same_lone g.1 pto ptl ws
+    eqb (told g.0) n && same_lone g.1 pto ptl ws
 
 unfoldable pub alone : List Bool
 alone =

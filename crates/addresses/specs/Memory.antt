@@ -1,10 +1,9 @@
 -- The lone memory and the shadowed memory, as two instances of `dlx`'s memory.
-use Rattle.std.specs.Prelude.{Bool, not, ◌&&◌, List, ℕ, ◌+◌, ◌*◌, ◌/◌, ◌%◌, ltb, eqb, get_or, set, replicate}
+use Rattle.std.specs.Prelude.{Bool, not, ◌&&◌, List, ℕ, ◌+◌, ◌*◌, ◌/◌, ◌%◌, ltb, eqb, get_or, set, replicate, Result, Ok, Err}
+use Prim.{Unit, tt}
 use Rattle.dlx.specs.Choice.{when◌then◌else◌}
 use Rattle.dlx.specs.Machine.{Ops}
 use Rattle.dlx.specs.declared.partition.Table.{Table}
-use Rattle.dlx.specs.declared.execute.Access.{Access}
-use Rattle.dlx.specs.declared.execute.Access.TheVariants.{Fault, Word}
 use Rattle.addresses.specs.Entries.{number, valid, protection, entry_of, Found, fault, found, protected_page}
 use Rattle.addresses.specs.Walk.{entries, walked, direct}
 
@@ -30,14 +29,14 @@ lone_word s i = get_or s.words i 0
 unfoldable pub lone_found : ℕ → Lone → Bool → ℕ → Found
 lone_found n s user a = when user then walked (lone_word s) n s.table (a / 4096) else direct n a
 
-unfoldable pub lone_read : Lone → ℕ → Found → Access
-lone_read s a (fault x) = Fault x
-lone_read s a (found k p) = Word (lone_word s (word_in k a))
+unfoldable pub lone_read : Lone → ℕ → Found → Result ℕ ℕ
+lone_read s a (fault x) = Err x
+lone_read s a (found k p) = Ok (lone_word s (word_in k a))
 
-unfoldable pub lone_written : Lone → ℕ → (ℕ → ℕ) → Found → ℕ × Lone
-lone_written s a f (fault x) = (x, s)
+unfoldable pub lone_written : Lone → ℕ → (ℕ → ℕ) → Found → Result (Unit {0}) ℕ × Lone
+lone_written s a f (fault x) = (Err x, s)
 lone_written s a f (found k p) =
-    when eqb p 1 then (protected_page, s) else (0, lone s.table (updated s.words (word_in k a) f))
+    when eqb p 1 then (Err protected_page, s) else (Ok tt, lone s.table (updated s.words (word_in k a) f))
 
 abbrev pub lone_memory : ℕ → Ops Lone
 lone_memory n = record {
@@ -90,8 +89,8 @@ looked fr n s px =
 unfoldable pub served : List ℕ → ℕ → Host → Bool → ℕ → ℕ × Host
 served fr n s user a = when user then looked fr n s (a / 4096) else (hosted fr (direct n a), s)
 
-unfoldable pub host_read : Host → ℕ → ℕ → Access
-host_read s a e = when valid e then Word (get_or s.words (word_in (number e) a) 0) else Fault e
+unfoldable pub host_read : Host → ℕ → ℕ → Result ℕ ℕ
+host_read s a e = when valid e then Ok (get_or s.words (word_in (number e) a) 0) else Err e
 
 -- A store into word `off` of the frame f hits entry `off` of the table where f holds page PTO: the 1,024 entries fill exactly that one page.
 unfoldable pub emptied : List ℕ → ℕ → Table → ℕ → ℕ → List ℕ → List ℕ
@@ -99,16 +98,16 @@ emptied fr n t f off sh =
     when ltb t.pto n && eqb (get_or fr t.pto 0) f && ltb off t.ptl && ltb off entries then set sh off 0 else sh
 
 -- the data access, then emptying
-unfoldable pub host_written : List ℕ → ℕ → Host → ℕ → (ℕ → ℕ) → ℕ → ℕ × Host
+unfoldable pub host_written : List ℕ → ℕ → Host → ℕ → (ℕ → ℕ) → ℕ → Result (Unit {0}) ℕ × Host
 host_written fr n s a f e =
-    when not (valid e) then (e, s) else
-    when eqb (protection e) 1 then (protected_page, s) else
-    (0, host s.table (updated s.words (word_in (number e) a) f) (emptied fr n s.table (number e) (a / 4 % 1024) s.shadow))
+    when not (valid e) then (Err e, s) else
+    when eqb (protection e) 1 then (Err protected_page, s) else
+    (Ok tt, host s.table (updated s.words (word_in (number e) a) f) (emptied fr n s.table (number e) (a / 4 % 1024) s.shadow))
 
-unfoldable pub host_reads : List ℕ → ℕ → Host → Bool → ℕ → Access × Host
+unfoldable pub host_reads : List ℕ → ℕ → Host → Bool → ℕ → Result ℕ ℕ × Host
 host_reads fr n s user a = let g = served fr n s user a in (host_read g.1 a g.0, g.1)
 
-unfoldable pub host_writes : List ℕ → ℕ → Host → Bool → ℕ → (ℕ → ℕ) → ℕ × Host
+unfoldable pub host_writes : List ℕ → ℕ → Host → Bool → ℕ → (ℕ → ℕ) → Result (Unit {0}) ℕ × Host
 host_writes fr n s user a f = let g = served fr n s user a in host_written fr n g.1 a f g.0
 
 -- a fresh shadow table

@@ -1,8 +1,11 @@
 -- Worked examples. proofs/Checked.antt checks them by a single claim.
-use Rattle.std.specs.Prelude.{ℕ, Bool, true, not, ◌&&◌, List, [], ◌∷◌, replicate, ◌==◌}
+use Rattle.std.specs.Prelude.{ℕ, Bool, true, false, not, Some, ◌&&◌, List, [], ◌∷◌, replicate, ◌==◌}
+use Rattle.std.specs.Option.{is_none, option_map_or}
 use Prim.Native.String.{String}
 use Rattle.decimal.specs.Texts.{ascii, same}
-use Rattle.asked.specs.Words.{row_of, name_length, address_of}
+use Rattle.asked.specs.Words.{row_of, counted, name_length, address_of}
+use Rattle.asked.specs.declared.asked.Awaits.{Awaits}
+use Rattle.asked.specs.declared.asked.Awaits.TheVariants.{Partition, Frames, Image, ImageOrPartition}
 use Rattle.asked.specs.Asked.{Going, going, nothing, took_words}
 
 -- ---- frame lists, over seven places of 9, from the third on
@@ -10,20 +13,19 @@ use Rattle.asked.specs.Asked.{Going, going, nothing, took_words}
 unfoldable pub lists : String → ℕ → List ℕ → Bool
 lists word n frames =
     let r = row_of 2 (replicate 7 9) (ascii word) in
-    r.row.right && r.row.count == n && same r.frames frames
+    option_map_or (λ count. count == n) (counted r) false && same r.frames frames
 
 unfoldable pub no_list : String → Bool
-no_list word = not (row_of 2 (replicate 7 9) (ascii word)).row.right
+no_list word = is_none (counted (row_of 2 (replicate 7 9) (ascii word)))
 
 -- ---- images
 
 unfoldable pub image : String → ℕ → ℕ → Bool
 image word name address =
-    let x = address_of (ascii word) in
-    (name_length (ascii word) == name) && x.said && x.value == address
+    (name_length (ascii word) == name) && option_map_or (λ x. x == address) (address_of (ascii word)) false
 
 unfoldable pub no_image : String → Bool
-no_image word = not (address_of (ascii word)).said
+no_image word = is_none (address_of (ascii word))
 
 -- ---- words, over four page counts, eight frames and four images
 
@@ -32,18 +34,24 @@ texts [] = []
 texts (word ∷ words) = ascii word ∷ texts words
 
 unfoldable pub asked : List String → Going
-asked words = took_words (going nothing (replicate 4 0) (replicate 8 0) (replicate 12 0)) 4 (texts words)
+asked words = took_words (going (Some nothing) (replicate 4 0) (replicate 8 0) (replicate 12 0)) 4 (texts words)
+
+-- 0 `partition`; 1 its frames; 2 its first image; 3 another one, or `partition`
+abbrev pub index : Awaits → ℕ
+index Partition = 0
+index Frames = 1
+index Image = 2
+index ImageOrPartition = 3
 
 -- what the next word has to be, the partition at hand, the frames and images so far, and the lists
 unfoldable pub comes : List String → ℕ → ℕ → ℕ → ℕ → List ℕ → List ℕ → List ℕ → Bool
 comes words next owner total images pages frames table =
     let g = asked words in
-    let a = g.asked in
-    a.right && a.awaits == next && a.owner == owner && a.total == total && a.images == images
+    option_map_or (λ a. index a.awaits == next && a.owner == owner && a.total == total && a.images == images) g.asked false
     && same g.pages pages && same g.frames frames && same g.table table
 
 unfoldable pub wrong_words : List String → Bool
-wrong_words words = not (asked words).asked.right
+wrong_words words = is_none (asked words).asked
 
 unfoldable pub words : List Bool
 words =

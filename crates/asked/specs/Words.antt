@@ -1,54 +1,50 @@
 -- Two of noon's words: a frame list, decimals with commas between, and an image with its address.
-use Rattle.std.specs.Prelude.{ℕ, zero, suc, ◌+◌, ◌%◌, ◌^◌, true, false, not, List, [], ◌∷◌, length, drop, ◌==◌, slice_index, slice_set}
+use Rattle.std.specs.Prelude.{ℕ, zero, suc, ◌+◌, Option, None, Some, option_map, unwrap_or, List, [], ◌∷◌, length, drop, ◌==◌, slice_index, slice_set}
 use Rattle.dlx.specs.Choice.{when◌then◌else◌}
 use Rattle.dlx.specs.Words.{plus}
-use Rattle.command.specs.Words.{number, number_of, with_digit}
-use Rattle.command.specs.declared.Number.{Number}
+use Rattle.command.specs.Words.{number_of, with_digit}
 use Rattle.asked.specs.declared.words.Row.{Row}
 
 -- ---- a frame list, byte by byte; its numbers go to a list, from a place on
 
--- where it stands, and the list
+-- where it stands, none where a byte was wrong, and the list
 pub record Rowed : Type 0 where
-  pub row : Row
+  pub row : Option Row
   pub frames : List ℕ
 
-abbrev pub rowed : Row → List ℕ → Rowed
+abbrev pub rowed : Option Row → List ℕ → Rowed
 rowed r frames = record { row = r; frames = frames }
 
 abbrev pub no_row : Row
-no_row = record { right = true; begun = false; value = 0; count = 0 }
-
-abbrev pub wrong_row : Row
-wrong_row = record { right = false; begun = false; value = 0; count = 0 }
+no_row = record { number = None; count = 0 }
 
 -- a number has ended: it has a digit, and stands behind those before it, as far as there is room
-unfoldable pub row_ended : ℕ → Rowed → Rowed
-row_ended at g =
-    let r = g.row in
-    when r.begun
-    then rowed (record { right = r.right; begun = false; value = 0; count = plus r.count 1 }) (slice_set g.frames (at + r.count) (r.value % 2 ^ 32))
-    else rowed wrong_row g.frames
+unfoldable pub row_ended : ℕ → Row → List ℕ → Rowed
+row_ended at r frames = elim r.number [ None ↦ rowed None frames | Some n ↦ rowed (Some (record { number = None; count = plus r.count 1 })) (slice_set frames (at + r.count) n) ]
 
 -- a comma ends a number; any other byte is its next digit
-unfoldable pub row_took : ℕ → Rowed → ℕ → Rowed
-row_took at g b =
-    let r = g.row in
-    when not r.right then g else
-    when b == 44 then row_ended at g else
-    let n = with_digit 4294967295 (number r.value) b in
-    rowed (record { right = n.said; begun = true; value = n.value; count = r.count }) g.frames
+unfoldable pub row_took : ℕ → Row → List ℕ → ℕ → Rowed
+row_took at r frames b =
+    when b == 44 then row_ended at r frames else
+    rowed (option_map (λ n. record { number = Some n; count = r.count }) (with_digit 4294967295 (Some (unwrap_or r.number 0)) b)) frames
 
+-- behind a wrong byte nothing is looked at
 unfoldable pub row_fed : ℕ → Rowed → List ℕ → Rowed
 row_fed at g [] = g
-row_fed at g (b ∷ bs) = row_fed at (row_took at g b) bs
+row_fed at g (b ∷ bs) = elim g.row [ None ↦ g | Some r ↦ row_fed at (row_took at r g.frames b) bs ]
+
+-- at the end of the word a number ends
+abbrev pub row_finished : ℕ → Rowed → Rowed
+row_finished at g = elim g.row [ None ↦ g | Some r ↦ row_ended at r g.frames ]
 
 -- the whole word; an empty one is an empty list
 unfoldable pub row_of : ℕ → List ℕ → List ℕ → Rowed
-row_of at frames [] = rowed no_row frames
-row_of at frames (b ∷ bs) =
-    let g = row_fed at (rowed no_row frames) (b ∷ bs) in
-    when g.row.right then row_ended at g else g
+row_of at frames [] = rowed (Some no_row) frames
+row_of at frames (b ∷ bs) = row_finished at (row_fed at (rowed (Some no_row) frames) (b ∷ bs))
+
+-- how many numbers the word has
+unfoldable pub counted : Rowed → Option ℕ
+counted g = option_map (λ r. r.count) g.row
 
 -- ---- an image: its name, and behind the last @ its address, 0 where there is none
 
@@ -60,7 +56,7 @@ last_at word (suc n) = when slice_index word n == 64 then n else last_at word n
 abbrev pub name_length : List ℕ → ℕ
 name_length word = last_at word (length word)
 
-unfoldable pub address_of : List ℕ → Number
+unfoldable pub address_of : List ℕ → Option ℕ
 address_of word =
     let n = name_length word in
-    when n == length word then number 0 else number_of 4294967295 (drop (n + 1) word)
+    when n == length word then Some 0 else number_of 4294967295 (drop (n + 1) word)

@@ -15,6 +15,7 @@ ghost use Rattle.audit.specs.Printed.{lines_to, printed, first_line, named};
 
 use command::{asks_help, fail, open, put_out, wrong};
 use decimal::put_text;
+use dlx::words::wide;
 use files::{Source, is_not_given, print, say, try_word};
 use house::House;
 use night_run::{Taken, WORDS, read_file};
@@ -36,11 +37,8 @@ fn put_counts(out: &mut [u8], at: usize, each: [u32; 8], n: u32) -> usize
     ensures { Puts out.old at out.new result (lines_to each n) 176 }
 {
     let mut end = at;
-    let mut i: u32 = 0;
-    while i < n {
-        let place = dlx::words::wide(i);
-        end = put_count(out, end, i, each[place]);
-        i += 1;
+    for i in 0..n {
+        end = put_count(out, end, i, each[wide(i)]);
     }
     end
 }

@@ -1,14 +1,15 @@
 -- Worked examples. proofs/Checked.antt checks them by a single claim.
-use Rattle.std.specs.Prelude.{Bool, true, not, ◌&&◌, List, [], ◌∷◌, ℕ, ◌-◌, ◌^◌, eqb}
+use Rattle.std.specs.Prelude.{Bool, true, false, not, ◌&&◌, List, [], ◌∷◌, ℕ, ◌-◌, ◌^◌, eqb}
+use Rattle.std.specs.Option.{is_none, option_map_or}
 use Prim.Native.String.{String}
 use Rattle.decimal.specs.Texts.{ascii}
 use Rattle.command.specs.Words.{asks_help, number_of}
 
 unfoldable pub says : ℕ → String → ℕ → Bool
-says most word n = (number_of most (ascii word)).said && eqb (number_of most (ascii word)).value n
+says most word n = option_map_or (λ v. eqb v n) (number_of most (ascii word)) false
 
 unfoldable pub says_none : ℕ → String → Bool
-says_none most word = not (number_of most (ascii word)).said
+says_none most word = is_none (number_of most (ascii word))
 
 unfoldable pub words : List Bool
 words =

@@ -2,8 +2,8 @@
 // standard error, with `failed: ` before all else.
 #![tactic(auto)]
 
-ghost use Rattle.std.specs.Prelude.{◌≡◌, ◌≤◌};
-ghost use Rattle.command.specs.Words.{no_number, with_digit, number_of, asks_help};
+ghost use Rattle.std.specs.Prelude.{◌≡◌, ◌≤◌, IfSome, is_ok};
+ghost use Rattle.command.specs.Words.{with_digit, number_of, asks_help};
 
 use decimal::is;
 use files::{Source, print, say, say_error};
@@ -15,72 +15,32 @@ use std::io;
 pub fn asks_help(word: &[u8]) -> bool
     ensures { result ≡ asks_help word.now }
 {
-    if is(word, b"-h") {
-        return true;
-    }
-    is(word, b"--help")
+    is(word, b"-h") || is(word, b"--help")
 }
 
-// What a word says in decimals, where it says a number.
-#[derive(Clone, Copy)]
-pub struct Number {
-    pub said: bool,
-    pub value: u64,
-}
-
-impl Number {
-    fn none() -> Number
-        ensures { result ≡ no_number }
-    {
-        Number {
-            said: false,
-            value: 0,
-        }
-    }
-}
-
-// The number with one digit more. No sum is made that could wrap.
-pub fn with_digit(most: u64, n: Number, b: u8) -> Number
-    ensures { result ≡ with_digit most n b }
+// The number with one digit more; none where the byte is no digit, or the number is too large.
+pub fn with_digit(most: u64, n: Option<u64>, b: u8) -> Option<u64>
+    ensures value { result ≡ with_digit most n b }
+    ensures value_le_most { IfSome result (λ v. v ≤ most) }
 {
-    if !n.said {
-        return Number::none();
+    if !b.is_ascii_digit() {
+        return None;
     }
-    if b < 48 {
-        return Number::none();
-    }
-    if b > 57 {
-        return Number::none();
-    }
-    let digit = (b - 48) as u64;
-    if digit > most {
-        return Number::none();
-    }
-    if n.value > (most - digit) / 10 {
-        return Number::none();
-    }
-    Number {
-        said: true,
-        value: n.value * 10 + digit,
-    }
+    let longer = n?.checked_mul(10)?.checked_add(u64::from(b - b'0'))?;
+    if longer <= most { Some(longer) } else { None }
 }
 
 // The number that a word says, at most so much.
-pub fn number_in(word: &[u8], most: u64) -> Number
+pub fn number_in(word: &[u8], most: u64) -> Option<u64>
     ensures value { result ≡ number_of most word.now }
-    ensures value_le_most { result.value ≤ most }
+    ensures value_le_most { IfSome result (λ n. n ≤ most) }
 {
-    if word.len() == 0 {
-        return Number::none();
+    if word.is_empty() {
+        return None;
     }
-    let mut n = Number {
-        said: true,
-        value: 0,
-    };
-    let mut i = 0;
-    while i < word.len() {
-        n = with_digit(most, n, word[i]);
-        i += 1;
+    let mut n = Some(0);
+    for b in word {
+        n = with_digit(most, n, *b);
     }
     n
 }
@@ -103,15 +63,22 @@ pub fn fail(rt: &HostRuntime, what: &[u8], why: io::Error) {
     say_error(rt, why);
 }
 
-// Writes a text to standard output, and answers whether that could be done. Where it could not, that is told.
-pub fn put_out(rt: &HostRuntime, text: &[u8]) -> bool {
-    match print(rt, text) {
+// Answers whether a read or a write of what is named here was done. Where it was not, that is told.
+pub fn done(rt: &HostRuntime, what: &[u8], outcome: io::Result<()>) -> bool
+    ensures { result ≡ is_ok outcome }
+{
+    match outcome {
         Ok(()) => true,
         Err(why) => {
-            fail(rt, b"standard output", why);
+            fail(rt, what, why);
             false
         }
     }
+}
+
+// Writes a text to standard output, and answers whether that could be done. Where it could not, that is told.
+pub fn put_out(rt: &HostRuntime, text: &[u8]) -> bool {
+    done(rt, b"standard output", print(rt, text))
 }
 
 // The program was given something that it cannot use.

@@ -20,12 +20,10 @@ fn put_lists(out: &mut [u8], at: usize, pages: &[u32], frames: &[u32]) -> usize
 {
     let mut end = at;
     let mut from: usize = 0;
-    let mut i: usize = 0;
-    while i < pages.len() {
-        let to = from + wide(pages[i]);
+    for count in pages {
+        let to = from + wide(*count);
         end = put_record(out, end, 2, &frames[from..to]);
         from = to;
-        i += 1;
     }
     end
 }
@@ -49,10 +47,8 @@ fn put_frames(out: &mut [u8], at: usize, memory: &[u32]) -> usize
     ensures { Puts out.old at out.new result (joined (frame_record memory.now) 16) (4106 * 16) }
 {
     let mut end = at;
-    let mut f: u32 = 0;
-    while f < 16 {
+    for f in 0..16 {
         end = put_frame(out, end, memory, f);
-        f += 1;
     }
     end
 }
@@ -64,7 +60,7 @@ pub fn put_contents(
     pages: &[u32],
     frames: &[u32],
     memory: &[u32],
-    out: &mut [u8; 73956],
+    out: &mut [u8; MOST],
 ) -> usize
     requires fact_1 { Listed pages.now frames.now }
     requires fact_2 { length memory.now ≡ 16384 }

@@ -9,9 +9,15 @@ use native.Mathlib.Omega.{arith}
 use borrow.Author.Tests.{not-false, eqb-true, eq-eqb, ne_eqb, ltb-true, ltb-false, le-leb, lt-leb, leb-true, leb-false}
 use lib.Bits.{bit_or, or_zero_r, or_add_and, and_le_l}
 use lib.Dec.{eqb, ltb, leb}
+use borrow.Rule.Slice.PartMut.{mid_of}
+use lib.Seq.{get_or-take}
 use lib.ListN.{length, get_or, take, drop, length-replicate, get_or-replicate, get_or-eq_default}
+use Rattle.std.specs.Prelude.{Option, None, Some, MatchOption}
+use Rattle.std.specs.Option.{is_some}
 use Rattle.dlx.specs.Choice.{when◌then◌else◌}
 use Rattle.dlx.specs.declared.partition.Partition.{Partition}
+use Rattle.dlx.proofs.Parts.{inner_length}
+use Rattle.dlx.proofs.Parts as parts
 use Rattle.dlx.proofs.Tests.{by_test, by_eq}
 use Rattle.addresses.specs.Entries.{number}
 use Rattle.addresses.specs.Walk.{entries}
@@ -24,12 +30,47 @@ use Rattle.house.proofs.Lists.Bounded.{one_way, same_test, or_left, or_right, an
 use Rattle.house.proofs.Lists.ByRule.{first_none}
 use Rattle.marks.specs.Marked.{marked, twice_marked, first_twice}
 use Rattle.marks.proofs.Marked.{marked_length, marked_at}
-use Rattle.damage.specs.Marks.{Within, shadow_marked, shadow_outside, pages_at, part_at, entries_at, pages_outside, barred_at, frames_barred, owners_of, twice_at, twice_in, entry_marked, group_marked, behind, outside, turn_outside, registers_at, room_wrong, queue_at, inside}
+use Rattle.damage.specs.Marks.{Within, shadow_marked, shadow_outside, pages_at, part_at, entries_at, pages_outside, barred_at, frames_barred, owners_of, twice_at, twice_in, entry_marked, group_marked, behind, queue_outside, outside, turn_outside, processor_wrong, registers_at, room_wrong, queue_at, inside}
 
 -- partition i's part of a list, as the code lends it
 pub part_is : (l : List ℕ) (i : ℕ) → take (i * 256 + 256 - i * 256) (drop (i * 256) l) ≡ part_at l i
 unfolding inner
 part_is l i = simp add-sub_cancel_left
+
+pub part_length : (l : List ℕ) (i : ℕ) → i * 256 + 256 ≤ length l → length (mid_of (i * 256) (i * 256 + 256 - i * 256) l) ≡ 256
+part_length l i h = ap (λ (x : List ℕ). length x) (part_is l i) ∙ inner_length l (i * 256) 256 h
+
+-- ---- what one partition's look says
+
+module _ (ps : List Partition) (n i : ℕ) (l : i < n) where
+  abbrev part : Partition
+  part = get_or (take n ps) i no_partition
+
+  pub pages_here : (pages : ℕ) → pages ≡ part.pages → pages ≡ pages_at ps i
+  pages_here pages e = e ∙ ap (λ (p : Partition). p.pages) (get_or-take n ps i no_partition l)
+
+  pub barred_here : (fr : List ℕ) (size pages : ℕ) (r : Bool) → pages ≡ part.pages → r ≡ any (barred_at (take (i * 256 + 256 - i * 256) (drop (i * 256) fr)) size) pages → r ≡ frames_barred ps fr size i
+  barred_here fr size pages r q e =
+      e ∙ ap (λ (f : List ℕ). any (barred_at f size) pages) (part_is fr i) ∙ ap (any (barred_at (part_at fr i) size)) (pages_here pages q)
+
+  pub registers_here : (rs : List ℕ) (r : Bool) → r ≡ processor_wrong part.processor (get_or rs (i * 32) 0) part.fault → r ≡ registers_at ps rs i
+  registers_here rs r e =
+      let z : i * 32 + 0 ≡ i * 32 = omega arith in
+      let first : get_or rs (i * 32) 0 ≡ get_or (inner (i * 32) 32 rs) 0 0 = sym (parts.part_at rs (i * 32) 32 0 (omega arith) ∙ ap (λ (x : ℕ). get_or rs x 0) z) in
+      e
+      ∙ ap (λ (p : Partition). processor_wrong p.processor (get_or rs (i * 32) 0) p.fault) (get_or-take n ps i no_partition l)
+      ∙ ap (λ (x : ℕ). processor_wrong (get_or ps i no_partition).processor x (get_or ps i no_partition).fault) first
+
+pub queue_here : (count j : ℕ) (ts ns : List ℕ) (r : Bool) → r ≡ queue_outside count j (get_or ns j 0) (mid_of (j * 32) (j * 32 + 32 - j * 32) ts) → r ≡ queue_at count ts ns j
+unfolding inner
+queue_here count j ts ns r e = e ∙ simp add-sub_cancel_left
+
+pub shadow_here : (o : List ℕ) (i tag : ℕ) (sh : List ℕ) (r : Bool) → tag ≡ i + 1 → r ≡ any (λ px. entry_marked o tag (get_or (mid_of (i * entries) (i * entries + entries - i * entries) sh) px 0)) entries → r ≡ shadow_marked o sh i
+unfolding inner
+shadow_here o i tag sh r t e = e ∙ simp (add-sub_cancel_left, t)
+
+pub behind_here : (fr : List ℕ) (i n : ℕ) (r : Bool) → i * 256 + 256 ≤ length fr → r ≡ any (behind (mid_of (i * 256) (i * 256 + 256 - i * 256) fr) n) (length (mid_of (i * 256) (i * 256 + 256 - i * 256) fr)) → r ≡ any (behind (part_at fr i) n) 256
+behind_here fr i n r l e = e ∙ ap (λ (f : List ℕ). any (behind f n) (length f)) (part_is fr i) ∙ ap (any (behind (part_at fr i) n)) (inner_length fr (i * 256) 256 l)
 
 -- ---- an entry by one test of its bits
 
@@ -59,6 +100,11 @@ module _ (o : List ℕ) (tag e : ℕ) where
       (λ c. (leb-false 4194304 e b, by_test (eqb (get_or o (e / 4096) 0) tag) (λ d. simp (a, c, d)) (λ d. simp (a, c, d))))
       (λ c. absurd (true≢false (simp (a, b, c) at h)))))
       (λ a. absurd (true≢false (simp a at h)))
+
+-- a search that answers a position tells whether there is one
+is_found : (b : Bool) (P : ℕ → Type 0) (r : Option ℕ) → MatchOption r (b ≡ false) (λ at. (b ≡ true) × P at) → is_some r ≡ b
+is_found b P None h = sym h
+is_found b P (Some at) h = sym h.0
 
 -- ---- all lists: a frame's mark is the number + 1 of the last partition that has it
 
@@ -120,9 +166,13 @@ module _ (ps : List Partition) (fr : List ℕ) where
         (λ k l. rw (owners_none i (get_or (part_at fr i) k 0) (below k l), not-not))
 
     -- what marking partition i's part finds, and leaves
-    pub mark_part : (part o o' : List ℕ) (pages tag : ℕ) (r : Bool) → part ≡ part_at fr i → pages ≡ pages_at ps i → tag ≡ i + 1 → o ≡ owners_of ps fr i → r ≡ any (twice_marked o part) pages → o' ≡ marked part tag o (first_twice o part pages) → (r ≡ twice_in ps fr i) × (r ≡ false → o' ≡ owners_of ps fr (i + 1))
+    pub mark_part : (part o o' : List ℕ) (pages tag : ℕ) (r : Option ℕ) → part ≡ part_at fr i → pages ≡ pages_at ps i → tag ≡ i + 1 → o ≡ owners_of ps fr i
+        → MatchOption r (any (twice_marked o part) pages ≡ false) (λ at. (any (twice_marked o part) pages ≡ true) × (at ≡ first_twice o part pages)) → o' ≡ marked part tag o (first_twice o part pages)
+        → (is_some r ≡ twice_in ps fr i) × (is_some r ≡ false → o' ≡ owners_of ps fr (i + 1))
     unfolding owners_of
-    mark_part part o o' pages tag r p q t e h m = (h ∙ rw (p, q, e) twice_by_marks, λ z. m ∙ ap (marked part tag o) (first_none (twice_marked o part) pages (sym h ∙ z)) ∙ rw (p, q, t, e, add-one))
+    mark_part part o o' pages tag r p q t e h m =
+        let found = is_found (any (twice_marked o part) pages) (λ at. at ≡ first_twice o part pages) r h in
+        (found ∙ rw (p, q, e) twice_by_marks, λ z. m ∙ ap (marked part tag o) (first_none (twice_marked o part) pages (sym found ∙ z)) ∙ rw (p, q, t, e, add-one))
 
     module _ (once : any (twice_in ps fr) n ≡ false) (there : i < n) where
       owner_is : (f : ℕ) → eqb (get_or (owners_of ps fr n) f 0) (i + 1) ≡ has f i
@@ -219,7 +269,7 @@ module _ (h : House) where
   abbrev queues : Bool
   queues = any (queue_at h.count h.tickets h.waiting) 8
 
-  grouped : damaged h ≡ (limits || parts_wrong || queues)
+  pub grouped : damaged h ≡ (limits || parts_wrong || queues)
   unfolding damaged outside_limits frame_twice turn_wrong registers_wrong shadow_wrong unused_wrong queues_wrong
   grouped =
       regrouped
@@ -262,9 +312,25 @@ gathered a b =
     (λ e. rw (ne_eqb b 0 e, ne_eqb (bit_or a b) 0 (λ z. e (omega (arith, or_add_and a b, and_le_l a b)))))
 
 -- one place more
-pub gathered_on : (l : List ℕ) (base k bits : ℕ) → some bits ≡ not_zero l base k → some (bit_or bits (get_or l (base + k) 0)) ≡ not_zero l base (k + 1)
+pub gathered_on : (l : List ℕ) (k bits : ℕ) → some bits ≡ not_zero l 0 k → some (bit_or bits (get_or l k 0)) ≡ not_zero l 0 (k + 1)
 unfolding any
-gathered_on l base k bits e = rw add-one (gathered bits (get_or l (base + k) 0) ∙ ap (λ (b : Bool). some (get_or l (base + k) 0) || b) e)
+gathered_on l k bits e =
+    let z : 0 + k ≡ k = omega arith in
+    rw (add-one, z) (gathered bits (get_or l k 0) ∙ ap (λ (b : Bool). some (get_or l k 0) || b) e)
+
+-- a part by itself
+pub part_zero : (l : List ℕ) (base size : ℕ) → base + size ≤ length l → not_zero (take size (drop base l)) 0 (length (take size (drop base l))) ≡ not_zero l base size
+unfolding inner
+part_zero l base size h =
+    ap (not_zero (inner base size l) 0) (inner_length l base size h)
+    ∙ any_same (λ k. some (get_or (inner base size l) (0 + k) 0)) (λ k. some (get_or l (base + k) 0)) size
+    (λ k m. let z : 0 + k ≡ k = omega arith in ap some (ap (λ (x : ℕ). get_or (inner base size l) x 0) z ∙ parts.part_at l base size k m))
+
+-- as the code lends it
+pub lent_zero : (l : List ℕ) (base size : ℕ) → base + size ≤ length l → not_zero (mid_of base (base + size - base) l) 0 (length (mid_of base (base + size - base) l)) ≡ not_zero l base size
+lent_zero l base size h =
+    let z : base + size - base ≡ size = add-sub_cancel_left base size in
+    ap (λ (k : ℕ). not_zero (mid_of base k l) 0 (length (mid_of base k l))) z ∙ part_zero l base size h
 
 turned : (a b c d e f g h i j k l m n o q : ℕ) → not_zero (a ∷ b ∷ c ∷ d ∷ e ∷ f ∷ g ∷ h ∷ i ∷ j ∷ k ∷ l ∷ m ∷ n ∷ o ∷ q ∷ []) 0 16 ≡ (some a || some b || some c || some d || some e || some f || some g || some h || some i || some j || some k || some l || some m || some n || some o || some q)
 unfolding any
@@ -293,18 +359,31 @@ module _ (p : Partition) (r : Bool) where
 
 -- ---- a shadow in groups of 32
 
-module _ (o : List ℕ) (tag : ℕ) (sh : List ℕ) where
-  abbrev wrong : ℕ → Bool
-  wrong px = entry_marked o tag (get_or sh px 0)
-
+module _ (o : List ℕ) (tag : ℕ) where
   empty_right : (e : ℕ) → not (eqb e 0) ≡ false → entry_marked o tag e ≡ false
   empty_right e z = subst (λ (x : ℕ). entry_marked o tag x ≡ false) (sym (eqb-true e 0 (not-false _ z))) refl
 
   -- no entry of an empty group is wrong
-  pub group_empty : (base : ℕ) → not_zero sh base 32 ≡ false → group_marked o tag sh base ≡ false
-  group_empty base e =
-      any_from (λ k. wrong (base + k)) 32
-      (λ k l. empty_right (get_or sh (base + k) 0) (any_none (λ j. not (eqb (get_or sh (base + j) 0) 0)) 32 e k l))
+  pub group_empty : (g : List ℕ) → not_zero g 0 (length g) ≡ false → any (λ k. entry_marked o tag (get_or g k 0)) (length g) ≡ false
+  group_empty g e =
+      any_from (λ k. entry_marked o tag (get_or g k 0)) (length g)
+      (λ k l.
+      let z : k ≡ 0 + k = omega arith in
+      empty_right (get_or g k 0) (ap (λ (x : ℕ). not (eqb (get_or g x 0) 0)) z ∙ any_none (λ j. not (eqb (get_or g (0 + j) 0) 0)) (length g) e k l))
+
+module _ (o : List ℕ) (tag : ℕ) (sh : List ℕ) where
+  abbrev wrong : ℕ → Bool
+  wrong px = entry_marked o tag (get_or sh px 0)
+
+  -- the group from base on, as the code lends it
+  pub group_is : (base : ℕ) (r : Bool) (g : List ℕ) → base + 32 ≤ length sh → g ≡ take (base + 32 - base) (drop base sh) → r ≡ any (λ k. entry_marked o tag (get_or g k 0)) (length g) → r ≡ group_marked o tag sh base
+  unfolding inner
+  group_is base r g h p e =
+      let is : g ≡ inner base 32 sh = p ∙ simp add-sub_cancel_left in
+      e
+      ∙ ap (λ (x : List ℕ). any (λ k. entry_marked o tag (get_or x k 0)) (length x)) is
+      ∙ ap (any (λ k. entry_marked o tag (get_or (inner base 32 sh) k 0))) (inner_length sh base 32 h)
+      ∙ any_same (λ k. entry_marked o tag (get_or (inner base 32 sh) k 0)) (λ k. wrong (base + k)) 32 (λ k l. ap (entry_marked o tag) (parts.part_at sh base 32 k l))
 
   pub group_found : (n base : ℕ) → base + 32 ≤ n → group_marked o tag sh base ≡ true → any wrong n ≡ true
   group_found n base l e =
@@ -332,8 +411,8 @@ module _ (l : List ℕ) (n : ℕ) where
   pub behind_none : length l ≤ n → any (behind l n) (length l) ≡ false
   behind_none h = any_from (behind l n) (length l) (λ j b. rw (lt-leb n j (omega (arith, h, b))))
 
-  pub behind_gathered : n < length l → not_zero l n (length l - n) ≡ any (behind l n) (length l)
-  behind_gathered h =
+  behind_rest : n < length l → not_zero l n (length l - n) ≡ any (behind l n) (length l)
+  behind_rest h =
       same_test (not_zero l n (length l - n)) (any (behind l n) (length l))
       (λ e.
       let r = any_at (λ k. not (eqb (get_or l (n + k) 0) 0)) (length l - n) e in
@@ -344,3 +423,6 @@ module _ (l : List ℕ) (n : ℕ) where
       let d : n + (r.0 - n) ≡ r.0 = omega (arith, m) in
       any_yes (λ k. not (eqb (get_or l (n + k) 0) 0)) (length l - n) (r.0 - n) (omega (arith, m, r.1))
       (subst (λ (x : ℕ). not (eqb (get_or l x 0) 0) ≡ true) (sym d) (and_right (leb n r.0) (not (eqb (get_or l r.0 0) 0)) r.2)))
+
+  pub behind_gathered : n < length l → not_zero (mid_of n (length l - n) l) 0 (length (mid_of n (length l - n) l)) ≡ any (behind l n) (length l)
+  behind_gathered h = part_zero l n (length l - n) (omega (arith, h)) ∙ behind_rest h

@@ -1,13 +1,12 @@
 -- Two texts compared.
-use mathlib.Core.Path.{◌≡◌, refl, ap}
+use mathlib.Core.Path.{◌≡◌, refl}
 use mathlib.Core.Bool.{Bool, true, false, ◌&&◌}
 use mathlib.Core.List.{List, [], ◌∷◌}
-use Prim.Native.Nat.{ℕ, suc, ◌+◌, ◌<◌, ◌≤◌}
-use native.Mathlib.Numerals.{add-one}
-use borrow.Author.Tests.{eq-eqb, ne_eqb, eqb-true}
+use Prim.Native.Nat.{ℕ}
+use borrow.Author.Tests.{eq-eqb, eqb-true}
 use lib.Dec.{eqb}
-use lib.ListN.{length, get_or, drop, drop_of_length-le}
-use lib.Seq.{drop-cons}
+use Rattle.std.proofs.Common.{nat_eq}
+use Rattle.std.specs.Cmp.Lexicographic.{pointwise}
 use Rattle.decimal.specs.Texts.{same}
 
 -- ---- what the test is worth
@@ -32,28 +31,11 @@ same_eq [] (y ∷ b) e = cc
 same_eq (x ∷ a) [] e = cc
 same_eq (x ∷ a) (y ∷ b) e = rw (eqb-true x y (and_left (eqb x y) (same a b) e), same_eq a b (and_right (eqb x y) (same a b) e))
 
--- ---- byte by byte
+-- ---- what slices' `==` says
 
-pub same_long : (xs ys : List ℕ) → (length xs ≡ length ys → ⊥) → false ≡ same xs ys
+pub same_slices : (xs ys : List ℕ) → pointwise nat_eq xs ys ≡ same xs ys
 unfolding same
-same_long [] [] n = absurd (n refl)
-same_long [] (y ∷ ys) n = refl
-same_long (x ∷ xs) [] n = refl
-same_long (x ∷ xs) (y ∷ ys) n = either (eqb x y) (same_long xs ys (λ e. n (ap suc e)))
-  where
-    either : (b : Bool) {c : Bool} → false ≡ c → false ≡ b && c
-    either true e = e
-    either false e = refl
-
--- from place i on they are as they were from the start
-pub same_on : (xs ys : List ℕ) (i : ℕ) → i < length xs → i < length ys → get_or xs i 0 ≡ get_or ys i 0 → same (drop i xs) (drop i ys) ≡ same (drop (i + 1) xs) (drop (i + 1) ys)
-unfolding same
-same_on xs ys i l k e = rw (drop-cons xs i 0 l, drop-cons ys i 0 k, add-one i, eq-eqb (get_or xs i 0) (get_or ys i 0) e)
-
-pub same_not : (xs ys : List ℕ) (i : ℕ) → i < length xs → i < length ys → (get_or xs i 0 ≡ get_or ys i 0 → ⊥) → same (drop i xs) (drop i ys) ≡ false
-unfolding same
-same_not xs ys i l k n = rw (drop-cons xs i 0 l, drop-cons ys i 0 k, ne_eqb (get_or xs i 0) (get_or ys i 0) n)
-
-pub same_done : (xs ys : List ℕ) (i : ℕ) → length xs ≤ i → length ys ≤ i → same (drop i xs) (drop i ys) ≡ true
-unfolding same
-same_done xs ys i l k = rw (drop_of_length-le xs l, drop_of_length-le ys k)
+same_slices [] [] = refl
+same_slices [] (y ∷ ys) = refl
+same_slices (x ∷ xs) [] = refl
+same_slices (x ∷ xs) (y ∷ ys) = rw (same_slices xs ys)

@@ -2,7 +2,7 @@
 use mathlib.Core.Path.{◌≡◌, refl, sym, ap, subst, ◌∙◌}
 use mathlib.Core.Bool.{Bool, true, false, cond}
 use mathlib.Core.List.{List, [], ◌∷◌, ◌++◌}
-use Prim.Native.Nat.{ℕ, suc, ◌+◌, ◌-◌, ◌*◌, ◌/◌, ◌^◌, ◌<◌, ◌≤◌}
+use Prim.Native.Nat.{ℕ, suc, ◌+◌, ◌-◌, ◌*◌, ◌/◌, ◌%◌, ◌^◌, ◌<◌, ◌≤◌}
 use native.Mathlib.Nat.{add-zero, mul-suc}
 use native.Mathlib.Numerals.{add-one}
 use native.Mathlib.Omega.{arith}
@@ -10,6 +10,8 @@ use borrow.Author.Tests.{lt-ltb, le-ltb}
 use lib.Dec.{ltb}
 use lib.ListN.{length, get_or, set, take, drop, length-append, length-set, drop_of_length-le}
 use lib.Seq.{drop-cons, sets, sets-eq}
+use Rattle.std.specs.Int.{to_le_bytes, w32}
+use Rattle.decimal.specs.Raw.{low_first}
 use Rattle.decimal.specs.Decimals.{digit, decimal, signed_text}
 use Rattle.decimal.specs.Texts.{joined, Text, text, put, Puts}
 use Rattle.decimal.proofs.Decimals.{by_test, one_digit, more_digits, few_digits}
@@ -137,6 +139,12 @@ signed_short w l =
 
 pub signed_puts : {out o : List ℕ} {at r : ℕ} (w : ℕ) → w < 2 ^ 32 → text o r ≡ put (text out at) (signed_text (2 ^ 32) w) → Puts out at o r (signed_text (2 ^ 32) w) 11
 signed_puts w l e = puts e (signed_short w l)
+
+-- ---- a word's bytes
+
+pub word_bytes : (w : ℕ) → w < 2 ^ 32 → to_le_bytes w32 w ≡ low_first w
+unfolding low_first
+word_bytes w l = let e : w / 2 ^ 24 % 256 ≡ w / 2 ^ 24 = omega arith in rw e
 
 -- ---- parts that a loop puts: before the first, with one part more, and all
 

@@ -11,17 +11,7 @@ ghost use Rattle.decimal.specs.Texts.{Puts, same, text, put};
 pub fn is(word: &[u8], this: &[u8]) -> bool
     ensures { result ≡ same word.now this.now }
 {
-    if word.len() != this.len() {
-        return false;
-    }
-    let mut i = 0;
-    while i < word.len() {
-        if word[i] != this[i] {
-            return false;
-        }
-        i += 1;
-    }
-    true
+    word == this
 }
 
 pub fn put_byte(out: &mut [u8], at: usize, b: u8) -> usize
@@ -29,9 +19,10 @@ pub fn put_byte(out: &mut [u8], at: usize, b: u8) -> usize
 {
     if at < out.len() {
         out[at] = b;
-        return at + 1;
+        at + 1
+    } else {
+        at
     }
-    at
 }
 
 // Bytes as they are.
@@ -39,10 +30,8 @@ pub fn put_text(out: &mut [u8], at: usize, more: &[u8]) -> usize
     ensures { text out.new result ≡ put (text out.old at) more.now }
 {
     let mut end = at;
-    let mut i = 0;
-    while i < more.len() {
-        end = put_byte(out, end, more[i]);
-        i += 1;
+    for b in more {
+        end = put_byte(out, end, *b);
     }
     end
 }
@@ -51,7 +40,7 @@ pub fn put_text(out: &mut [u8], at: usize, more: &[u8]) -> usize
 fn put_digit(out: &mut [u8], at: usize, n: u64) -> usize
     ensures { text out.new result ≡ put (text out.old at) (digit n ∷ []) }
 {
-    put_byte(out, at, 48 + (n % 10) as u8)
+    put_byte(out, at, b'0' + (n % 10) as u8)
 }
 
 // A number in decimals.
@@ -71,18 +60,16 @@ pub fn put_signed(out: &mut [u8], at: usize, size: u64, v: u64) -> usize
     ensures { text out.new result ≡ put (text out.old at) (signed_text size v) }
 {
     if v < size / 2 {
-        return put_decimal(out, at, v);
+        put_decimal(out, at, v)
+    } else {
+        let minus = put_byte(out, at, b'-');
+        put_decimal(out, minus, size - v)
     }
-    let digits = put_byte(out, at, 45);
-    put_decimal(out, digits, size - v)
 }
 
 // A word's four bytes, the lowest first.
 pub fn put_raw(out: &mut [u8], at: usize, w: u32) -> usize
     ensures { Puts out.old at out.new result (low_first w) 4 }
 {
-    let first = put_byte(out, at, (w % 0x100) as u8);
-    let second = put_byte(out, first, (w / 0x100 % 0x100) as u8);
-    let third = put_byte(out, second, (w / 0x1_0000 % 0x100) as u8);
-    put_byte(out, third, (w / 0x100_0000) as u8)
+    put_text(out, at, &w.to_le_bytes())
 }

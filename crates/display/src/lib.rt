@@ -10,7 +10,7 @@ ghost use Rattle.addresses.specs.Entries.{composition_of};
 pub extern "C" fn house_compose(entry: u32, pages: u32, access: u32) -> u32
     ensures { result ≡ composition_of entry pages access }
 {
-    translate::compose(entry, pages, access)
+    translate::compose(entry, pages, access).unwrap_or(u32::MAX)
 }
 
 // The level of a cause word, 32 for 0.

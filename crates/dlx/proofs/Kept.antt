@@ -1,4 +1,5 @@
 -- What a step keeps, over any memory that keeps something: every number a word, register 0 zero, MODE and EMODE below 2, 32 registers, the latest fault below 8.
+use Rattle.std.specs.Prelude.{Result, Ok, Err}
 use mathlib.Core.Path.{◌≡◌, refl, sym, ap}
 use mathlib.Core.Bool.{Bool, true, false, ◌&&◌}
 use mathlib.Core.List.{List, [], ◌∷◌}
@@ -27,8 +28,6 @@ use Rattle.dlx.specs.declared.instruction.Operation.{Operation}
 use Rattle.dlx.specs.declared.instruction.Operation.TheVariants.{Add, Sub, And, Or, Xor, Test}
 use Rattle.dlx.specs.declared.instruction.Instruction.{Instruction}
 use Rattle.dlx.specs.declared.instruction.Instruction.TheVariants.{LoadBy, StoreBy, Immediate, Lhgi, Beqz, Bnez, Jr, Jalr, J, Jal, Trap, Rfe, Register, Movs2i, Movi2s, Ill}
-use Rattle.dlx.specs.declared.execute.Access.{Access}
-use Rattle.dlx.specs.declared.execute.Access.TheVariants.{Fault, Word}
 use Rattle.dlx.specs.declared.execute.Change.{Change}
 use Rattle.dlx.specs.declared.execute.Change.TheVariants.{Plain, Special, Retable, Cause, Return}
 use Rattle.dlx.specs.declared.execute.Effect.{Effect}
@@ -166,9 +165,14 @@ KeptEffect (Store o a v) = (a < 2 ^ 32) × (aligned (width o) a ≡ true)
 KeptEffect (Send v to) = (v < 2 ^ 32) × (to < 2 ^ 32)
 KeptEffect Take = Unit
 
-abbrev pub KeptAccess : Access → Type 0
-KeptAccess (Fault n) = n < 8
-KeptAccess (Word w) = w < 2 ^ 32
+abbrev pub KeptAccess : Result ℕ ℕ → Type 0
+KeptAccess (Err n) = n < 8
+KeptAccess (Ok w) = w < 2 ^ 32
+
+-- and so of a write's answer
+abbrev pub KeptStore : Result (Unit {0}) ℕ → Type 0
+KeptStore (Err n) = n < 8
+KeptStore (Ok u) = Unit
 
 abbrev pub KeptRequest : Request → Type 0
 KeptRequest nothing = Unit
@@ -429,27 +433,28 @@ settled_kept c x h k =
 pub record Keeps {S : Type 0} (I : S → Type 0) (O : Ops S) : Type 0 where
   pub tables : (s : S) → I s → KeptTable (O.table s)
   pub reads : (s : S) → I s → (u : Bool) (a : ℕ) → KeptAccess (O.read s u a).0 × I (O.read s u a).1
-  pub writes : (s : S) → I s → (u : Bool) (a : ℕ) (f : ℕ → ℕ) → ((w : ℕ) → w < 2 ^ 32 → f w < 2 ^ 32) → ((O.write s u a f).0 < 8) × I (O.write s u a f).1
+  pub writes : (s : S) → I s → (u : Bool) (a : ℕ) (f : ℕ → ℕ) → ((w : ℕ) → w < 2 ^ 32 → f w < 2 ^ 32) → KeptStore (O.write s u a f).0 × I (O.write s u a f).1
   pub retables : (s : S) → I s → (t : Table) → KeptTable t → I (O.retable s t)
 
 module _ {S : Type 0} (I : S → Type 0) (O : Ops S) (K : Keeps I O) where
-  executed_kept : (c : Core) (t : Table) (x : Access) → Kept c → KeptTable t → KeptEffect (executed c t x)
+  executed_kept : (c : Core) (t : Table) (x : Result ℕ ℕ) → Kept c → KeptTable t → KeptEffect (executed c t x)
   unfolding executed
-  executed_kept c t (Fault n) h k = (omega arith, h.processor.dpc)
-  executed_kept c t (Word w) h k =
+  executed_kept c t (Err n) h k = (omega arith, h.processor.dpc)
+  executed_kept c t (Ok w) h k =
       effect_kept c.processor t c.timer c.registers h.processor k h.timer h.registers (instruction_of w) (instruction_formed w)
 
   failing_kept : (c : Core) (n : ℕ) → Kept c → n < 8 → Kept (failing c n)
   failing_kept c n h l = record { processor = h.processor; registers = h.registers; fault = l; timer = h.timer }
 
-  after_read_kept : (c : Core) (x : Access) → Kept c → KeptAccess x → Kept (after_read c x)
+  after_read_kept : (c : Core) (x : Result ℕ ℕ) → Kept c → KeptAccess x → Kept (after_read c x)
   unfolding after_read
-  after_read_kept c (Fault n) h k = failing_kept c n h k
-  after_read_kept c (Word w) h k = h
+  after_read_kept c (Err n) h k = failing_kept c n h k
+  after_read_kept c (Ok w) h k = h
 
-  after_write_kept : (c : Core) (n : ℕ) → Kept c → n < 8 → Kept (after_write c n)
+  after_write_kept : (c : Core) (x : Result (Unit {0}) ℕ) → Kept c → KeptStore x → Kept (after_write c x)
   unfolding after_write
-  after_write_kept c n h l = either Kept (eqb n 0) (λ _. h) (λ _. failing_kept c n h l)
+  after_write_kept c (Err n) h k = failing_kept c n h k
+  after_write_kept c (Ok u) h k = h
 
   abbrev KeptFetch : (Effect × Core) × S → Type 0
   KeptFetch f = KeptEffect f.0.0 × Kept f.0.1 × I f.1
@@ -462,15 +467,15 @@ module _ {S : Type 0} (I : S → Type 0) (O : Ops S) (K : Keeps I O) where
       (λ _. (executed_kept c (O.table s) _ h (K.tables s i), after_read_kept c _ h g.0, g.1))
       (λ _. ((omega arith, omega arith), h, i))
 
-  loaded_kept : (p : Processor) (d a o : ℕ) (x : Access) → d < 32 → a < 2 ^ 32 → KeptChange (loaded p d a o x)
+  loaded_kept : (p : Processor) (d a o : ℕ) (x : Result ℕ ℕ) → d < 32 → a < 2 ^ 32 → KeptChange (loaded p d a o x)
   unfolding loaded
-  loaded_kept p d a o (Fault n) l h = (omega arith, h)
-  loaded_kept p d a o (Word w) l h = (l, brought_word o a w, omega arith)
+  loaded_kept p d a o (Err n) l h = (omega arith, h)
+  loaded_kept p d a o (Ok w) l h = (l, brought_word o a w, omega arith)
 
-  stored_kept : (p : Processor) (a n : ℕ) → a < 2 ^ 32 → KeptChange (stored p a n)
+  stored_kept : (p : Processor) (a : ℕ) (x : Result (Unit {0}) ℕ) → a < 2 ^ 32 → KeptChange (stored p a x)
   unfolding stored
-  stored_kept p a n h =
-      either KeptChange (eqb n 0) (λ _. (omega arith, omega arith, omega arith)) (λ _. (omega arith, h))
+  stored_kept p a (Err n) h = (omega arith, h)
+  stored_kept p a (Ok u) h = (omega arith, omega arith, omega arith)
 
   received_kept : (y : Reply) → KeptReply y → (r : List ℕ) → Registers r → Registers (received r y)
   unfolding received

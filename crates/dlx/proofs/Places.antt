@@ -1,9 +1,10 @@
 -- What a step asks for and changes names registers that exist, and a step keeps the number of registers.
+use Rattle.std.specs.Prelude.{Result, Ok, Err}
 use mathlib.Core.Path.{◌≡◌, refl, ◌∙◌}
 use mathlib.Core.Bool.{true, ◌&&◌}
 use mathlib.Core.List.{List}
 use Prim.Native.Nat.{ℕ, ◌<◌}
-use Prim.{tt}
+use Prim.{Unit, tt}
 use native.Mathlib.Omega.{arith}
 use lib.Dec.{eqb}
 use lib.ListN.{length, set, length-set}
@@ -19,8 +20,6 @@ use Rattle.dlx.specs.declared.partition.Timer.{Timer}
 use Rattle.dlx.specs.declared.instruction.Operation.{Operation}
 use Rattle.dlx.specs.declared.instruction.Instruction.{Instruction}
 use Rattle.dlx.specs.declared.instruction.Instruction.TheVariants.{LoadBy, StoreBy, Immediate, Lhgi, Beqz, Bnez, Jr, Jalr, J, Jal, Trap, Rfe, Register, Movs2i, Movi2s, Ill}
-use Rattle.dlx.specs.declared.execute.Access.{Access}
-use Rattle.dlx.specs.declared.execute.Access.TheVariants.{Fault, Word}
 use Rattle.dlx.specs.declared.execute.Change.{Change}
 use Rattle.dlx.specs.declared.execute.Change.TheVariants.{Plain, Special, Retable, Cause, Return}
 use Rattle.dlx.specs.declared.execute.Effect.{Effect}
@@ -67,10 +66,10 @@ effect_places p t k r (Movs2i d n) f = system_places p _ f.0
 effect_places p t k r (Movi2s n s) f = system_places p _ (moved_places t n _)
 effect_places p t k r Ill f = omega arith
 
-executed_places : (c : Core) (t : Table) (x : Access) → Asks (executed c t x)
+executed_places : (c : Core) (t : Table) (x : Result ℕ ℕ) → Asks (executed c t x)
 unfolding executed
-executed_places c t (Fault n) = omega arith
-executed_places c t (Word w) = effect_places _ t _ _ (instruction_of w) (instruction_formed w)
+executed_places c t (Err n) = omega arith
+executed_places c t (Ok w) = effect_places _ t _ _ (instruction_of w) (instruction_formed w)
 
 module _ {S : Type 0} (O : Ops S) where
   pub fetched_places : (c : Core) (s : S) → Asks (fetched O (c, s)).0.0
@@ -85,10 +84,14 @@ module _ {S : Type 0} (O : Ops S) where
   accessed_places y c Take s h = omega arith
   accessed_places y c (Load d a o) s h = go (O.read s (user c.processor) a).0
     where
-      go : (x : Access) → Places (loaded c.processor d a o x)
-      go (Fault n) = omega arith
-      go (Word w) = h.0
-  accessed_places y c (Store o a v) s h = either Places (eqb (O.write s (user c.processor) a (placed o a v)).0 0) (λ _. omega arith) (λ _. omega arith)
+      go : (x : Result ℕ ℕ) → Places (loaded c.processor d a o x)
+      go (Err n) = omega arith
+      go (Ok w) = h.0
+  accessed_places y c (Store o a v) s h = go (O.write s (user c.processor) a (placed o a v)).0
+    where
+      go : (x : Result (Unit {0}) ℕ) → Places (stored c.processor a x)
+      go (Err n) = omega arith
+      go (Ok u) = omega arith
 
 -- ---- how many registers there are
 
@@ -112,10 +115,10 @@ settled_count : (c : Core) (x : Change) → length (settled c x).core.registers 
 unfolding settled
 settled_count c x = changed_count _ _ x
 
-after_read_count : (c : Core) (x : Access) → length (after_read c x).registers ≡ length c.registers
+after_read_count : (c : Core) (x : Result ℕ ℕ) → length (after_read c x).registers ≡ length c.registers
 unfolding after_read
-after_read_count c (Fault n) = refl
-after_read_count c (Word w) = refl
+after_read_count c (Err n) = refl
+after_read_count c (Ok w) = refl
 
 pub fetched_count : {S : Type 0} (O : Ops S) (c : Core) (s : S) → length (fetched O (c, s)).0.1.registers ≡ length c.registers
 unfolding fetched
@@ -127,11 +130,16 @@ unfolding received
 received_count r y =
     either (λ (l : List ℕ). length l ≡ length r) (eqb y.code 0) {x = written r 1 y.ticket} {y = r} (λ _. written_count r 1 y.ticket) (λ _. refl)
 
+after_write_count : (c : Core) (x : Result (Unit {0}) ℕ) → length (after_write c x).registers ≡ length c.registers
+unfolding after_write
+after_write_count c (Err n) = refl
+after_write_count c (Ok u) = refl
+
 pub accessed_count : {S : Type 0} (O : Ops S) (y : Reply) (c : Core) (e : Effect) (s : S) → length (accessed O y c e s).0.1.registers ≡ length c.registers
-unfolding accessed after_write
+unfolding accessed
 accessed_count O y c (Done x) s = refl
 accessed_count O y c (Load d a o) s = after_read_count c _
-accessed_count O y c (Store o a v) s = either (λ (x : Core). length x.registers ≡ length c.registers) (eqb (O.write s (user c.processor) a (placed o a v)).0 0) (λ _. refl) (λ _. refl)
+accessed_count O y c (Store o a v) s = after_write_count c _
 accessed_count O y c (Send v to) s = refl
 accessed_count O y c Take s = received_count c.registers y
 

@@ -1,4 +1,6 @@
 -- A stretch is its first spell, and what is behind it.
+use Prim.{Unit}
+use Rattle.std.specs.Prelude.{Result, Ok, Err}
 use mathlib.Core.Path.{◌≡◌, refl, sym, ap, subst, ◌∙◌}
 use mathlib.Core.Bool.{Bool, true, false}
 use Prim.Native.Nat.{ℕ, zero, suc, ◌+◌, ◌-◌, ◌<◌, ◌≤◌}
@@ -14,8 +16,6 @@ use Rattle.dlx.specs.Timer.{ticked, raised}
 use Rattle.dlx.specs.Machine.{Ops, Core, Outcome, outcome, after_read, after_write, fetched, accessed, left, changed, settled, retabled, step, request_of, asked, Desk, Stretch, stretch_from, Places}
 use Rattle.dlx.specs.Spells.{sunk, timed, plainly, passed, ended, Spell, spell, passed_at, spell_from, leg_at}
 use Rattle.dlx.specs.declared.partition.Timer.{Timer}
-use Rattle.dlx.specs.declared.execute.Access.{Access}
-use Rattle.dlx.specs.declared.execute.Access.TheVariants.{Fault, Word}
 use Rattle.dlx.specs.declared.execute.Change.{Change}
 use Rattle.dlx.specs.declared.execute.Change.TheVariants.{Plain, Special, Retable, Cause, Return}
 use Rattle.dlx.specs.declared.execute.Effect.{Effect}
@@ -30,10 +30,15 @@ Within k n = 0 < k.tcount → n ≤ k.tcount
 
 -- ---- fetch and access leave the timer alone
 
-after_read_timer : (c : Core) (x : Access) → (after_read c x).timer ≡ c.timer
+after_read_timer : (c : Core) (x : Result ℕ ℕ) → (after_read c x).timer ≡ c.timer
 unfolding after_read
-after_read_timer c (Fault n) = refl
-after_read_timer c (Word w) = refl
+after_read_timer c (Err n) = refl
+after_read_timer c (Ok w) = refl
+
+after_write_timer : (c : Core) (x : Result (Unit {0}) ℕ) → (after_write c x).timer ≡ c.timer
+unfolding after_write
+after_write_timer c (Err n) = refl
+after_write_timer c (Ok u) = refl
 
 module _ {S : Type 0} (O : Ops S) where
   fetched_timer : (c : Core) (s : S) → (fetched O (c, s)).0.1.timer ≡ c.timer
@@ -42,10 +47,10 @@ module _ {S : Type 0} (O : Ops S) where
       either (λ (g : (Effect × Core) × S). g.0.1.timer ≡ c.timer) (aligned 32 c.processor.dpc) (λ _. after_read_timer c _) (λ _. refl)
 
   accessed_timer : (y : Reply) (c : Core) (e : Effect) (s : S) → (accessed O y c e s).0.1.timer ≡ c.timer
-  unfolding accessed after_write
+  unfolding accessed
   accessed_timer y c (Done x) s = refl
   accessed_timer y c (Load d a o) s = after_read_timer c _
-  accessed_timer y c (Store o a v) s = either (λ (x : Core). x.timer ≡ c.timer) (eqb (O.write s (user c.processor) a (placed o a v)).0 0) (λ _. refl) (λ _. refl)
+  accessed_timer y c (Store o a v) s = after_write_timer c _
   accessed_timer y c (Send v to) s = refl
   accessed_timer y c Take s = refl
 

@@ -1,12 +1,12 @@
 -- Worked examples, as one list that proofs/Checked.antt checks by a single claim: first the request's own that need no house, then rows for every line of the rules' tables.
-use Rattle.std.specs.Prelude.{Bool, true, false, not, ◌&&◌, List, [], ◌∷◌, ◌++◌, ℕ, ◌+◌, ◌-◌, ◌*◌, ◌/◌, ◌^◌, ltb, eqb, length, get_or, set, replicate}
+use Prim.{tt}
+use Rattle.std.specs.Prelude.{Bool, true, false, not, ◌&&◌, List, [], ◌∷◌, ◌++◌, ℕ, ◌+◌, ◌-◌, ◌*◌, ◌/◌, ◌^◌, ltb, eqb, length, get_or, set, replicate, Ok, Err}
 use mir.Val.{bool_byte}
 use Rattle.dlx.specs.Choice.{when◌then◌else◌}
 use Rattle.dlx.specs.Processor.{fresh_processor, no_timer, fresh_of, with_special}
 use Rattle.dlx.specs.Interrupts.{level_of}
 use Rattle.dlx.specs.Execute.{reg}
 use Rattle.dlx.specs.Machine.{Ops, Core, core, Outcome, Request, nothing, sends, takes, asked, reply, Desk, step, steps, Stretch, stretch_from}
-use Rattle.dlx.specs.declared.execute.Access.TheVariants.{Fault, Word}
 use Rattle.dlx.specs.declared.execute.Reply.{Reply}
 use Rattle.dlx.specs.declared.partition.Table.{Table}
 use Rattle.dlx.specs.declared.partition.Processor.{Processor}
@@ -24,8 +24,8 @@ inside s a = ltb (a / 4) (length s.words)
 abbrev flat : Ops Flat
 flat = record {
   table = λ s. s.table;
-  read = λ s u a. (when inside s a then Word (get_or s.words (a / 4) 0) else Fault 5, s);
-  write = λ s u a f. (when inside s a then 0 else 6, record { table = s.table; words = set s.words (a / 4) (f (get_or s.words (a / 4) 0)) });
+  read = λ s u a. (when inside s a then Ok (get_or s.words (a / 4) 0) else Err 5, s);
+  write = λ s u a f. (when inside s a then Ok tt else Err 6, record { table = s.table; words = set s.words (a / 4) (f (get_or s.words (a / 4) 0)) });
   retable = λ s t. record { table = t; words = s.words };
 }
 
@@ -148,8 +148,8 @@ noted s ws n = record { table = s.table; words = ws; seen = n ∷ s.seen }
 abbrev watched : Ops Watched
 watched = record {
   table = λ s. s.table;
-  read = λ s u a. (when within s a then Word (get_or s.words (a / 4) 0) else Fault 5, noted s s.words (a + bool_byte u));
-  write = λ s u a f. (when within s a then 0 else 6, noted s (set s.words (a / 4) (f (get_or s.words (a / 4) 0))) (a + 2 + bool_byte u));
+  read = λ s u a. (when within s a then Ok (get_or s.words (a / 4) 0) else Err 5, noted s s.words (a + bool_byte u));
+  write = λ s u a f. (when within s a then Ok tt else Err 6, noted s (set s.words (a / 4) (f (get_or s.words (a / 4) 0))) (a + 2 + bool_byte u));
   retable = λ s t. record { table = t; words = s.words; seen = 1 ∷ s.seen };
 }
 

@@ -1,5 +1,5 @@
 -- The memory that a guest sees, and one step over any such memory: fetch, execute, data access, then emptying.
-use Rattle.std.specs.Prelude.{◌≡◌, Bool, true, false, not, ◌&&◌, List, ℕ, zero, suc, ◌+◌, ◌^◌, ◌<◌, eqb}
+use Rattle.std.specs.Prelude.{◌≡◌, Bool, true, false, not, ◌&&◌, List, ℕ, zero, suc, ◌+◌, ◌^◌, ◌<◌, eqb, Result, Ok, Err}
 use Prim.{Unit}
 use Rattle.dlx.specs.Choice.{when◌then◌else◌}
 use Rattle.dlx.specs.Fields.{aligned, loading, storing, width, brought, placed}
@@ -13,8 +13,6 @@ use Rattle.dlx.specs.declared.partition.Processor.{Processor}
 use Rattle.dlx.specs.declared.partition.Timer.{Timer}
 use Rattle.dlx.specs.declared.execute.Change.{Change}
 use Rattle.dlx.specs.declared.execute.Change.TheVariants.{Plain, Special, Retable, Cause, Return}
-use Rattle.dlx.specs.declared.execute.Access.{Access}
-use Rattle.dlx.specs.declared.execute.Access.TheVariants.{Fault, Word}
 use Rattle.dlx.specs.declared.execute.Effect.{Effect}
 use Rattle.dlx.specs.declared.execute.Effect.TheVariants.{Done, Load, Store, Send, Take}
 use Rattle.dlx.specs.declared.execute.Reply.{Reply}
@@ -22,12 +20,12 @@ use Rattle.dlx.specs.declared.execute.Reply.{Reply}
 -- ---- the memory
 
 -- A memory with states S. An access says whether it is made in user mode, and names the word by any byte address in it. It may change the
--- state (a shadow is filled). A read answers the word, or the number of the translation's fault; a write takes an update of the word, and answers 0 where it
--- is made, else that number. `retable` changes PTO and PTL.
+-- state (a shadow is filled). A read answers the word, or the number of the translation's fault; a write takes an update of the word, and answers that it is
+-- made, or that number. `retable` changes PTO and PTL.
 pub record Ops (S : Type 0) : Type 0 where
   pub table : S → Table
-  pub read : S → Bool → ℕ → Access × S
-  pub write : S → Bool → ℕ → (ℕ → ℕ) → ℕ × S
+  pub read : S → Bool → ℕ → Result ℕ ℕ × S
+  pub write : S → Bool → ℕ → (ℕ → ℕ) → Result (Unit {0}) ℕ × S
   pub retable : S → Table → S
 
 -- ---- what a guest is beside its memory, and what a step makes of it
@@ -52,20 +50,21 @@ outcome c b = record { core = c; calls = b }
 
 -- ---- the step
 
-unfoldable pub executed : Core → Table → Access → Effect
-executed c t (Fault n) = Done (Cause pff c.processor.dpc)
-executed c t (Word w) = effect_of c.processor t c.timer c.registers (instruction_of w)
+unfoldable pub executed : Core → Table → Result ℕ ℕ → Effect
+executed c t (Err n) = Done (Cause pff c.processor.dpc)
+executed c t (Ok w) = effect_of c.processor t c.timer c.registers (instruction_of w)
 
 -- the core after an access that was answered so: a fault is its latest, and only a fault changes that
 abbrev pub failing : Core → ℕ → Core
 failing c n = core c.processor c.registers n c.timer
 
-unfoldable pub after_read : Core → Access → Core
-after_read c (Fault n) = failing c n
-after_read c (Word w) = c
+unfoldable pub after_read : Core → Result ℕ ℕ → Core
+after_read c (Err n) = failing c n
+after_read c (Ok w) = c
 
-unfoldable pub after_write : Core → ℕ → Core
-after_write c n = when eqb n 0 then c else failing c n
+unfoldable pub after_write : Core → Result (Unit {0}) ℕ → Core
+after_write c (Err n) = failing c n
+after_write c (Ok u) = c
 
 -- the fetch at DPC, and what its word asks for
 unfoldable pub fetched : {S : Type 0} → Ops S → Core × S → (Effect × Core) × S
@@ -74,12 +73,13 @@ fetched O m =
     let g = O.read m.1 (user p) p.dpc in
     when aligned 32 p.dpc then ((executed m.0 (O.table m.1) g.0, after_read m.0 g.0), g.1) else ((Done (Cause mal 0), m.0), m.1)
 
-unfoldable pub loaded : Processor → ℕ → ℕ → ℕ → Access → Change
-loaded p d a o (Fault n) = Cause pfls a
-loaded p d a o (Word w) = Plain d (brought o a w) (behind p)
+unfoldable pub loaded : Processor → ℕ → ℕ → ℕ → Result ℕ ℕ → Change
+loaded p d a o (Err n) = Cause pfls a
+loaded p d a o (Ok w) = Plain d (brought o a w) (behind p)
 
-unfoldable pub stored : Processor → ℕ → ℕ → Change
-stored p a n = when eqb n 0 then Plain 0 0 (behind p) else Cause pfls a
+unfoldable pub stored : Processor → ℕ → Result (Unit {0}) ℕ → Change
+stored p a (Err n) = Cause pfls a
+stored p a (Ok u) = Plain 0 0 (behind p)
 
 -- a ticket taken goes to register 1; on any other answer register 1 stays
 unfoldable pub received : List ℕ → Reply → List ℕ

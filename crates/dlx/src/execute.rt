@@ -34,13 +34,6 @@ pub struct Reply {
     pub ticket: u32,
 }
 
-// What reading a word at an address gives: the number of the translation's fault, or the word.
-#[derive(Clone, Copy)]
-pub enum Access {
-    Fault(u32),
-    Word(u32),
-}
-
 // A step's processor and timer, and whether the guest calls the hypervisor: a trap taken in system mode.
 #[derive(Clone, Copy)]
 pub struct Settled {

@@ -16,6 +16,7 @@ use Rattle.house.proofs.Refusals.{not_0}
 use Rattle.house.specs.Lists.{list_from}
 use Rattle.house.proofs.Lists.ByRule.{length_list_from}
 use Rattle.drill_script.specs.declared.commands.Command.{Command}
+use Rattle.drill_script.specs.Commands.{number_of}
 use Rattle.drill_script.specs.Words.{marked_of}
 use Rattle.drill_text.specs.Lines.{stale_of}
 use Rattle.staleness.specs.Audit.{finding, found, audit_call}
@@ -80,11 +81,11 @@ pair_is (Some s) None P e f = elim e [ ]
 pair_is (Some s) (Some p) P e f = ap (λ (x : ℕ × ℕ). Some x) (f s p e)
 
 module _ {s t : List ℕ} {u v : ℕ} (c : Command) (h : House) (m : List ℕ) where
-  pub audit_refused : (r : Refusal) → finding (refusal r).number false 0 0 ≡ audit_call (world h m) → Puts s u t v (told_of c.op (refusal r).number 0 h m) most_told → Puts s u t v (audit_text_of c h m) most_read
+  pub audit_refused : (r : Refusal) → finding (refusal r).number false 0 0 ≡ audit_call (world h m) → Puts s u t v (told_of (number_of c.op) (refusal r).number 0 h m) most_told → Puts s u t v (audit_text_of c h m) most_read
   unfolding audit_text_of
-  audit_refused r e p = rw (← e, not_0 r, append-nil (told_of c.op (refusal r).number 0 h m)) (roomy most_read p (omega arith))
+  audit_refused r e p = rw (← e, not_0 r, append-nil (told_of (number_of c.op) (refusal r).number 0 h m)) (roomy most_read p (omega arith))
 
-  pub audit_told : {x : List ℕ} {w : ℕ} (first : Option Stale) → found first ≡ audit_call (world h m) → Puts s u t v (told_of c.op 0 0 h m) most_told → Puts t v x w (stale_of (pair_of first)) 48
+  pub audit_told : {x : List ℕ} {w : ℕ} (first : Option Stale) → found first ≡ audit_call (world h m) → Puts s u t v (told_of (number_of c.op) 0 0 h m) most_told → Puts t v x w (stale_of (pair_of first)) 48
       → Puts s u x w (audit_text_of c h m) most_read
   unfolding audit_text_of
   audit_told None e p q = rw (← e) (roomy most_read (p then q) (omega arith))

@@ -1,20 +1,25 @@
 -- What holds of the reading between two commands, and what a right command says of itself.
-use Rattle.std.specs.Prelude.{◌≡◌, ℕ, ◌+◌, ◌*◌, ◌<◌, ◌≤◌}
+use Rattle.std.specs.Prelude.{◌≡◌, ℕ, ◌+◌, ◌*◌, ◌≤◌, Option, None, Some, IfSome}
 use Rattle.drill.specs.declared.reading.Reading.{Reading}
 use Rattle.drill_script.specs.declared.commands.Command.{Command}
 use Rattle.drill_script.specs.Commands.{size_of}
 
+-- the bytes of a command, where there is one
+abbrev pub size_in : Option Command → ℕ
+size_in None = 0
+size_in (Some c) = c.size
+
 -- the command stands in the input's bytes, with its size; so many words are lent
 pub record Stands (r : Reading) (bytes lent : ℕ) : Type 0 where
-  pub inside : r.at + r.command.size ≤ r.end
+  pub inside : r.at + size_in r.command ≤ r.end
   pub held : r.end ≤ bytes
-  pub sized : r.command.size ≡ size_of r.command.op r.command.a r.command.c
+  pub sized : IfSome r.command (λ c. size_of c.op c.a c.c ≡ Some c.size)
   pub lends : r.lent ≡ lent
 
--- a right command, and its lent words are in the memory
-pub record Plays (r : Reading) (bytes words : ℕ) : Type 0 where
+-- the command, and its lent words are in the memory
+pub record Plays (r : Reading) (c : Command) (bytes words : ℕ) : Type 0 where
   pub stands : Stands r bytes r.lent
-  pub right : 0 < r.command.size
+  pub right : r.command ≡ Some c
   pub lent : r.lent ≤ words
 
 -- a boot's page counts and frame numbers are few, and stand in the bytes behind its four words

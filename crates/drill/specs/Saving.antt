@@ -7,6 +7,9 @@ use Rattle.house.specs.Turns.{world}
 use Rattle.save.specs.Reading.{Progress, Reading, reading, begun, over}
 use Rattle.save.specs.Calls.{Written, save_call, read_piece, finished}
 use Rattle.drill_script.specs.declared.commands.Command.{Command}
+use Rattle.drill_script.specs.declared.commands.Op.{Op}
+use Rattle.drill_script.specs.declared.commands.Op.TheVariants.{Clear, Save, Piece}
+use Rattle.drill_script.specs.Commands.{◌is◌, number_of}
 use Rattle.drill_text.specs.Lines.{written_of}
 use Rattle.drill.specs.Told.{told_of}
 
@@ -21,7 +24,7 @@ saved_of c h m bytes = save_call (world h m) (c.a + c.b * 4294967296) (marked_by
 unfoldable pub save_text_of : Command → House → List ℕ → ℕ → List ℕ
 save_text_of c h m bytes =
     let w = saved_of c h m bytes in
-    told_of c.op w.verdict.number w.verdict.detail w.house m ++ written_of w.count w.output
+    told_of (number_of c.op) w.verdict.number w.verdict.detail w.house m ++ written_of w.count w.output
 
 -- ---- a piece, with the refusal so far
 
@@ -38,18 +41,18 @@ detail_of p = when p.refusal == 17 then p.start else 0
 unfoldable pub piece_text_of : Command → List ℕ → House → Reading → List ℕ → List ℕ
 piece_text_of c more h s m =
     let p = (piece_of c more s m).progress in
-    told_of c.op p.refusal (detail_of p) h p.memory
+    told_of (number_of c.op) p.refusal (detail_of p) h p.memory
 
 -- ---- the end of a reading
 
 unfoldable pub finish_text_of : Command → Reading → List ℕ → List ℕ
 finish_text_of c s m =
     let a = finished s in
-    told_of c.op a.verdict.number a.verdict.detail a.world.house m
+    told_of (number_of c.op) a.verdict.number a.verdict.detail a.world.house m
 
 -- after another command of the house: clear makes everything as at first
-unfoldable pub cleared_by : ℕ → Reading → Reading
-cleared_by op s = when op == 11 then begun [] else s
+unfoldable pub cleared_by : Op → Reading → Reading
+cleared_by op s = when op is Clear then begun [] else s
 
 -- ---- all three
 
@@ -68,13 +71,13 @@ keeps h m s = record { house = h; memory = m; reading = s }
 unfoldable pub kept_of : Command → List ℕ → ℕ → Keeps → Keeps
 kept_of c more lent k =
     let s = piece_of c more k.reading (take lent k.memory) in
-    when c.op == 14 then k
-    else when c.op == 15 then keeps k.house (s.progress.memory ++ drop lent k.memory) (apart s)
+    when c.op is Save then k
+    else when c.op is Piece then keeps k.house (s.progress.memory ++ drop lent k.memory) (apart s)
     else keeps (finished k.reading).world.house k.memory (begun [])
 
 unfoldable pub saving_text_of : Command → List ℕ → ℕ → Keeps → List ℕ
 saving_text_of c more lent k =
     let m = take lent k.memory in
-    when c.op == 14 then save_text_of c k.house m c.c
-    else when c.op == 15 then piece_text_of c more k.house k.reading m
+    when c.op is Save then save_text_of c k.house m c.c
+    else when c.op is Piece then piece_text_of c more k.house k.reading m
     else finish_text_of c k.reading m

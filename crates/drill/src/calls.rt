@@ -12,7 +12,7 @@ use crate::reading::Reading;
 use crate::told;
 use boot::boot;
 use dlx::words::wide;
-use drill_script::commands::Command;
+use drill_script::commands::{Command, Op};
 use drill_script::poke::poke;
 use drill_script::words;
 use drill_text::{ROOM, lines};
@@ -57,27 +57,26 @@ fn called(
     pages: &mut [u32; 16],
     frames: &mut [u32],
 ) -> Answer
-    requires fact_1 { (c.op ≡ 1 → Boots c (length more.now)) }
+    requires fact_1 { (c.op ≡ Op.Boot → Boots c (length more.now)) }
     requires fact_2 { 4096 ≤ length frames.old }
     ensures { answer_of (given_of c.op h) result memory.new ≡ called_of c more.now h memory.old }
 {
-    let op = c.op;
-    match op {
-        1 => booted(c, more, memory, pages, frames),
-        2 => calls::run(h, memory, c.a),
-        3 => calls::start(h, c.a),
-        4 => calls::stop(h, c.a),
-        13 => staleness::mend(h, memory),
-        17 => unshadowed_run::run(h, memory, c.a),
+    match c.op {
+        Op::Boot => booted(c, more, memory, pages, frames),
+        Op::Run => calls::run(h, memory, c.a),
+        Op::Start => calls::start(h, c.a),
+        Op::Stop => calls::stop(h, c.a),
+        Op::Mend => staleness::mend(h, memory),
+        Op::Unshadowed => unshadowed_run::run(h, memory, c.a),
         _ => calls::empty(h, c.a),
     }
 }
 
 // The house that it is given, which a refused one leaves: a boot is given none.
-fn given(h: House, op: u32) -> House
+fn given(h: House, op: Op) -> House
     ensures { result ≡ given_of op h }
 {
-    if op == 1 { House::none() } else { h }
+    if op == Op::Boot { House::none() } else { h }
 }
 
 // A read-out: the two halves of the count stand behind the command's four words.
@@ -106,7 +105,7 @@ fn call(
     text: &mut [u8; ROOM],
     used: usize,
 ) -> AfterCall
-    requires fact_1 { (c.op ≡ 1 → Boots c (length more.now)) }
+    requires fact_1 { (c.op ≡ Op.Boot → Boots c (length more.now)) }
     requires fact_2 { 4096 ≤ length frames.old }
     ensures { (world result.house memory.new ≡ (called_of c more.now h memory.old).world) × Puts text.old used text.new result.used (call_text_of c more.now h memory.old) most_told }
 {
@@ -160,32 +159,35 @@ fn made(
     text: &mut [u8; ROOM],
     used: usize,
 ) -> AfterCall
-    requires fact_1 { (c.op ≡ 6 → (c.c ≤ 4096) × (8 ≤ length more.now)) }
-    requires fact_2 { (c.op ≡ 1 → Boots c (length more.now)) }
+    requires fact_1 { (c.op ≡ Op.ReadOut → (c.c ≤ 4096) × (8 ≤ length more.now)) }
+    requires fact_2 { (c.op ≡ Op.Boot → Boots c (length more.now)) }
     requires fact_3 { 4096 ≤ length many.old }
     ensures { (world result.house memory.new ≡ made_of c more.now h memory.old) × Puts text.old used text.new result.used (made_text_of c more.now h memory.old) most_read }
 {
-    if c.op == 6 {
-        let n = wide(c.c);
-        let end = read(h, c, more, memory, &mut many[..n], text, used);
-        return AfterCall {
-            house: h,
-            used: end,
-        };
+    match c.op {
+        Op::ReadOut => {
+            let n = wide(c.c);
+            let end = read(h, c, more, memory, &mut many[..n], text, used);
+            AfterCall {
+                house: h,
+                used: end,
+            }
+        }
+        Op::Audit => {
+            let end = audit(h, c, memory, text, used);
+            AfterCall {
+                house: h,
+                used: end,
+            }
+        }
+        _ => call(h, c, more, memory, few, many, text, used),
     }
-    if c.op == 12 {
-        let end = audit(h, c, memory, text, used);
-        return AfterCall {
-            house: h,
-            used: end,
-        };
-    }
-    call(h, c, more, memory, few, many, text, used)
 }
 
 // A command of the house. The two spaces are for a boot's page counts, and for its frame numbers or a read-out's output.
 pub fn play(
     h: House,
+    c: Command,
     r: Reading,
     input: &[u8],
     memory: &mut [u32],
@@ -194,40 +196,41 @@ pub fn play(
     text: &mut [u8; ROOM],
     used: usize,
 ) -> Played
-    requires { Plays r (length input.now) (length memory.old) }
-    ensures { (record { house = result.house; memory = memory.new; lent = result.lent } ≡ played_of r.command (more_of r input.now) (record { house = h; memory = memory.old; lent = r.lent })) × Puts text.old used text.new result.used (text_of r.command (more_of r input.now) (record { house = h; memory = memory.old; lent = r.lent })) most_read }
+    requires { Plays r c (length input.now) (length memory.old) }
+    ensures { (record { house = result.house; memory = memory.new; lent = result.lent } ≡ played_of c (more_of r c input.now) (record { house = h; memory = memory.old; lent = r.lent })) × Puts text.old used text.new result.used (text_of c (more_of r c input.now) (record { house = h; memory = memory.old; lent = r.lent })) most_read }
 {
-    let c = r.command;
     let lent = r.lent;
-    if c.op == 9 {
-        let house = poke(h, c.a, c.b);
-        return Played { house, lent, used };
-    }
-    if c.op == 11 {
-        words::fill(memory, 0, u32::MAX, 0);
-        let house = House::none();
-        return Played {
-            house,
-            lent: 0,
-            used,
-        };
-    }
-    let from = r.at + 16;
-    let end = r.at + c.size;
-    let d = made(
-        h,
-        c,
-        &input[from..end],
-        &mut memory[..lent],
-        few,
-        many,
-        text,
-        used,
-    );
-    let house = d.house;
-    Played {
-        house,
-        lent,
-        used: d.used,
+    match c.op {
+        Op::PokeHouse => {
+            let house = poke(h, c.a, c.b);
+            Played { house, lent, used }
+        }
+        Op::Clear => {
+            words::fill(memory, 0, u32::MAX, 0);
+            Played {
+                house: House::none(),
+                lent: 0,
+                used,
+            }
+        }
+        _ => {
+            let from = r.at + 16;
+            let end = r.at + c.size;
+            let d = made(
+                h,
+                c,
+                &input[from..end],
+                &mut memory[..lent],
+                few,
+                many,
+                text,
+                used,
+            );
+            Played {
+                house: d.house,
+                lent,
+                used: d.used,
+            }
+        }
     }
 }

@@ -11,6 +11,7 @@ ghost use Rattle.std.specs.Prelude.{◌≡◌, ◌<◌, ◌≤◌, length};
 ghost use Rattle.drill.specs.Goes.{Goes};
 
 use command::{asks_help, fail, wrong};
+use drill_script::commands::{Command, Op};
 use drill_text::ROOM;
 use files::{Source, print};
 use house::House;
@@ -37,6 +38,7 @@ fn save_turn(
     rt: &HostRuntime,
     source: &mut Source,
     s: State,
+    c: Command,
     input: &mut [u8],
     memory: &mut [u32],
     held: &mut [u8; 4106],
@@ -44,7 +46,7 @@ fn save_turn(
     text: &mut [u8; ROOM],
 ) -> State
     requires fact_1 { Goes s (length input.old) (length memory.old) }
-    requires fact_2 { 0 < s.reading.command.size }
+    requires fact_2 { s.reading.command ≡ Some c }
     requires fact_3 { 70000 ≤ length output.old }
     ensures { Goes result (length input.old) (length memory.old) }
 {
@@ -53,6 +55,7 @@ fn save_turn(
     let p = saving::play(
         s.house,
         s.restoring,
+        c,
         here,
         input,
         memory,
@@ -62,11 +65,9 @@ fn save_turn(
         used,
     );
     let reached = reading::settle(source, input, memory, here, here.lent);
-    let house = p.house;
-    let restoring = p.restoring;
     State {
-        house,
-        restoring,
+        house: p.house,
+        restoring: p.restoring,
         reading: reached,
         used: p.used,
     }
@@ -77,6 +78,7 @@ fn call_turn(
     rt: &HostRuntime,
     source: &mut Source,
     s: State,
+    c: Command,
     input: &mut [u8],
     memory: &mut [u32],
     few: &mut [u32; 16],
@@ -84,19 +86,16 @@ fn call_turn(
     text: &mut [u8; ROOM],
 ) -> State
     requires fact_1 { Goes s (length input.old) (length memory.old) }
-    requires fact_2 { 0 < s.reading.command.size }
+    requires fact_2 { s.reading.command ≡ Some c }
     ensures { Goes result (length input.old) (length memory.old) }
 {
     let used = told::flushed(rt, text, s.used);
     let here = s.reading;
-    let p = calls::play(s.house, here, input, memory, few, many, text, used);
+    let p = calls::play(s.house, c, here, input, memory, few, many, text, used);
     let reached = reading::settle(source, input, memory, here, p.lent);
-    let c = here.command;
-    let restoring = saving::cleared(c.op, s.restoring);
-    let house = p.house;
     State {
-        house,
-        restoring,
+        house: p.house,
+        restoring: saving::cleared(c.op, s.restoring),
         reading: reached,
         used: p.used,
     }
@@ -107,6 +106,7 @@ fn turn(
     rt: &HostRuntime,
     source: &mut Source,
     s: State,
+    c: Command,
     input: &mut [u8],
     memory: &mut [u32],
     few: &mut [u32; 16],
@@ -116,15 +116,15 @@ fn turn(
     text: &mut [u8; ROOM],
 ) -> State
     requires fact_1 { Goes s (length input.old) (length memory.old) }
-    requires fact_2 { 0 < s.reading.command.size }
+    requires fact_2 { s.reading.command ≡ Some c }
     ensures { Goes result (length input.old) (length memory.old) }
 {
-    let here = s.reading;
-    let c = here.command;
-    if (c.op > 13) & (c.op < 17) {
-        return save_turn(rt, source, s, input, memory, held, output, text);
+    match c.op {
+        Op::Save | Op::Piece | Op::Finish => {
+            save_turn(rt, source, s, c, input, memory, held, output, text)
+        }
+        _ => call_turn(rt, source, s, c, input, memory, few, many, text),
     }
-    call_turn(rt, source, s, input, memory, few, many, text)
 }
 
 // Plays to the end of the script or to a wrong command. No script has so many turns that the count would end them.
@@ -140,22 +140,21 @@ fn play(
     text: &mut [u8; ROOM],
 ) {
     let reached = reading::first(source, input, memory);
-    let none = House::none();
-    let restoring = restore::reading::begin();
     let mut s = State {
-        house: none,
-        restoring,
+        house: House::none(),
+        restoring: restore::reading::begin(),
         reading: reached,
         used: 0,
     };
     for _ in 0..u64::MAX {
         let here = s.reading;
-        let c = here.command;
-        if c.size == 0 {
+        let Some(c) = here.command else {
             told::finish(rt, text, s.used, here.at, here.end, here.offset);
             return;
-        }
-        s = turn(rt, source, s, input, memory, few, many, held, output, text);
+        };
+        s = turn(
+            rt, source, s, c, input, memory, few, many, held, output, text,
+        );
     }
 }
 

@@ -4,33 +4,22 @@ ghost use Rattle.drill.specs.Fit.{Stands};
 ghost use Rattle.drill.specs.Player.{lent_of, changed_of};
 
 use dlx::words::wide;
-use drill_script::commands::Command;
+use drill_script::commands::{Command, Op};
 use drill_script::{commands, words};
 use files::Source;
 
 // The bytes of the longest command.
 const MOST_COMMAND: usize = 16464;
 
-// The unread bytes stand in the input from `at` to `end`; `ended` says that there are no more behind them. The command at `at` has
-// this offset in the script, and so many words are lent.
+// The unread bytes stand in the input from `at` to `end`; there are no more behind them where `end` is not the input's. What is at `at`, a command if it is
+// right, has this offset in the script, and so many words are lent.
 #[derive(Clone, Copy)]
 pub struct Reading {
     pub at: usize,
     pub end: usize,
-    pub ended: bool,
     pub offset: u64,
     pub lent: usize,
-    pub command: Command,
-}
-
-// The bytes from `at` to `end` to the front. Gives how many they are.
-fn shift(input: &mut [u8], at: usize, end: usize) -> usize
-    requires fact_1 { at ≤ end }
-    requires fact_2 { end ≤ length input.old }
-    ensures { result ≡ end - at }
-{
-    input.copy_within(at..end, 0);
-    end - at
+    pub command: Option<Command>,
 }
 
 // The unread bytes to the front, and more behind them. Gives how many there are.
@@ -38,12 +27,13 @@ fn refill(source: &mut Source, input: &mut [u8], at: usize, end: usize) -> usize
     requires { (at ≤ end) × (end ≤ length input.old) }
     ensures { result ≤ length input.old }
 {
-    let left = shift(input, at, end);
+    let left = end - at;
+    input.copy_within(at..end, 0);
     left + source.read_full(&mut input[left..])
 }
 
-// The command at `at`.
-fn found(input: &[u8], at: usize, end: usize, ended: bool, offset: u64, lent: usize) -> Reading
+// What is at `at`.
+fn found(input: &[u8], at: usize, end: usize, offset: u64, lent: usize) -> Reading
     requires fact_1 { at ≤ end }
     requires fact_2 { end ≤ length input.now }
     ensures { Stands result (length input.now) lent }
@@ -52,55 +42,44 @@ fn found(input: &[u8], at: usize, end: usize, ended: bool, offset: u64, lent: us
     Reading {
         at,
         end,
-        ended,
         offset,
         lent,
         command,
     }
 }
 
-// The command behind this one.
+// What is behind this command.
 fn next(source: &mut Source, input: &mut [u8], r: Reading, lent: usize) -> Reading
     requires { Stands r (length input.old) r.lent }
     ensures { Stands result (length input.old) lent }
 {
-    let c = r.command;
-    let at = r.at + c.size;
+    let size = r.command.map_or(0, |c| c.size);
+    let at = r.at + size;
     let end = r.end;
-    let offset = std::num::wrapping_add_u64(r.offset, c.size as u64);
-    if r.ended {
-        return found(input, at, end, true, offset, lent);
-    }
-    if end - at >= MOST_COMMAND {
-        return found(input, at, end, false, offset, lent);
+    let offset = r.offset.wrapping_add(size as u64);
+    if end < input.len() || end - at >= MOST_COMMAND {
+        return found(input, at, end, offset, lent);
     }
     let n = refill(source, input, at, end);
-    found(input, 0, n, n < input.len(), offset, lent)
+    found(input, 0, n, offset, lent)
 }
 
 // A command of the memory: gives how many words are lent then.
+#[tactic(auto, unfolding(crate::specs::Player::lent_of, crate::specs::Player::changed_of))]
 fn changed(memory: &mut [u32], lent: usize, c: Command) -> usize
     requires { lent ≤ length memory.old }
     ensures { (result ≡ lent_of c lent (length memory.old)) × (memory.new ≡ changed_of c lent memory.old) }
 {
-    if c.op == 8 {
-        return words::lent(c.a, memory.len());
+    match c.op {
+        Op::SetLength => return words::lent(c.a, memory.len()),
+        Op::PokeMemory => words::fill(&mut memory[..lent], c.a, 1, c.b),
+        _ => words::fill(&mut memory[..lent], c.a, c.b, c.c),
     }
-    if c.op == 7 {
-        words::fill(&mut memory[..lent], c.a, 1, c.b);
-        return lent;
-    }
-    words::fill(&mut memory[..lent], c.a, c.b, c.c);
     lent
 }
 
-fn changes_memory(op: u32) -> bool {
-    match op {
-        7 => true,
-        8 => true,
-        10 => true,
-        _ => false,
-    }
+fn changes_memory(op: Op) -> bool {
+    matches!(op, Op::PokeMemory | Op::SetLength | Op::FillMemory)
 }
 
 // From the command behind this one over commands of the memory, up to another or the end.
@@ -117,12 +96,13 @@ pub fn settle(
 {
     let mut r = next(source, input, before, lent);
     for _ in 0..u64::MAX {
-        let c = r.command;
-        if !changes_memory(c.op) {
-            return r;
+        match r.command {
+            Some(c) if changes_memory(c.op) => {
+                let after = changed(memory, r.lent, c);
+                r = next(source, input, r, after);
+            }
+            _ => return r,
         }
-        let after = changed(memory, r.lent, c);
-        r = next(source, input, r, after);
     }
     r
 }
@@ -130,14 +110,12 @@ pub fn settle(
 pub fn first(source: &mut Source, input: &mut [u8], memory: &mut [u32]) -> Reading
     ensures { Stands result (length input.old) result.lent × (result.lent ≤ length memory.old) }
 {
-    let none = commands::none();
     let before = Reading {
-        at: 0,
-        end: 0,
-        ended: false,
+        at: input.len(),
+        end: input.len(),
         offset: 0,
         lent: 0,
-        command: none,
+        command: None,
     };
     settle(source, input, memory, before, 0)
 }

@@ -13,7 +13,7 @@ use crate::calls::AfterCall;
 use crate::reading::Reading;
 use crate::told;
 use dlx::words::wide;
-use drill_script::commands::Command;
+use drill_script::commands::{Command, Op};
 use drill_text::{ROOM, lines};
 use house::{House, Refusal};
 use restore::{Reader, Restoring};
@@ -145,10 +145,11 @@ fn finish(c: Command, r: Restoring, memory: &[u32], text: &mut [u8; ROOM], used:
 }
 
 // The reading behind another command.
-pub fn cleared(op: u32, r: Restoring) -> Restoring
+#[tactic(auto, unfolding(crate::specs::Saving::cleared_by))]
+pub fn cleared(op: Op, r: Restoring) -> Restoring
     ensures { (held : List ℕ) → reading_at result.reader result.house held [] ≡ cleared_by op (reading_at r.reader r.house held []) }
 {
-    if op == 11 {
+    if op == Op::Clear {
         return restore::reading::begin();
     }
     r
@@ -158,6 +159,7 @@ pub fn cleared(op: u32, r: Restoring) -> Restoring
 pub fn play(
     h: House,
     s: Restoring,
+    c: Command,
     r: Reading,
     input: &[u8],
     memory: &mut [u32],
@@ -166,47 +168,47 @@ pub fn play(
     text: &mut [u8; ROOM],
     used: usize,
 ) -> Left
-    requires fact_1 { Plays r (length input.now) (length memory.old) }
+    requires fact_1 { Plays r c (length input.now) (length memory.old) }
     requires fact_2 { 70000 ≤ length output.old }
-    ensures { (keeps result.house memory.new (reading_at result.restoring.reader result.restoring.house held.new []) ≡ kept_of r.command (more_of r input.now) r.lent (keeps h memory.old (reading_at s.reader s.house held.old []))) × Puts text.old used text.new result.used (saving_text_of r.command (more_of r input.now) r.lent (keeps h memory.old (reading_at s.reader s.house held.old []))) most_read }
+    ensures { (keeps result.house memory.new (reading_at result.restoring.reader result.restoring.house held.new []) ≡ kept_of c (more_of r c input.now) r.lent (keeps h memory.old (reading_at s.reader s.house held.old []))) × Puts text.old used text.new result.used (saving_text_of c (more_of r c input.now) r.lent (keeps h memory.old (reading_at s.reader s.house held.old []))) most_read }
 {
-    let c = r.command;
     let lent = r.lent;
-    if c.op == 14 {
-        let n = wide(c.c);
-        let end = save(h, c, &memory[..lent], &mut output[..n], text, used);
-        return Left {
-            house: h,
-            restoring: s,
-            used: end,
-        };
-    }
-    if c.op == 15 {
-        let from = r.at + 16;
-        let to = r.at + c.size;
-        let p = piece(
-            h,
-            c,
-            &input[from..to],
-            s,
-            held,
-            &mut memory[..lent],
-            text,
-            used,
-        );
-        let restoring = p.restoring;
-        return Left {
-            house: h,
-            restoring,
-            used: p.used,
-        };
-    }
-    let d = finish(c, s, &memory[..lent], text, used);
-    let house = d.house;
-    let restoring = restore::reading::begin();
-    Left {
-        house,
-        restoring,
-        used: d.used,
+    match c.op {
+        Op::Save => {
+            let n = wide(c.c);
+            let end = save(h, c, &memory[..lent], &mut output[..n], text, used);
+            Left {
+                house: h,
+                restoring: s,
+                used: end,
+            }
+        }
+        Op::Piece => {
+            let from = r.at + 16;
+            let to = r.at + c.size;
+            let p = piece(
+                h,
+                c,
+                &input[from..to],
+                s,
+                held,
+                &mut memory[..lent],
+                text,
+                used,
+            );
+            Left {
+                house: h,
+                restoring: p.restoring,
+                used: p.used,
+            }
+        }
+        _ => {
+            let d = finish(c, s, &memory[..lent], text, used);
+            Left {
+                house: d.house,
+                restoring: restore::reading::begin(),
+                used: d.used,
+            }
+        }
     }
 }

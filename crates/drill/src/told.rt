@@ -2,6 +2,7 @@
 ghost use Rattle.std.specs.Prelude.{◌≡◌, List, ℕ, ◌+◌, ◌<◌, ◌≤◌, ◌++◌, length};
 ghost use Rattle.decimal.specs.Decimals.{decimal};
 ghost use Rattle.decimal.specs.Texts.{ascii, Puts};
+ghost use Rattle.drill_script.specs.Commands.{number_of};
 ghost use Rattle.house.specs.Turns.{world};
 ghost use Rattle.house.specs.Refusals.{answer_of};
 ghost use Rattle.house.specs.declared.House.{House};
@@ -9,6 +10,7 @@ ghost use Rattle.drill.specs.Told.{most_told, told_of, answer_told, shown_by};
 
 use command::put_out;
 use decimal::{put_byte, put_decimal, put_text};
+use drill_script::commands::Op;
 use drill_text::partitions::partitions;
 use drill_text::queues::queues;
 use drill_text::{ROOM, lines};
@@ -18,15 +20,15 @@ use house::{Answer, House};
 pub fn call(
     text: &mut [u8; ROOM],
     used: usize,
-    op: u32,
+    op: Op,
     number: u32,
     detail: u64,
     house: House,
     memory: &[u32],
 ) -> usize
-    ensures { Puts text.old used text.new result (told_of op number detail house memory.now) most_told }
+    ensures { Puts text.old used text.new result (told_of (number_of op) number detail house memory.now) most_told }
 {
-    let called = lines::call(text, used, op, number, detail);
+    let called = lines::call(text, used, op.number(), number, detail);
     let housed = lines::house(text, called, house);
     let parted = partitions(text, housed, house);
     let queued = queues(text, parted, house);
@@ -37,12 +39,12 @@ pub fn call(
 pub fn answer(
     text: &mut [u8; ROOM],
     used: usize,
-    op: u32,
+    op: Op,
     given: House,
     answer: Answer,
     memory: &[u32],
 ) -> usize
-    ensures { Puts text.old used text.new result (answer_told op (answer_of given answer memory.now) memory.now) most_told }
+    ensures { Puts text.old used text.new result (answer_told (number_of op) (answer_of given answer memory.now) memory.now) most_told }
 {
     match answer {
         Ok(done) => call(text, used, op, 0, done.detail, done.house, memory),

@@ -11,7 +11,7 @@ use command::{asks_help, put_out, wrong};
 use dlx::partition::{Partition, Processor, Table, Timer};
 use dlx::words::wide;
 use files::{Source, print, print_number};
-use house::{Answer, House};
+use house::{Answer, House, Refusal};
 use hypervisor::calls::run;
 
 // The frame of a guest page: the list of the 67 is a permutation of the frames 1 to 67.
@@ -305,22 +305,18 @@ fn end_line(rt: &HostRuntime) {
     put_out(rt, b"\n");
 }
 
-fn refused(rt: &HostRuntime, a: Answer) {
+fn tell_refusal(rt: &HostRuntime, refusal: Refusal) {
     let _ = print(rt, b"refused ");
-    print_number(rt, a.number as u64);
+    print_number(rt, u64::from(refusal.number()));
     let _ = print(rt, b" ");
-    print_number(rt, a.detail);
+    print_number(rt, refusal.detail());
     end_line(rt);
 }
 
-// One partition of 67 pages.
-fn booted(q: u32, frames: &[u32; 67], words: &[u32; 69632]) -> Answer {
-    let pages = [67u32; 1];
-    boot(&pages, q, frames, words)
-}
-
-fn ran(house: House, words: &mut [u32; 69632], steps: u32) -> Answer {
-    run(house, words, steps)
+// One partition of 67 pages, booted and run.
+fn ran(q: u32, frames: &[u32; 67], words: &mut [u32; 69632], steps: u32) -> Answer {
+    let booted = boot(&[67], q, frames, words)?;
+    run(booted.house, words, steps)
 }
 
 fn measure(rt: &HostRuntime, steps: u32, q: u32, guest: u32) {
@@ -332,22 +328,15 @@ fn measure(rt: &HostRuntime, steps: u32, q: u32, guest: u32) {
     let frames = list_frames();
     put_table(&mut words);
     put_guest(&mut words, guest);
-    let b = booted(q, &frames, &words);
-    if b.number != 0 {
-        refused(rt, b);
-        return;
+    match ran(q, &frames, &mut words, steps) {
+        Ok(done) => {
+            print_number(rt, done.detail);
+            let _ = print(rt, b" ");
+            print_number(rt, digest(done.house, &words));
+            end_line(rt);
+        }
+        Err(refusal) => tell_refusal(rt, refusal),
     }
-    let house = b.house;
-    let a = ran(house, &mut words, steps);
-    if a.number != 0 {
-        refused(rt, a);
-        return;
-    }
-    let after = a.house;
-    print_number(rt, a.detail);
-    let _ = print(rt, b" ");
-    print_number(rt, digest(after, &words));
-    end_line(rt);
 }
 
 fn help(rt: &HostRuntime) {

@@ -6,6 +6,7 @@ ghost use Rattle.drill_script.specs.Words.{word_at, marked_of, filled_of};
 use dlx::words::wide;
 
 // The word of the four bytes at a place, the lowest first.
+#[tactic(auto, unfolding(crate::specs::Words::word_at))]
 pub fn word(bytes: &[u8], at: usize) -> u32
     requires { at + 4 ≤ length bytes.now }
     ensures { result ≡ word_at bytes.now at }

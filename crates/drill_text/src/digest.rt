@@ -5,6 +5,7 @@ ghost use Rattle.drill_text.specs.Digest.{mixed_of, digest_of};
 const FACTOR: u64 = 6_364_136_223_846_793_005;
 
 // The digest with one word more.
+#[tactic(auto, unfolding(crate::specs::Digest::mixed_of))]
 fn mixed(d: u64, w: u32) -> u64
     ensures { result ≡ mixed_of d w }
 {

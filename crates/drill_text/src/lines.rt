@@ -55,6 +55,7 @@ fn house_line(text: &mut [u8; ROOM], used: usize, own: &[u32; 5], running: &[boo
     put_byte(text, flagged, b'\n')
 }
 
+#[tactic(auto, unfolding(crate::specs::Lines::house_of))]
 pub fn house(text: &mut [u8; ROOM], used: usize, h: House) -> usize
     ensures { Puts text.old used text.new result (house_of h) 279 }
 {
@@ -63,6 +64,7 @@ pub fn house(text: &mut [u8; ROOM], used: usize, h: House) -> usize
 }
 
 // The name of a call, by its command's number.
+#[tactic(auto, unfolding(crate::specs::Lines::name_of, decimal::specs::Texts::ascii))]
 fn name(op: u32) -> &'static [u8]
     ensures named { result.now ≡ name_of op }
     ensures short { length result.now ≤ 10 }

@@ -17,6 +17,7 @@ use dlx::partition::{Partition, Processor, Table, Timer};
 use house::House;
 
 // From DPC to EMODE, in the text's order, the latest fault, and the timer.
+#[tactic(auto, unfolding(crate::specs::Partitions::specials_of))]
 fn specials(p: Processor, t: Table, fault: u32, k: Timer) -> [u32; 15]
     ensures { result ≡ specials_of p t fault k }
 {
@@ -40,6 +41,7 @@ pub(crate) fn listed(words: &[u32]) -> usize
     words.iter().rposition(|w| *w != 0).map_or(0, |i| i + 1)
 }
 
+#[tactic(auto, unfolding(crate::specs::Partitions::blank_of))]
 fn blank(p: Partition, registers: &[u32], frames: &[u32], shadow: &[u32]) -> bool
     ensures { result ≡ blank_of p registers.now frames.now shadow.now }
 {
@@ -199,6 +201,7 @@ fn each(
     end
 }
 
+#[tactic(auto, unfolding(crate::specs::Partitions::partitions_of))]
 pub fn partitions(text: &mut [u8; ROOM], used: usize, h: House) -> usize
     ensures { Puts text.old used text.new result (partitions_of h) (8 * longest) }
 {

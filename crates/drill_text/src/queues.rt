@@ -11,6 +11,7 @@ use crate::partitions::{listed, zeros};
 use decimal::put_text;
 use house::House;
 
+#[tactic(auto, unfolding(crate::specs::Queues::idle_of))]
 fn idle(waiting: u32, places: &[u32]) -> bool
     ensures { result ≡ idle_of waiting places.now }
 {
@@ -45,6 +46,7 @@ fn each(text: &mut [u8; ROOM], used: usize, waiting: &[u32; 8], tickets: &[u32])
     end
 }
 
+#[tactic(auto, unfolding(crate::specs::Queues::queue_lines_of))]
 pub fn queues(text: &mut [u8; ROOM], used: usize, h: House) -> usize
     ensures { Puts text.old used text.new result (queue_lines_of h) 5760 }
 {

@@ -1,5 +1,6 @@
 -- A stretch put together from its parts, and what each part hands on to the next. Each part's answer is a variable here, so that the code's proofs
 -- only hand their equations over.
+use Rattle.std.specs.Prelude.{Result, Ok}
 use Rattle.std.proofs.Common.{◌≡◌, ℕ, suc, ◌+◌, ◌-◌, ◌<◌, ◌≤◌, Bool, true, false, not, eqb, ltb, List, length, sym, refl, ap, ◌∙◌, subst, arith, ltb-false, ltb-true, eqb-true}
 use native.Mathlib.Nat.{sub-zero}
 use borrow.Author.Tests.{eqb-false}
@@ -10,8 +11,6 @@ use Rattle.dlx.specs.Machine.{Ops, Core, core, Outcome, outcome, step, asked, st
 use Rattle.dlx.specs.Spells.{sunk, timed, passed, ended, spell, passed_at, spell_from, Leg, leg_at}
 use Rattle.dlx.specs.declared.partition.Processor.{Processor}
 use Rattle.dlx.specs.declared.partition.Timer.{Timer}
-use Rattle.dlx.specs.declared.execute.Access.{Access}
-use Rattle.dlx.specs.declared.execute.Access.TheVariants.{Word}
 use Rattle.dlx.specs.declared.execute.Change.{Change}
 use Rattle.dlx.specs.declared.execute.Change.TheVariants.{Plain, Special, Retable, Cause, Return}
 use Rattle.dlx.specs.declared.execute.Effect.{Effect}
@@ -72,7 +71,7 @@ module _ {S T : Type 0} (O : Ops S) (D : Desk T) where
   step_done c s q x o f e r d = sym (simp (f, e, r, d))
 
 -- a load that finds a word
-pub load_is : (fr : List ℕ) (n count i : ℕ) (p : Processor) (r : List ℕ) (l : ℕ) (h h₁ : Host) (q : Queues) (e : Effect) (x : Access) (d a o w v next : ℕ) → e ≡ Load d a o → (x, h₁) ≡ host_reads fr n h (user p) a → x ≡ Word w → v ≡ brought o a w → next ≡ behind p → (k : Timer) → (((Plain d v next, core p r l k), h₁), q) ≡ accessed_at (host_memory fr n) (desk count i) (core p r l k) e h q
+pub load_is : (fr : List ℕ) (n count i : ℕ) (p : Processor) (r : List ℕ) (l : ℕ) (h h₁ : Host) (q : Queues) (e : Effect) (x : Result ℕ ℕ) (d a o w v next : ℕ) → e ≡ Load d a o → (x, h₁) ≡ host_reads fr n h (user p) a → x ≡ Ok w → v ≡ brought o a w → next ≡ behind p → (k : Timer) → (((Plain d v next, core p r l k), h₁), q) ≡ accessed_at (host_memory fr n) (desk count i) (core p r l k) e h q
 unfolding accessed loaded after_read request_of desk
 load_is fr n count i p r l h h₁ q e x d a o w v next f g k b t m = simp (f, ← g, k, b, t)
 
@@ -127,10 +126,6 @@ room_is k rest n l e = subst (Roomy k rest) (sym e) (room_fits k rest l)
 pub not_true : (b : Bool) → not b ≡ true → b ≡ false
 not_true true e = sym e
 not_true false e = refl
-
-pub not_false : (b : Bool) → not b ≡ false → b ≡ true
-not_false true e = refl
-not_false false e = sym e
 
 -- ---- a stretch, leg by leg
 

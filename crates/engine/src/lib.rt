@@ -3,6 +3,7 @@
 #![tactic(auto)]
 
 ghost use Rattle.std.specs.Prelude.{◌≡◌, ℕ, ◌<◌, true, false, List, length, ◌≢◌};
+ghost use Rattle.std.specs.ControlFlow.{MatchControlFlow};
 ghost use Rattle.dlx.specs.declared.partition.Timer.{Timer};
 ghost use Rattle.dlx.specs.Machine.{core, fetched, Asks, accessed_at, retabled, step_at, stretch_from};
 ghost use Rattle.dlx.specs.Spells.{sunk, plainly, passed_at};
@@ -13,8 +14,9 @@ ghost use Rattle.addresses.specs.Premises.{Placed, Shadowed};
 ghost use Rattle.plain.specs.Plain.{pair_of};
 ghost use Rattle.engine.specs.Answers.{Fits, walked_of, room_of, stretch_of, processor_at, table_at, timer_at, list_of, Arrived, Happened, Leads, turned_of};
 
-use dlx::execute::{Access, Change, Effect};
+use dlx::execute::{Change, Effect};
 use dlx::partition::{Partition, Processor, Table, Timer};
+use std::ops::ControlFlow;
 
 // What a step of a spell leaves beside the arrays: its change, made if it is plain.
 #[derive(Clone, Copy)]
@@ -65,11 +67,11 @@ fn fetch(
         return Effect::Done(Change::Cause(Partition::MAL, 0));
     }
     match translate::load(words, frames, shadow, pages, t, p.mode == 1, dpc) {
-        Access::Fault(n) => {
+        Err(n) => {
             *latest = n;
             Effect::Done(Change::Cause(Partition::PFF, dpc))
         }
-        Access::Word(w) => processor::execute::execute(
+        Ok(w) => processor::execute::execute(
             p,
             t,
             k,
@@ -114,19 +116,20 @@ fn access(
             p.mode == 1,
             a,
         ) {
-            Access::Fault(n) => {
+            Err(n) => {
                 *latest = n;
                 Change::Cause(Partition::PFLS, a)
             }
-            Access::Word(w) => Change::Plain(rd, processor::fields::bring(o, a, w), next),
+            Ok(w) => Change::Plain(rd, processor::fields::bring(o, a, w), next),
         },
         Effect::Store(o, a, v) => {
-            let n = translate::store(words, frames, shadow, pages, t, p.mode == 1, o, a, v);
-            if n == 0 {
-                return Change::Plain(0, 0, next);
+            match translate::store(words, frames, shadow, pages, t, p.mode == 1, o, a, v) {
+                Err(n) => {
+                    *latest = n;
+                    Change::Cause(Partition::PFLS, a)
+                }
+                Ok(()) => Change::Plain(0, 0, next),
             }
-            *latest = n;
-            Change::Cause(Partition::PFLS, a)
         }
         Effect::Send(v, to) => {
             let reply = tickets::send(count, tickets, waiting, v, to);
@@ -389,14 +392,7 @@ fn event(s: &mut [u32], w: u32) -> bool
     false
 }
 
-// What a leap leaves beside the lists: the steps still to make, and whether it may go on.
-#[derive(Clone, Copy)]
-pub struct Leapt {
-    pub left: u32,
-    pub on: bool,
-}
-
-// Some of n steps: plain ones, and a leg's end or one of those events.
+// Some of n steps: plain ones, and a leg's end or one of those events. Answers how many are still to make, and whether to leap on.
 fn leap(
     s: &mut [u32],
     pages: u32,
@@ -405,13 +401,13 @@ fn leap(
     shadow: &[u32],
     words: &mut [u32],
     n: u32,
-) -> Leapt
+) -> ControlFlow<u32, u32>
     requires fact_1 { length s.old ≡ 14 }
     requires fact_2 { length regs.old ≡ 32 }
     requires fact_3 { Placed frames.now pages (length words.old) }
     requires fact_4 { Shadowed frames.now pages shadow.now }
     requires fact_5 { 0 < n }
-    ensures { (Leads frames.now pages shadow.now n result.left s.old regs.old words.old s.new regs.new words.new) × (result.on ≡ true → result.left < n) × (length s.new ≡ 14) × (length regs.new ≡ length regs.old) × (length words.new ≡ length words.old) }
+    ensures { MatchControlFlow result (λ rest. Leads frames.now pages shadow.now n rest s.old regs.old words.old s.new regs.new words.new × (rest < n)) (λ rest. Leads frames.now pages shadow.now n rest s.old regs.old words.old s.new regs.new words.new) × (length s.new ≡ 14) × (length regs.new ≡ length regs.old) × (length words.new ≡ length words.old) }
 {
     let p = processor_of(s);
     let t = table_of(s);
@@ -421,19 +417,16 @@ fn leap(
     let left = n - (most - rest);
     if rest == 0 {
         arrive(s, q.dpc, q.pc, most);
-        return Leapt { left, on: true };
+        return ControlFlow::Continue(left);
     }
     advance(s, q.dpc, q.pc, most - rest);
     if rest == 1 {
-        return Leapt { left, on: false };
+        return ControlFlow::Break(left);
     }
     if !event(s, q.word) {
-        return Leapt { left, on: false };
+        return ControlFlow::Break(left);
     }
-    Leapt {
-        left: left - 1,
-        on: true,
-    }
+    ControlFlow::Continue(left - 1)
 }
 
 // Steps up to n, or up to one that only the general step makes: how many are still to make.
@@ -453,11 +446,11 @@ fn ahead(
     ensures { (Leads frames.now pages shadow.now n result s.old regs.old words.old s.new regs.new words.new) × (length s.new ≡ 14) × (length regs.new ≡ length regs.old) × (length words.new ≡ length words.old) }
 {
     let mut left = n;
+    // Not a `for`: a leap makes several steps at once.
     while left > 0 {
-        let a = leap(s, pages, regs, frames, shadow, words, left);
-        left = a.left;
-        if !a.on {
-            return left;
+        match leap(s, pages, regs, frames, shadow, words, left) {
+            ControlFlow::Continue(rest) => left = rest,
+            ControlFlow::Break(rest) => return rest,
         }
     }
     left
@@ -493,6 +486,7 @@ pub fn turn(
     ensures fact_2 { length state.new ≡ 14 }
 {
     let mut rest = ahead(state, pages, regs, frames, shadow, words, n);
+    // Not a `for`: behind the general step, `ahead` makes several more.
     while rest > 0 {
         let p = processor_of(state);
         let t = table_of(state);

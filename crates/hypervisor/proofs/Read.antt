@@ -1,5 +1,6 @@
 -- What read-out cites: an output whose first words are by a rule, one word more; the lent frame list; the bound.
-use Rattle.std.proofs.Common.{◌≡◌, ℕ, zero, suc, ◌+◌, ◌-◌, ◌*◌, ◌/◌, ◌<◌, ◌≤◌, List, [], ◌∷◌, ◌++◌, length, get_or, take, drop, set, sym, ap, ◌∙◌, append_assoc, add-one, arith, drop-cons}
+use Rattle.std.proofs.Common.{◌≡◌, ℕ, zero, suc, ◌+◌, ◌-◌, ◌*◌, ◌/◌, ◌<◌, ◌≤◌, List, [], ◌∷◌, ◌++◌, length, get_or, take, drop, set, sym, ap, ◌∙◌, append_assoc, add-one, arith, drop-cons, append-nil, length-take-le}
+use Rattle.std.proofs.lemmas.List.{drop_all}
 use native.Mathlib.Nat.{add-sub_cancel_left}
 use lib.Seq.{set-append_seam}
 use Rattle.addresses.specs.Memory.{host_word}
@@ -30,6 +31,12 @@ word_more f o j h =
     ∙ sym (append_assoc (list_from f 0 j) (f j ∷ []) (drop (suc j) o))
     ∙ ap (λ (l : List ℕ). l ++ drop (suc j) o) (ap (λ (x : ℕ). list_from f 0 j ++ (f x ∷ [])) (sym z) ∙ sym (list_from_last f 0 j))
     ∙ ap (λ (x : ℕ). list_from f 0 x ++ drop x o) (sym (add-one j))
+
+-- all of the first n words of the output
+pub words_all : (f : ℕ → ℕ) (o : List ℕ) (n j : ℕ) → j ≡ n → n ≤ length o → list_from f 0 j ++ drop j (take n o) ≡ list_from f 0 n
+words_all f o n j e h =
+    let d : drop n (take n o) ≡ [] = drop_all n (take n o) (omega (arith, length-take-le n o h)) in
+    rw (e, d) (append-nil (list_from f 0 n))
 
 -- the frame list that read-out lends
 pub lent_placed : (h : House) (size i j pages : ℕ) → j ≡ i → pages ≡ pages_of h i → Placed (frames_of h i) (pages_of h i) size → Placed (take (j * 256 + 256 - j * 256) (drop (j * 256) h.frames)) pages size

@@ -26,13 +26,11 @@ pub fn next(running: &[bool; 8], n: u32, i: u32) -> u32
     ensures { result ≡ next_of running.now n i }
 {
     let mut at = i;
-    let mut tried: u32 = 0;
-    while tried < n {
+    for _ in 0..n {
         at = following(n, at);
         if running[wide(at)] {
             return at;
         }
-        tried += 1;
     }
     at
 }
@@ -74,10 +72,7 @@ pub fn turn(
 pub fn limit(left: u32, rest: u32) -> u32
     ensures { result ≡ (when nat_le left rest then left else rest) }
 {
-    if left <= rest {
-        return left;
-    }
-    rest
+    left.min(rest)
 }
 
 // What is left of the turn of a partition that is alone, after so many steps of it.
@@ -148,6 +143,7 @@ pub fn steps(mut h: House, memory: &mut [u32], k: u32) -> House
     let mut left = h.left;
     let alone = next(&running, count, current) == current;
     let mut made: u32 = 0;
+    // Not a `for`: a stretch makes several steps at once.
     while made < k {
         let i = wide(current);
         let mut p = parts[i];

@@ -77,11 +77,9 @@ pub fn read(frames: &[u32], pages: u32, words: &[u32], from: usize, count: usize
     requires fact_3 { count ≤ length out.old }
     ensures { out.new ≡ list_from (λ j. host_word frames.now words.now (from + j)) 0 count ++ drop count out.old }
 {
-    let mut j = 0;
-    while j < count {
+    for (j, word) in out[..count].iter_mut().enumerate() {
         let g = from + j;
-        out[j] = words[wide(frames[g / 1024]) * 1024 + g % 1024];
-        j += 1;
+        *word = words[wide(frames[g / 1024]) * 1024 + g % 1024];
     }
 }
 

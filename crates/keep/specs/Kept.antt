@@ -1,5 +1,5 @@
 -- What is written of a house and its memory: the bytes of their file, in order, and all of them before it takes its name.
-use Rattle.std.specs.Prelude.{◌≡◌, Bool, true, false, List, ℕ, ◌^◌, ◌<◌, ◌≤◌, length, take, drop}
+use Rattle.std.specs.Prelude.{◌≡◌, List, ℕ, ◌≤◌, length, take, drop}
 use Rattle.house.specs.Turns.{World}
 use Rattle.save.specs.Saved.{file_of}
 use Rattle.written.specs.declared.Writing.{Writing}
@@ -8,17 +8,10 @@ use Rattle.written.specs.declared.Writing.{Writing}
 abbrev pub Part : World → ℕ → List ℕ → Type 0
 Part w at piece = take (length piece) (drop at (file_of w)) ≡ piece
 
--- what is good so far is not more than the file
+-- what is written so far is not more than the file
 abbrev pub Within : World → Writing → Type 0
-Within w g = g.good ≡ true → g.bytes ≤ length (file_of w)
+Within w g = g.bytes ≤ length (file_of w)
 
--- what is good is all of it
+-- what is written is all of it
 abbrev pub Whole : World → Writing → Type 0
-Whole w g = g.good ≡ true → g.bytes ≡ length (file_of w)
-
--- After a piece: more are to come, and this one had bytes; or there are none, and what is good is whole.
-pub record Onward (w : World) (g g' : Writing) (more : Bool) : Type 0 where
-  pub fits : g.bytes < 2 ^ 64
-  pub further : more ≡ true → g.bytes < g'.bytes
-  pub within : Within w g → Within w g'
-  pub whole : Within w g → more ≡ false → Whole w g'
+Whole w g = g.bytes ≡ length (file_of w)

@@ -1,5 +1,8 @@
 -- Words of raw bytes, and their places.
-use Rattle.std.proofs.Common.{◌≡◌, ℕ, suc, ◌+◌, ◌-◌, ◌*◌, ◌/◌, ◌≤◌, List, [], ◌∷◌, length, get_or, take, drop, set, sym, ap, ◌∙◌, add-one, arith, drop-cons}
+use Rattle.std.proofs.Common.{◌≡◌, ℕ, zero, suc, ◌+◌, ◌-◌, ◌*◌, ◌/◌, ◌<◌, List, [], ◌∷◌, length, get_or, take, drop, set, ap, ◌∙◌, add-one, refl, arith, length-drop, drop-drop}
+use Rattle.std.specs.Int.{from_le_bytes, w32}
+use Rattle.std.specs.Simd.{first_chunks}
+use lib.Seq.{length-take-le}
 use Rattle.dlx.specs.Words.{plus}
 use Rattle.addresses.specs.Memory.{place}
 use Rattle.housefile.specs.Records.{number}
@@ -8,25 +11,28 @@ use Rattle.house.specs.Boot.{offset}
 use Rattle.contents.specs.Contents.{list_words}
 use Rattle.laying.specs.Laid.{word_at, laid_words, sum_words, count_of}
 
-pub number_four : (a b c d : ℕ) → a + 256 * b + 65536 * (c + 256 * d) ≡ number (a ∷ b ∷ c ∷ d ∷ [])
+-- four bytes as a number, by both words for it
+four_number : (xs : List ℕ) → length xs ≡ 4 → from_le_bytes w32 xs ≡ number xs
 unfolding number
-number_four a b c d = omega arith
+four_number (a ∷ b ∷ c ∷ d ∷ []) l = omega arith
+four_number [] l = absurd (omega arith)
+four_number (a ∷ []) l = absurd (omega arith)
+four_number (a ∷ b ∷ []) l = absurd (omega arith)
+four_number (a ∷ b ∷ c ∷ []) l = absurd (omega arith)
+four_number (a ∷ b ∷ c ∷ d ∷ e ∷ xs) l = absurd (omega arith)
 
-four_bytes : (bytes : List ℕ) (at : ℕ) → at + 4 ≤ length bytes → take 4 (drop at bytes) ≡ get_or bytes at 0 ∷ get_or bytes (at + 1) 0 ∷ get_or bytes (at + 2) 0 ∷ get_or bytes (at + 3) 0 ∷ []
-four_bytes bytes at l =
-    let e₁ : at + 1 ≡ suc at = omega arith in
-    let e₂ : at + 2 ≡ suc (suc at) = omega arith in
-    let e₃ : at + 3 ≡ suc (suc (suc at)) = omega arith in
-    ap (take 4) (drop-cons bytes at 0 (omega arith))
-    ∙ ap (λ (x : List ℕ). get_or bytes at 0 ∷ take 3 x) (drop-cons bytes (suc at) 0 (omega arith))
-    ∙ ap (λ (x : List ℕ). get_or bytes at 0 ∷ get_or bytes (suc at) 0 ∷ take 2 x) (drop-cons bytes (suc (suc at)) 0 (omega arith))
-    ∙ ap (λ (x : List ℕ). get_or bytes at 0 ∷ get_or bytes (suc at) 0 ∷ get_or bytes (suc (suc at)) 0 ∷ take 1 x) (drop-cons bytes (suc (suc (suc at))) 0 (omega arith))
-    ∙ rw (e₁, e₂, e₃)
+-- the chunks are the words' bytes
+chunk_at : (k n : ℕ) (xs : List ℕ) → k < n → get_or (first_chunks 4 n xs) k [] ≡ take 4 (drop (4 * k) xs)
+chunk_at k zero xs l = absurd (omega arith)
+chunk_at zero (suc n) xs l = refl
+chunk_at (suc k) (suc n) xs l = chunk_at k n (drop 4 xs) (omega arith) ∙ ap (take 4) (drop-drop (4 * k) 4 xs) ∙ ap (λ (i : ℕ). take 4 (drop i xs)) (omega arith)
 
-pub word_there : (bytes : List ℕ) (k : ℕ) → 4 * k + 4 ≤ length bytes
-    → number (get_or bytes (4 * k) 0 ∷ get_or bytes (4 * k + 1) 0 ∷ get_or bytes (4 * k + 2) 0 ∷ get_or bytes (4 * k + 3) 0 ∷ []) ≡ word_at bytes k
+pub word_there : (chunks : List (List ℕ)) (bytes : List ℕ) (k : ℕ) → chunks ≡ first_chunks 4 (length bytes / 4) bytes → k < length bytes / 4 → from_le_bytes w32 (get_or chunks k []) ≡ word_at bytes k
 unfolding word_at
-word_there bytes k l = ap number (sym (four_bytes bytes (4 * k) l))
+word_there chunks bytes k e l =
+    ap (λ (x : List (List ℕ)). from_le_bytes w32 (get_or x k [])) e
+    ∙ ap (from_le_bytes w32) (chunk_at k (length bytes / 4) bytes l)
+    ∙ four_number (take 4 (drop (4 * k) bytes)) (length-take-le 4 (drop (4 * k) bytes) (omega (arith, length-drop (4 * k) bytes)))
 
 -- ---- one word more
 

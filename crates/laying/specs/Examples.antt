@@ -1,7 +1,9 @@
 -- Worked examples. proofs/Checked.antt checks them by a single claim.
-use Rattle.std.specs.Prelude.{ℕ, ◌+◌, ◌*◌, Bool, true, ◌&&◌, List, [], ◌∷◌, replicate, ◌==◌, slice_index}
+use Rattle.std.specs.Prelude.{ℕ, ◌+◌, ◌*◌, Bool, true, ◌&&◌, Option, None, Some, List, [], ◌∷◌, replicate, ◌==◌, slice_index}
 use Rattle.decimal.specs.Texts.{ascii, same}
 use Rattle.laying.specs.Laid.{laid_words, sum_words, count_of, fault_of, memory_of}
+use Rattle.laying.specs.declared.Fault.{Fault}
+use Rattle.laying.specs.declared.Fault.TheVariants.{PartOfAWord, BeyondThePages, OnAnother}
 use Rattle.laying.specs.Slip.{slip_text}
 
 -- ---- three words from word 1,023 on of a partition that has the frames 2 and 1, in four frames of 9
@@ -25,8 +27,15 @@ laid = memory_of (2 ∷ 1 ∷ []) (3 ∷ 1 ∷ 2 ∷ []) table (λ k. (k + 1) �
 
 -- ---- why an image is not laid: partitions of 2 pages and of 1; image 0 has 10 words from 400 on, image 1 none at 420, image 2 is the one to be laid
 
+-- 0 for none; 1 no whole number of words; 2 a word beyond the pages; 3 a word where another image has one
+abbrev pub index : Option Fault → ℕ
+index None = 0
+index (Some PartOfAWord) = 1
+index (Some BeyondThePages) = 2
+index (Some OnAnother) = 3
+
 unfoldable pub fault : ℕ → ℕ → ℕ → ℕ → Bool
-fault owner address size n = fault_of (2 ∷ 1 ∷ []) (0 ∷ 400 ∷ 4 ∷ 0 ∷ 420 ∷ 5 ∷ owner ∷ address ∷ 6 ∷ []) (10 ∷ 0 ∷ []) 2 size == n
+fault owner address size n = index (fault_of (2 ∷ 1 ∷ []) (0 ∷ 400 ∷ 4 ∷ 0 ∷ 420 ∷ 5 ∷ owner ∷ address ∷ 6 ∷ []) (10 ∷ 0 ∷ []) 2 size) == n
 
 unfoldable pub images : List Bool
 images =

@@ -1,11 +1,13 @@
 -- Images laid into a memory: raw words, little-endian, into a partition's pages from a guest address on.
-use Rattle.std.specs.Prelude.{ℕ, zero, suc, ◌+◌, ◌*◌, ◌/◌, ◌%◌, min, max, Bool, not, ◌&&◌, List, length, take, drop, replicate, ◌==◌, nat_lt, slice_index, slice_set}
+use Rattle.std.specs.Prelude.{ℕ, zero, suc, ◌+◌, ◌*◌, ◌/◌, ◌%◌, min, max, Bool, not, ◌&&◌, Option, None, Some, List, length, take, drop, replicate, ◌==◌, nat_lt, slice_index, slice_set}
 use Rattle.dlx.specs.Choice.{when◌then◌else◌}
 use Rattle.dlx.specs.Words.{plus}
 use Rattle.addresses.specs.Memory.{place}
 use Rattle.house.specs.Lists.{any}
 use Rattle.housefile.specs.Records.{number}
 use Rattle.contents.specs.Contents.{list_words}
+use Rattle.laying.specs.declared.Fault.{Fault}
+use Rattle.laying.specs.declared.Fault.TheVariants.{PartOfAWord, BeyondThePages, OnAnother}
 
 -- ---- one image
 
@@ -44,14 +46,14 @@ meeting table counts k n j =
     (owner_of table j == owner_of table k)
     && nat_lt (max (first_word table j) (first_word table k)) (min (first_word table j + slice_index counts j) (first_word table k + n))
 
--- why image k, of so many bytes, is not laid behind those before it: 1 no whole number of words; 2 a word beyond the pages; 3 a word where another image of the
--- same partition has one; 0 for none
-unfoldable pub fault_of : List ℕ → List ℕ → List ℕ → ℕ → ℕ → ℕ
+-- why image k, of so many bytes, is not laid behind those before it: no whole number of words; a word beyond the pages; a word where another image of the same
+-- partition has one
+unfoldable pub fault_of : List ℕ → List ℕ → List ℕ → ℕ → ℕ → Option Fault
 fault_of pages table counts k size =
-    when not (size % 4 == 0) then 1 else
-    when nat_lt (4096 * slice_index pages (owner_of table k)) (address_in table k + size) then 2 else
-    when any (meeting table counts k (size / 4)) k then 3 else
-    0
+    when not (size % 4 == 0) then Some PartOfAWord else
+    when nat_lt (4096 * slice_index pages (owner_of table k)) (address_in table k + size) then Some BeyondThePages else
+    when any (meeting table counts k (size / 4)) k then Some OnAnother else
+    None
 
 -- ---- all of them
 

@@ -1,14 +1,13 @@
 // Images laid into a memory, and their slip.
 #![tactic(auto)]
 
-ghost use Rattle.std.specs.Prelude.{◌≡◌, ℕ, ◌+◌, ◌*◌, ◌/◌, ◌%◌, ◌<◌, ◌≤◌, min, max, [], ◌∷◌, length, nat_lt, slice_index, slice_set};
+ghost use Rattle.std.specs.Prelude.{◌≡◌, ℕ, ◌+◌, ◌*◌, ◌/◌, ◌%◌, ◌<◌, ◌≤◌, min, max, length, nat_lt, slice_index, slice_set};
 ghost use Rattle.addresses.specs.Memory.{place};
 ghost use Rattle.house.specs.Boot.{offset};
 ghost use Rattle.house.specs.Lists.{any};
 ghost use Rattle.decimal.specs.Texts.{Puts};
-ghost use Rattle.housefile.specs.Records.{number};
 ghost use Rattle.contents.specs.Contents.{list_words, Listed};
-ghost use Rattle.laying.specs.Laid.{word_at, laid_words, sum_words, count_of, meeting, fault_of};
+ghost use Rattle.laying.specs.Laid.{laid_words, sum_words, count_of, meeting, fault_of};
 ghost use Rattle.laying.specs.Slip.{place_text, slip_text};
 
 use decimal::put_text;
@@ -16,24 +15,6 @@ use dlx::words::wide;
 use report::put_word;
 
 // ---- one image
-
-// The word of four bytes, the lowest first.
-fn word_of(a: u8, b: u8, c: u8, d: u8) -> u32
-    ensures { result ≡ number (a ∷ b ∷ c ∷ d ∷ []) }
-{
-    let low = a as u32 + 256 * b as u32;
-    let high = c as u32 + 256 * d as u32;
-    low + 65536 * high
-}
-
-// Word k of raw bytes.
-fn word_at(bytes: &[u8], k: usize) -> u32
-    requires { 4 * k + 4 ≤ length bytes.now }
-    ensures { result ≡ word_at bytes.now k }
-{
-    let at = 4 * k;
-    word_of(bytes[at], bytes[at + 1], bytes[at + 2], bytes[at + 3])
-}
 
 // Word i of a page that lies in this frame.
 fn in_frame(frame: u32, i: usize) -> usize
@@ -47,20 +28,17 @@ fn place_of(frames: &[u32], i: usize) -> usize
     ensures { result ≡ place frames.now i }
 {
     let page = i / 1024;
-    if page >= frames.len() {
-        return in_frame(0, i);
-    }
-    in_frame(frames[page], i)
+    let frame = frames.get(page).copied().unwrap_or(0);
+    in_frame(frame, i)
 }
 
 // A word at its place; none where the memory ends before it.
 fn set_word(memory: &mut [u32], at: usize, w: u32)
     ensures { memory.new ≡ slice_set memory.old at w }
 {
-    if memory.len() <= at {
-        return;
+    if at < memory.len() {
+        memory[at] = w;
     }
-    memory[at] = w;
 }
 
 // The words of an image, from word `first` of the partition on. Answers their sum.
@@ -69,15 +47,13 @@ fn lay(frames: &[u32], first: usize, bytes: &[u8], memory: &mut [u32]) -> u32
     ensures memory_after { memory.new ≡ laid_words frames.now first bytes.now memory.old (count_of bytes.now) }
     ensures value { result ≡ sum_words bytes.now (count_of bytes.now) }
 {
-    let count = bytes.len() / 4;
+    let (words, _) = bytes.as_chunks::<4>();
     let mut sum: u32 = 0;
-    let mut k: usize = 0;
-    while k < count {
-        let w = word_at(bytes, k);
+    for (k, word) in words.iter().enumerate() {
+        let w = u32::from_le_bytes(*word);
         let at = place_of(frames, first + k);
         set_word(memory, at, w);
-        sum = std::num::wrapping_add_u32(sum, w);
-        k += 1;
+        sum = sum.wrapping_add(w);
     }
     sum
 }
@@ -88,11 +64,7 @@ fn lay(frames: &[u32], first: usize, bytes: &[u8], memory: &mut [u32]) -> u32
 fn pages_of(pages: &[u32], owner: u32) -> u32
     ensures { result ≡ slice_index pages.now owner }
 {
-    let i = wide(owner);
-    if i >= pages.len() {
-        return 0;
-    }
-    pages[i]
+    pages.get(wide(owner)).copied().unwrap_or(0)
 }
 
 // Where its frames begin in the list.
@@ -101,10 +73,8 @@ fn offset_of(pages: &[u32], owner: u32) -> usize
     ensures { result ≡ offset pages.now owner }
 {
     let mut from: usize = 0;
-    let mut i: u32 = 0;
-    while i < owner {
+    for i in 0..owner {
         from += wide(pages_of(pages, i));
-        i += 1;
     }
     from
 }
@@ -130,24 +100,6 @@ pub fn lay_image(
 
 // ---- whether it may be laid
 
-fn larger(a: usize, b: usize) -> usize
-    ensures { result ≡ max a b }
-{
-    if a < b {
-        return b;
-    }
-    a
-}
-
-fn smaller(a: usize, b: usize) -> usize
-    ensures { result ≡ min a b }
-{
-    if a < b {
-        return a;
-    }
-    b
-}
-
 // A word of m, from one address on, stands where one of n does, from another one on.
 fn crossing(a: u32, m: u32, b: u32, n: usize) -> bool
     requires { n < 1073741824 }
@@ -156,7 +108,7 @@ fn crossing(a: u32, m: u32, b: u32, n: usize) -> bool
     let first = wide(a) / 4;
     let other = wide(b) / 4;
     let end = first + wide(m);
-    larger(first, other) < smaller(end, other + n)
+    first.max(other) < end.min(other + n)
 }
 
 // Image j of the table stands where one of n words of image k would.
@@ -171,10 +123,7 @@ fn meets(table: &[u32], counts: &[u32], k: u32, n: usize, j: u32) -> bool
     let i = wide(j);
     let a = 3 * i;
     let b = 3 * wide(k);
-    if table[a] != table[b] {
-        return false;
-    }
-    crossing(table[a + 1], counts[i], table[b + 1], n)
+    table[a] == table[b] && crossing(table[a + 1], counts[i], table[b + 1], n)
 }
 
 // One of those before it does.
@@ -185,13 +134,7 @@ fn meets_any(table: &[u32], counts: &[u32], k: u32, n: usize) -> bool
     requires fact_4 { length counts.now ≡ 64 }
     ensures { result ≡ any (meeting table.now counts.now k n) k }
 {
-    let mut found = false;
-    let mut j: u32 = 0;
-    while j < k {
-        found = meets(table, counts, k, n, j) | found;
-        j += 1;
-    }
-    found
+    (0..k).any(|j| meets(table, counts, k, n, j))
 }
 
 // So many bytes from an address on go beyond so many pages.
@@ -202,8 +145,16 @@ fn beyond(pages: u32, address: u32, size: usize) -> bool
     4096 * wide(pages) < wide(address) + size
 }
 
-// Why image k, of so many bytes, is not laid behind those before it; 0 for no reason.
-pub fn fault_of(pages: &[u32], table: &[u32], counts: &[u32], k: u32, size: usize) -> u32
+// Why an image is not laid: it has no whole number of words, a word of it is beyond the pages, or stands where another image of the same partition has one.
+#[derive(Clone, Copy)]
+pub enum Fault {
+    PartOfAWord,
+    BeyondThePages,
+    OnAnother,
+}
+
+// Why image k, of so many bytes, is not laid behind those before it; none where it may be.
+pub fn fault_of(pages: &[u32], table: &[u32], counts: &[u32], k: u32, size: usize) -> Option<Fault>
     requires fact_1 { k < 64 }
     requires fact_2 { size < 1073741824 }
     requires fact_3 { length table.now ≡ 192 }
@@ -211,17 +162,17 @@ pub fn fault_of(pages: &[u32], table: &[u32], counts: &[u32], k: u32, size: usiz
     ensures { result ≡ fault_of pages.now table.now counts.now k size }
 {
     if size % 4 != 0 {
-        return 1;
+        return Some(Fault::PartOfAWord);
     }
     let at = 3 * wide(k);
     let room = pages_of(pages, table[at]);
     if beyond(room, table[at + 1], size) {
-        return 2;
+        return Some(Fault::BeyondThePages);
     }
     if meets_any(table, counts, k, size / 4) {
-        return 3;
+        return Some(Fault::OnAnother);
     }
-    0
+    None
 }
 
 // ---- its line on the slip

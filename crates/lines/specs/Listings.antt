@@ -1,5 +1,5 @@
 -- Listings of many words, and what the calls answer.
-use Rattle.std.specs.Prelude.{◌≡◌, Bool, true, false, not, List, [], ◌∷◌, ◌++◌, ℕ, suc, eqb, ltb, length, drop}
+use Rattle.std.specs.Prelude.{Bool, true, false, not, List, [], ◌∷◌, ◌++◌, ℕ, suc, eqb, ltb, length, drop}
 use Rattle.dlx.specs.Choice.{when◌then◌else◌}
 use Rattle.lines.specs.Lines.{line_of, candidate, right}
 
@@ -22,11 +22,6 @@ lines_behind l (b ∷ bs) = elim (eqb b 10) [ true ↦ l ∷ lines_behind [] bs 
 
 abbrev pub lines_of : List ℕ → List (List ℕ)
 lines_of t = lines_behind [] t
-
--- how long the first line of a text is
-unfoldable pub line_length : List ℕ → ℕ
-line_length [] = 0
-line_length (b ∷ bs) = elim (eqb b 10) [ true ↦ 0 | false ↦ suc (line_length bs) ]
 
 -- by what a right line is: the number of the first wrong one where the next one has the number n; 0 for none
 unfoldable pub wrong_by : (List ℕ → Bool) → ℕ → List (List ℕ) → ℕ
@@ -55,11 +50,6 @@ ended_from b (x ∷ xs) = x ∷ ended_from (not (eqb x 10)) xs
 
 abbrev pub ended : List ℕ → List ℕ
 ended t = ended_from false t
-
--- of these lines the first wrong one is w, and where none is there are n
-pub record Surveyed (ls : List (List ℕ)) (n w : ℕ) : Type 0 where
-  pub wrong : w ≡ wrong_from 1 ls
-  pub count : w ≡ 0 → n ≡ length ls
 
 -- ---- the calls: the number, its detail, how many words or bytes were written, and the output after it
 

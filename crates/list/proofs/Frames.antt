@@ -11,6 +11,11 @@ use Rattle.dlx.specs.Parts.{inner}
 use Rattle.lines.specs.Lines.{line_of}
 use Rattle.lines.specs.Listings.{listing, Answer, answer, listed}
 use Rattle.lines.proofs.Lines.{line_short}
+use Rattle.listing.specs.Answers.{answer_of}
+use Rattle.listing.specs.declared.Refusal.{Refusal}
+use Rattle.listing.specs.declared.Refusal.TheVariants.{ShortOutput, WrongLine}
+use Rattle.std.proofs.Common.{Result, Ok, Err}
+use Rattle.std.specs.Result.{result_unwrap_or}
 use Rattle.report.specs.Put.{Counts, put}
 use Rattle.report.proofs.Texts.{put_as}
 
@@ -31,6 +36,12 @@ frame_put ws out o n d k w l e =
     let text : o ≡ t ++ drop (length t) out = ap (λ (a : Answer). a.out) done in
     let there : k ≤ length o = omega (arith, ap length text, length-append t (drop (length t) out)) in
     (put_as t t out k o count text refl, (there, sym (length-take-le k o there)))
+
+-- what the call counts: nothing where it is refused
+pub counted : (r : Result ℕ Refusal) (o : List ℕ) {k : ℕ} → k ≡ result_unwrap_or r 0 → (n : ℕ) × ((d : ℕ) × (answer_of r o ≡ answer n d k o))
+counted (Ok k) o e = (0, (0, ap (λ (x : ℕ). answer 0 0 x o) (sym e)))
+counted (Err ShortOutput) o e = (13, (0, ap (λ (x : ℕ). answer 13 0 x o) (sym e)))
+counted (Err (WrongLine k)) o e = (18, (k, ap (λ (x : ℕ). answer 18 k x o) (sym e)))
 
 -- of a memory that ends before the frame, or in it
 pub frame_none : (frame : ℕ) (m out : List ℕ) → length m ≤ frame * 1024 → (0, out) ≡ put (listing (inner (frame * 1024) 1024 m)) out

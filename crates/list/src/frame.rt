@@ -33,11 +33,9 @@ fn put_frame(memory: &[u32], frame: usize, out: &mut [u8]) -> usize
         return 0;
     }
     if size - from < 1024 {
-        let v = list(&memory[from..size], out);
-        return v.count;
+        return list(&memory[from..size], out).unwrap_or(0);
     }
-    let v = list(&memory[from..from + 1024], out);
-    v.count
+    list(&memory[from..from + 1024], out).unwrap_or(0)
 }
 
 // The text for what a file holds.

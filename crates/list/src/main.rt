@@ -5,7 +5,7 @@
 mod frame;
 mod words;
 
-ghost use Rattle.std.specs.Prelude.{◌≡◌, ◌≤◌, length};
+ghost use Rattle.std.specs.Prelude.{◌≡◌, ◌≤◌, length, IfSome};
 ghost use Rattle.list.specs.Words.{Bytes, Behind, rest_behind, Told};
 
 use command::{asks_help, fail, number_in, open, put_out, wrong};
@@ -23,25 +23,19 @@ fn show(rt: &HostRuntime, r: Rest, piece: &[u8], text: &[u8]) -> bool
     put_out(rt, text)
 }
 
-// What a piece leaves, and whether its lines could be written.
-#[derive(Clone, Copy)]
-struct Listed {
-    rest: Rest,
-    written: bool,
-}
-
-fn list_piece(rt: &HostRuntime, r: Rest, piece: &[u8]) -> Listed
+// What a piece leaves, where its lines could be written.
+fn list_piece(rt: &HostRuntime, r: Rest, piece: &[u8]) -> Option<Rest>
     requires fact_1 { length piece.now ≤ 4096 }
     requires fact_2 { Behind r }
-    ensures rest_value { result.rest ≡ rest_behind r piece.now }
+    ensures rest_value { IfSome result (λ rest. rest ≡ rest_behind r piece.now) }
     ensures bytes { Bytes piece.now }
 {
     let mut out = [0u8; ROOM];
     let p = put_words(r, piece, &mut out);
-    let n = p.end;
-    let rest = p.rest;
-    let written = show(rt, r, piece, &out[..n]);
-    Listed { rest, written }
+    if !show(rt, r, piece, &out[..p.end]) {
+        return None;
+    }
+    Some(p.rest)
 }
 
 // At the end of the words. Fewer than four bytes at the end are told.
@@ -54,8 +48,7 @@ fn finish(rt: &HostRuntime, r: Rest) {
 // Reads the source to its end, and prints piece by piece. A read or a write that fails is told. No file has so many pieces that the count would end them.
 fn list_words(rt: &HostRuntime, source: &mut Source, name: &[u8]) {
     let mut rest = Rest::none();
-    let mut left = u64::MAX;
-    while left > 0 {
+    for _ in 0..u64::MAX {
         let mut buffer = files::buffer();
         let got = source.read(&mut buffer);
         if got < 0 {
@@ -67,12 +60,10 @@ fn list_words(rt: &HostRuntime, source: &mut Source, name: &[u8]) {
             finish(rt, rest);
             return;
         }
-        let x = list_piece(rt, rest, &buffer[..n]);
-        if !x.written {
-            return;
+        match list_piece(rt, rest, &buffer[..n]) {
+            Some(left) => rest = left,
+            None => return,
         }
-        rest = x.rest;
-        left -= 1;
     }
 }
 

@@ -56,12 +56,9 @@ pub fn put_words(r: Rest, piece: &[u8], out: &mut [u8]) -> Put
 {
     let mut rest = r;
     let mut end = 0;
-    let mut i = 0;
-    while i < piece.len() {
-        let b = piece[i];
-        end = put_completed(out, end, rest, b);
-        rest = further(rest, b);
-        i += 1;
+    for b in piece {
+        end = put_completed(out, end, rest, *b);
+        rest = further(rest, *b);
     }
     Put { rest, end }
 }

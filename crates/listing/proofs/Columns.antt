@@ -4,13 +4,14 @@ use mathlib.Core.Bool.{Bool, true, ◌&&◌}
 use mathlib.Core.List.{List, [], ◌∷◌}
 use Prim.Native.Nat.{ℕ, zero, suc, ◌+◌, ◌-◌, ◌*◌, ◌%◌, ◌^◌, ◌<◌, ◌≤◌}
 use native.Mathlib.Nat.{le_of_suc-le-suc}
-use native.Mathlib.Numerals.{add-one}
 use native.Mathlib.Omega.{arith}
-use borrow.Author.Tests.{eq-eqb, ne_eqb, eqb-true}
-use lib.Dec.{eqb}
-use lib.ListN.{length, get_or, take, drop, drop_of_length-le, get_or-eq_default}
-use lib.Seq.{drop-cons}
-use Rattle.dlx.proofs.Tests.{and_left}
+use borrow.Author.Tests.{eqb-true, ltb-false}
+use lib.Dec.{eqb, ltb}
+use lib.ListN.{length, get_or, take, drop, get_or-eq_default}
+use Rattle.std.proofs.Common.{nat_eq, Option}
+use Rattle.std.specs.List.{position, position_or_len}
+use Rattle.std.specs.Option.{unwrap_or}
+use Rattle.dlx.proofs.Tests.{and_left, by_test}
 use Rattle.decimal.specs.Texts.{ascii, same}
 use Rattle.decimal.proofs.Same.{and_right, same_eq}
 use Rattle.lines.specs.Table.{absent, Operand, operand, operands, operand_at, Row, named, unnamed, row_at}
@@ -19,20 +20,28 @@ use Rattle.lines.specs.Lines.{place_from, coded, lettered}
 use Rattle.lines.proofs.Tables.{below, below_at, name_short, size_some, size_word, scale_some}
 use Rattle.lines.proofs.Lines.{coded_bound, lettered_bound}
 
--- ---- a search: what is left to search from here is what was to search from the start
+-- ---- a search
 
-module _ (xs : List ℕ) (n i : ℕ) where
-  pub place_on : (t : ℕ) → i < length xs → (get_or xs i 0 ≡ n → ⊥) → place_from i (drop i xs) n ≡ t → place_from (i + 1) (drop (i + 1) xs) n ≡ t
-  unfolding place_from
-  place_on t l d e = rw (add-one i) (rw (drop-cons xs i 0 l, ne_eqb (get_or xs i 0) n d, place_from) at e)
+place_at : (n i : ℕ) (xs : List ℕ) → i + position_or_len (λ (x : ℕ). nat_eq x n) xs ≡ place_from i xs n
+unfolding place_from
+place_at n i [] = omega arith
+place_at n i (x ∷ xs) =
+    by_test (eqb x n)
+    (λ q. rw (q, place_from) (omega arith))
+    (λ q. rw (q, place_from) (let e = place_at n (suc i) xs in omega arith))
 
-  pub place_found : i < length xs → get_or xs i 0 ≡ n → place_from i (drop i xs) n ≡ i
-  unfolding place_from
-  place_found l d = rw (drop-cons xs i 0 l, eq-eqb (get_or xs i 0) n d, place_from)
-
-  pub place_none : length xs ≤ i → place_from i (drop i xs) n ≡ i
-  unfolding place_from
-  place_none l = rw (drop_of_length-le xs l)
+pub place_is : (n : ℕ) (xs : List ℕ) {o : Option ℕ} → o ≡ position (λ (x : ℕ). nat_eq x n) xs → unwrap_or o (length xs) ≡ place_from 0 xs n
+place_is n xs is =
+    let at = position_or_len (λ (x : ℕ). nat_eq x n) xs in
+    let e = place_at n 0 xs in
+    let l : at ≤ length xs = place_bound n xs in
+    by_test (ltb at (length xs))
+    (λ q. rw (is, q) (omega arith))
+    (λ q. rw (is, q) (omega (arith, ltb-false at (length xs) q)))
+  where
+    place_bound : (n : ℕ) (xs : List ℕ) → position_or_len (λ (x : ℕ). nat_eq x n) xs ≤ length xs
+    place_bound n [] = omega arith
+    place_bound n (x ∷ xs) = let l = place_bound n xs in by_test (eqb x n) (λ q. rw q (omega arith)) (λ q. rw q (omega arith))
 
 pub coded_is : (r c : ℕ) → r ≡ coded c → (r ≡ coded c) × (r ≤ 45)
 coded_is r c e = (e, omega (arith, coded_bound c))

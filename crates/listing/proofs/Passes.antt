@@ -2,18 +2,23 @@
 use mathlib.Core.Path.{◌≡◌, refl, sym, ap, ◌∙◌}
 use mathlib.Core.Bool.{Bool, true, false}
 use mathlib.Core.List.{List, [], ◌∷◌, ◌++◌, append_assoc, append-nil}
-use Prim.Native.Nat.{ℕ, suc, ◌+◌, ◌-◌, ◌<◌, ◌≤◌, min}
+use Prim.Native.Nat.{ℕ, suc, ◌+◌, ◌-◌, ◌<◌, ◌≤◌}
 use native.Mathlib.Numerals.{add-one}
 use native.Mathlib.Omega.{arith}
-use borrow.Author.Tests.{eq-eqb, ne_eqb, lt-ltb, le-ltb, le-leb, lt-leb, leb-true, leb-false}
+use borrow.Author.Tests.{ne_eqb, lt-ltb, le-ltb, le-leb, lt-leb, leb-true, leb-false, ltb-true, ltb-false}
+use Rattle.std.proofs.Common.{nat_eq, Ok, Err, Some, None}
+use Rattle.std.specs.List.{position, position_or_len}
 use lib.Dec.{eqb, ltb, leb}
-use lib.ListN.{length, get_or, set, take, drop, drop_of_length-le, length-append, length-drop}
-use lib.Seq.{drop-cons, drop-drop, sets, sets-eq}
+use lib.ListN.{length, get_or, set, take, drop, drop_of_length-le, length-append}
+use lib.Seq.{drop-cons, sets, sets-eq}
 use Rattle.dlx.proofs.Tests.{by_test}
 use Rattle.decimal.specs.Texts.{Text, text, put}
 use Rattle.decimal.proofs.Texts.{put_behind, exactly, whole}
 use Rattle.lines.specs.Lines.{line_of, candidate, right}
-use Rattle.lines.specs.Listings.{listing, last_line, lines_behind, lines_of, line_length, wrong_from, words_of, Surveyed, answer, assembled, listed, wrong_by, words_by, read_by}
+use Rattle.lines.specs.Listings.{listing, last_line, lines_behind, lines_of, wrong_from, words_of, answer, assembled, listed, wrong_by, words_by, read_by}
+use Rattle.listing.specs.Answers.{answer_of, Surveyed}
+use Rattle.listing.specs.declared.Refusal.{Refusal}
+use Rattle.listing.specs.declared.Refusal.TheVariants.{ShortOutput, WrongLine}
 
 -- ---- words
 
@@ -66,61 +71,59 @@ module _ (ws out : List ℕ) {b : Bool} (e : b ≡ leb (length (listing ws)) (le
       let z : 0 + length (listing ws) ≡ length (listing ws) = omega arith in
       rw (le-ltb (length out) (length (listing ws)) l, n, q, z)
 
--- ---- the end of a line
-
-module _ (t : List ℕ) (i : ℕ) where
-  pub end_on : {x : ℕ} → i < length t → (get_or t i 0 ≡ 10 → ⊥) → i + line_length (drop i t) ≡ x → i + 1 + line_length (drop (i + 1) t) ≡ x
-  unfolding line_length
-  end_on {x} h n e =
-      let q : i + suc (line_length (drop (suc i) t)) ≡ x = rw (drop-cons t i 0 h, ne_eqb (get_or t i 0) 10 n, line_length) at e in
-      rw (add-one i) (omega arith)
-
-  pub end_at : {x : ℕ} → i < length t → get_or t i 0 ≡ 10 → i + line_length (drop i t) ≡ x → i ≡ x
-  unfolding line_length
-  end_at {x} h n e = let q : i + 0 ≡ x = rw (drop-cons t i 0 h, eq-eqb (get_or t i 0) 10 n, line_length) at e in omega arith
-
-  pub end_none : {x : ℕ} → length t ≤ i → i + line_length (drop i t) ≡ x → i ≡ x
-  unfolding line_length
-  end_none {x} h e = let q : i + 0 ≡ x = rw (drop_of_length-le t h) at e in omega arith
-
 -- ---- the first line, and the lines behind it
 
 last_line_lem : (l : List ℕ) (x : ℕ) → last_line (l ++ (x ∷ [])) ≡ (l ++ (x ∷ [])) ∷ []
 last_line_lem [] x = refl
 last_line_lem (y ∷ l) x = refl
 
-first_line_lem : (l : List ℕ) (x : ℕ) (xs : List ℕ) → lines_behind l (x ∷ xs) ≡ (l ++ take (line_length (x ∷ xs)) (x ∷ xs)) ∷ lines_behind [] (drop (suc (line_length (x ∷ xs))) (x ∷ xs))
-unfolding lines_behind line_length
-first_line_lem l x [] =
-    by_test (eqb x 10)
-    (λ q. rw (q, lines_behind, line_length) (rw (append-nil l)))
-    (λ q. rw (q, lines_behind, line_length) (last_line_lem l x))
-first_line_lem l x (y ∷ ys) =
-    by_test (eqb x 10)
-    (λ q. rw (q, lines_behind, line_length) (rw (append-nil l)))
-    (λ q. rw (q, lines_behind, line_length) (first_line_lem (l ++ (x ∷ [])) y ys ∙ rw (append_assoc l (x ∷ []) (take (line_length (y ∷ ys)) (y ∷ ys)))))
+-- where the first newline of a text is
+abbrev is_newline : ℕ → Bool
+is_newline b = nat_eq b 10
 
--- the line from a to e of a text, and those from n on
-module _ (t : List ℕ) (a e n : ℕ) (h : a < length t) (ends : e ≡ a + line_length (drop a t)) (next : n ≡ min (e + 1) (length t)) where
-  drop_next : drop (suc (line_length (drop a t))) (drop a t) ≡ drop n t
-  drop_next =
-      drop-drop (suc (line_length (drop a t))) a t
-      ∙ by_test (ltb e (length t))
-      (λ q. let l = borrow.Author.Tests.ltb-true e (length t) q in let z : a + suc (line_length (drop a t)) ≡ n = omega arith in rw z)
-      (λ q.
-      let l = borrow.Author.Tests.ltb-false e (length t) q in
-      let y : length t ≤ a + suc (line_length (drop a t)) = omega arith in
-      let z : length t ≤ n = omega arith in
-      rw (drop_of_length-le t y, drop_of_length-le t z))
+abbrev newline : List ℕ → ℕ
+newline t = position_or_len is_newline t
 
-  pub lines_next : lines_of (drop a t) ≡ take (e - a) (drop a t) ∷ lines_of (drop n t)
-  lines_next =
-      let z : e - a ≡ line_length (drop a t) = omega arith in
-      rw (z, ← drop_next) (split (drop a t) (omega (arith, length-drop a t)))
-    where
-      split : (xs : List ℕ) → 1 ≤ length xs → lines_of xs ≡ take (line_length xs) xs ∷ lines_of (drop (suc (line_length xs)) xs)
-      split [] k = absurd (omega arith)
-      split (x ∷ xs) k = first_line_lem [] x xs
+first_from : (l t : List ℕ) → newline t < length t → lines_behind l t ≡ (l ++ take (newline t) t) ∷ lines_of (drop (newline t + 1) t)
+unfolding lines_behind
+first_from l [] h = absurd (omega arith)
+first_from l0 (x ∷ xs) h =
+    by_test (eqb x 10)
+    (λ q. rw (q, lines_behind) (rw (append-nil l0)))
+    (λ q.
+    let n = newline xs in
+    let k : newline (x ∷ xs) ≡ suc n = rw q (omega arith) in
+    let l : newline xs < length xs = omega arith in
+    rw (k, q, lines_behind, add-one) (first_from (l0 ++ (x ∷ [])) xs l ∙ rw (append_assoc l0 (x ∷ []) (take n xs), add-one)))
+
+-- without one
+only_from : (l t : List ℕ) → length t ≤ newline t → lines_behind l t ≡ last_line (l ++ t)
+unfolding lines_behind
+only_from l [] h = ap last_line (sym (append-nil l))
+only_from l (x ∷ xs) h =
+    by_test (eqb x 10)
+    (λ q. let z = rw q at h in absurd (omega arith))
+    (λ q. rw (q, lines_behind) (let z = rw q at h in only_from (l ++ (x ∷ [])) xs (omega arith) ∙ ap last_line (append_assoc l (x ∷ []) xs)))
+
+some_is : {a b : ℕ} → Some a ≡ Some b → a ≡ b
+some_is e = cc
+
+pub first_line : (t : List ℕ) {n : ℕ} → Some n ≡ position is_newline t → (n < length t) × (lines_of t ≡ take n t ∷ lines_of (drop (n + 1) t))
+first_line t {n} e =
+    by_test (ltb (newline t) (length t))
+    (λ q.
+    let z : n ≡ newline t = some_is (rw q at e) in
+    let l = ltb-true (newline t) (length t) q in
+    (omega arith, rw z (first_from [] t l)))
+    (λ q. let z = rw q at e in cc)
+
+pub only_line : (t : List ℕ) → false ≡ nat_eq (length t) 0 → None ≡ position is_newline t → lines_of t ≡ t ∷ lines_of []
+unfolding lines_behind
+only_line [] l e = cc
+only_line (x ∷ xs) l e =
+    by_test (ltb (newline (x ∷ xs)) (length (x ∷ xs)))
+    (λ q. let z = rw q at e in cc)
+    (λ q. only_from [] (x ∷ xs) (ltb-false (newline (x ∷ xs)) (length (x ∷ xs)) q))
 
 -- ---- looking over lines: k is the number of lines passed
 
@@ -132,16 +135,18 @@ module _ (ls : List (List ℕ)) (k : ℕ) (l : List ℕ) (rest now : List (List 
   pub over_count : k + length now ≡ length ls → k + 1 + length rest ≡ length ls
   over_count e = omega (arith, ap length first)
 
-  pub over_wrong : right l ≡ false → wrong_from (k + 1) now ≡ wrong_from 1 ls → Surveyed ls (k + 1) (k + 1)
+  pub over_wrong : right l ≡ false → wrong_from (k + 1) now ≡ wrong_from 1 ls → wrong_from 1 ls ≡ k + 1
   unfolding wrong_by
-  over_wrong y e = record { wrong = rw (first, y, wrong_by) at e; count = λ z. absurd (omega arith) }
+  over_wrong y e = sym (rw (first, y, wrong_by) at e)
 
-pub over_done : (t : List ℕ) (k a : ℕ) → length t ≤ a → wrong_from (k + 1) (lines_of (drop a t)) ≡ wrong_from 1 (lines_of t) → k + length (lines_of (drop a t)) ≡ length (lines_of t)
-    → Surveyed (lines_of t) k 0
-unfolding wrong_by lines_behind
-over_done t k a h e f =
-    let z : drop a t ≡ [] = drop_of_length-le t h in
-    record { wrong = rw z at e; count = λ _. let q : k + 0 ≡ length (lines_of t) = rw z at f in omega arith }
+module _ (ls : List (List ℕ)) (k : ℕ) (t : List ℕ) (none : t ≡ []) where
+  pub over_done : wrong_from (k + 1) (lines_of t) ≡ wrong_from 1 ls → wrong_from 1 ls ≡ 0
+  unfolding wrong_by lines_behind
+  over_done e = sym (rw none at e)
+
+  pub over_all : k + length (lines_of t) ≡ length ls → k ≡ length ls
+  unfolding lines_behind
+  over_all e = let z : k + 0 ≡ length ls = rw none at e in omega arith
 
 -- ---- writing words
 
@@ -150,9 +155,9 @@ module _ (l : List ℕ) (rest now : List (List ℕ)) (first : now ≡ l ∷ rest
   unfolding words_by
   words_on out k f e = rw (add-one k, f) (rw first at e)
 
-pub words_done : {o : List ℕ} (t out : List ℕ) (k a : ℕ) → length t ≤ a → sets out k (words_of (lines_of (drop a t))) ≡ o → out ≡ o
+pub words_done : {o : List ℕ} (t out : List ℕ) (k : ℕ) → t ≡ [] → sets out k (words_of (lines_of t)) ≡ o → out ≡ o
 unfolding words_by lines_behind
-words_done t out k a h e = rw (drop_of_length-le t h) at e
+words_done t out k h e = rw h at e
 
 words_length : (f : List ℕ → ℕ) (ls : List (List ℕ)) → length (words_by f ls) ≡ length ls
 unfolding words_by
@@ -168,19 +173,17 @@ words_all f ls out h e =
 
 -- ---- the call
 
-module _ (t out : List ℕ) {n w : ℕ} (s : Surveyed (lines_of t) n w) where
-  pub assembled_wrong : (w ≡ 0 → ⊥) → answer 18 w 0 out ≡ assembled t out
+module _ (t out : List ℕ) where
+  pub assembled_wrong : (r : Refusal) → Surveyed (lines_of t) (Err r) → answer_of (Err r) out ≡ assembled t out
   unfolding read_by
-  assembled_wrong z = rw (← s.wrong, ne_eqb w 0 z)
+  assembled_wrong ShortOutput s = absurd s
+  assembled_wrong (WrongLine k) (e, l) = rw (e, ne_eqb k 0 (omega arith))
 
-  module _ (z : w ≡ 0) where
+  module _ (n : ℕ) (s : Surveyed (lines_of t) (Ok n)) where
     pub assembled_short : length out < n → answer 13 0 0 out ≡ assembled t out
     unfolding read_by
-    assembled_short h = rw (← s.wrong, eq-eqb w 0 z, ← (s.count z), lt-ltb (length out) n h)
+    assembled_short h = rw (s.0, ← s.1, lt-ltb (length out) n h)
 
     pub assembled_done : {o : List ℕ} → n ≤ length out → o ≡ words_of (lines_of t) ++ drop (length (lines_of t)) out → answer 0 0 n o ≡ assembled t out
     unfolding read_by
-    assembled_done h e = let q : n ≡ length (lines_of t) = s.count z in rw (← s.wrong, eq-eqb w 0 z, ← q, le-ltb (length out) n h) (rw (e, ← q))
-
-    pub assembled_room : n ≤ length out → length (lines_of t) ≤ length out
-    assembled_room h = omega (arith, s.count z)
+    assembled_done h e = rw (s.0, ← s.1, le-ltb (length out) n h) (rw (e, ← s.1))

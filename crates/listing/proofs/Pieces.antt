@@ -4,12 +4,12 @@ use mathlib.Core.Bool.{Bool, true, false}
 use mathlib.Core.List.{List, [], ◌∷◌, ◌++◌}
 use Prim.Native.Nat.{ℕ, ◌+◌, ◌*◌, ◌/◌, ◌%◌, ◌^◌, ◌<◌, ◌≤◌}
 use native.Mathlib.Nat.{div-le_self, mul-le-mul_right, mod-lt}
-use native.Mathlib.Numerals.{add-one}
 use native.Mathlib.Omega.{arith}
 use borrow.Author.Tests.{eq-eqb, ne_eqb, le-leb, lt-leb}
 use lib.Dec.{ltb}
-use lib.ListN.{length, get_or, take, drop, drop_of_length-le, length-append}
-use lib.Seq.{drop-cons, take_at}
+use lib.ListN.{length, take, drop, length-append}
+use lib.Seq.{take_at}
+use Rattle.std.specs.List.{fold}
 use Rattle.decimal.specs.Decimals.{decimal, signed_text}
 use Rattle.decimal.specs.Texts.{Text, text, put, same}
 use Rattle.decimal.proofs.Texts.{put_behind, exactly, whole}
@@ -159,16 +159,12 @@ module _ (w : ℕ) {row k1 k2 k3 : ℕ} (e : row ≡ place_of w) (q1 : k1 ≡ (r
       let three = put_behind (text o1 r1) x (y ++ z) g' two in
       rw (← e) (put_behind t n (x ++ (y ++ z)) f three)
 
--- ---- a line's bytes: what is left to read from here is what was to read from the start
+-- ---- a line's bytes
 
-module _ (l : List ℕ) (i : ℕ) (s : Scan) {t : Scan} where
-  pub scan_on : {s' : Scan} → i < length l → scan_from s (drop i l) ≡ t → s' ≡ scanned s (get_or l i 0) → scan_from s' (drop (i + 1) l) ≡ t
-  unfolding scan_from
-  scan_on h e f = rw (add-one i, f) (rw (drop-cons l i 0 h) at e)
-
-  pub scan_done : length l ≤ i → scan_from s (drop i l) ≡ t → s ≡ t
-  unfolding scan_from
-  scan_done h e = rw (drop_of_length-le l h) at e
+pub scan_fold : (s : Scan) (l : List ℕ) → fold scanned s l ≡ scan_from s l
+unfolding scan_from
+scan_fold s [] = refl
+scan_fold s (b ∷ bs) = scan_fold (scanned s b) bs
 
 module _ (l : List ℕ) {s : Scan} {row last w : ℕ} where
   pub candidate_is : s ≡ scan_from start l → row ≡ lettered s.letters → last ≡ last_of s → w ≡ made (row_at row) s.first s.second last → w ≡ candidate l

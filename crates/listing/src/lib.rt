@@ -2,10 +2,11 @@
 // told by `line_of` alone: any other line is wrong.
 #![tactic(auto)]
 
-ghost use Rattle.std.specs.Prelude.{◌≡◌, ◌++◌, ◌+◌, ◌≤◌, min, leb, length, drop};
+ghost use Rattle.std.specs.Prelude.{◌≡◌, [], ◌∷◌, ◌++◌, ◌<◌, ◌≤◌, leb, length, drop, MatchOption, position, ◌==◌};
 ghost use Rattle.decimal.specs.Texts.{text, put};
 ghost use Rattle.lines.specs.Lines.{line_of};
-ghost use Rattle.lines.specs.Listings.{listing, lines_of, line_length, words_of, Surveyed, answer, assembled, listed};
+ghost use Rattle.lines.specs.Listings.{listing, lines_of, words_of, assembled, listed};
+ghost use Rattle.listing.specs.Answers.{answer_of, Surveyed};
 
 use crate::reading::{candidate, right};
 use crate::writing::{LONGEST, put_line};
@@ -15,12 +16,11 @@ pub mod reading;
 mod table;
 pub mod writing;
 
-// What a call answers: 0, or 13 where the output is too short, or 18 and the number of the first wrong line; and how many bytes or words were written.
-#[derive(Clone, Copy)]
-pub struct Verdict {
-    pub number: u32,
-    pub detail: u64,
-    pub count: usize,
+// Why nothing was written: 13, the output is too short, or 18 and the number of the first wrong line.
+#[derive(Clone, Copy, Debug, PartialEq, Eq)]
+pub enum Refusal {
+    ShortOutput,
+    WrongLine(usize),
 }
 
 // ---- lines out of words
@@ -37,14 +37,12 @@ fn has_room(words: &[u32], room: usize) -> bool
     ensures { result ≡ leb (length (listing words.now)) room }
 {
     let mut left = room;
-    let mut i = 0;
-    while i < words.len() {
-        let n = line_length(words[i]);
+    for w in words {
+        let n = line_length(*w);
         if left <= n {
             return false;
         }
         left -= n + 1;
-        i += 1;
     }
     true
 }
@@ -53,124 +51,84 @@ fn write_lines(words: &[u32], out: &mut [u8]) -> usize
     ensures { text out.new result ≡ put (text out.old 0) (listing words.now) }
 {
     let mut end = 0;
-    let mut i = 0;
-    while i < words.len() {
-        let line = put_line(out, end, words[i]);
-        end = put_byte(out, line, 10);
-        i += 1;
+    for w in words {
+        let line = put_line(out, end, *w);
+        end = put_byte(out, line, b'\n');
     }
     end
 }
 
-// Writes the listing of the words at the start of the output.
-pub fn list(words: &[u32], out: &mut [u8]) -> Verdict
-    ensures { answer result.number result.detail result.count out.new ≡ listed words.now out.old }
+// Writes the listing of the words at the start of the output, and answers how many bytes it has.
+pub fn list(words: &[u32], out: &mut [u8]) -> Result<usize, Refusal>
+    ensures { answer_of result out.new ≡ listed words.now out.old }
 {
     if !has_room(words, out.len()) {
-        return Verdict {
-            number: 13,
-            detail: 0,
-            count: 0,
-        };
+        return Err(Refusal::ShortOutput);
     }
-    let end = write_lines(words, out);
-    Verdict {
-        number: 0,
-        detail: 0,
-        count: end,
-    }
+    Ok(write_lines(words, out))
 }
 
 // ---- words out of lines
 
-// Where the line that begins here ends: at its newline, or with the text.
-fn line_end(text: &[u8], from: usize) -> usize
-    requires { from ≤ length text.now }
-    ensures { (result ≡ from + line_length (drop from text.now)) × (result ≤ length text.now) }
+// Where the first newline of a text is.
+fn newline_in(text: &[u8]) -> Option<usize>
+    ensures { result ≡ position (λ b. b == 10) text.now }
 {
-    let mut end = from;
-    while end < text.len() {
-        if text[end] == 10 {
-            return end;
-        }
-        end += 1;
+    text.iter().position(|b| *b == b'\n')
+}
+
+// The first line of a text, and what stands behind its newline.
+fn next_line(text: &[u8]) -> Option<(&[u8], &[u8])>
+    ensures { MatchOption result (text.now ≡ []) (λ p. lines_of text.now ≡ p.0.now ∷ lines_of p.1.now × length p.1.now < length text.now) }
+{
+    if text.is_empty() {
+        return None;
     }
-    end
-}
-
-// Where the line behind it begins.
-fn behind(end: usize, len: usize) -> usize
-    requires { end ≤ len }
-    ensures { result ≡ min (end + 1) len }
-{
-    if end < len {
-        return end + 1;
+    match newline_in(text) {
+        Some(end) => Some((&text[..end], &text[end + 1..])),
+        None => Some((text, &[])),
     }
-    end
 }
 
-// How many lines a text has, and the number of the first wrong one.
-#[derive(Clone, Copy)]
-struct Survey {
-    lines: usize,
-    wrong: usize,
-}
-
-fn look_over(text: &[u8]) -> Survey
-    ensures { Surveyed (lines_of text.now) result.lines result.wrong }
+// How many lines a text has, where none is wrong.
+fn look_over(text: &[u8]) -> Result<usize, Refusal>
+    ensures { Surveyed (lines_of text.now) result }
 {
-    let mut at = 0;
+    let mut rest = text;
     let mut n = 0;
-    while at < text.len() {
-        let end = line_end(text, at);
+    // Not a `for`: a line ends at its newline, wherever that is.
+    while let Some((line, behind)) = next_line(rest) {
         n += 1;
-        if !right(&text[at..end]) {
-            return Survey { lines: n, wrong: n };
+        if !right(line) {
+            return Err(Refusal::WrongLine(n));
         }
-        at = behind(end, text.len());
+        rest = behind;
     }
-    Survey { lines: n, wrong: 0 }
+    Ok(n)
 }
 
 fn write_words(text: &[u8], out: &mut [u32])
     requires { length (lines_of text.now) ≤ length out.old }
     ensures { out.new ≡ words_of (lines_of text.now) ++ drop (length (lines_of text.now)) out.old }
 {
-    let mut at = 0;
+    let mut rest = text;
     let mut n = 0;
-    while at < text.len() {
-        let end = line_end(text, at);
-        out[n] = candidate(&text[at..end]);
+    // Not a `for`: a line ends at its newline, wherever that is.
+    while let Some((line, behind)) = next_line(rest) {
+        out[n] = candidate(line);
         n += 1;
-        at = behind(end, text.len());
+        rest = behind;
     }
 }
 
-// Writes the words of a text's lines at the start of the output.
-pub fn assemble(text: &[u8], out: &mut [u32]) -> Verdict
-    ensures { answer result.number result.detail result.count out.new ≡ assembled text.now out.old }
+// Writes the words of a text's lines at the start of the output, and answers how many they are.
+pub fn assemble(text: &[u8], out: &mut [u32]) -> Result<usize, Refusal>
+    ensures { answer_of result out.new ≡ assembled text.now out.old }
 {
-    let s = look_over(text);
-    let wrong = s.wrong;
-    if wrong != 0 {
-        return Verdict {
-            number: 18,
-            detail: wrong as u64,
-            count: 0,
-        };
-    }
-    let lines = s.lines;
+    let lines = look_over(text)?;
     if out.len() < lines {
-        return Verdict {
-            number: 13,
-            detail: 0,
-            count: 0,
-        };
+        return Err(Refusal::ShortOutput);
     }
     write_words(text, out);
-    Verdict {
-        number: 0,
-        detail: 0,
-        count: lines,
-    }
+    Ok(lines)
 }

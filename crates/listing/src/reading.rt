@@ -1,6 +1,6 @@
 // The word of a line.
-ghost use Rattle.std.specs.Prelude.{◌≡◌, ◌≤◌};
-ghost use Rattle.lines.specs.Lines.{with_letter, with_digit, scanned, scan_from, start, last_of, candidate, right};
+ghost use Rattle.std.specs.Prelude.{◌≡◌, ◌≤◌, fold};
+ghost use Rattle.lines.specs.Lines.{with_letter, with_digit, scanned, start, last_of, candidate, right};
 
 use crate::table::row_lettered;
 use crate::writing::{LONGEST, made, put_line};
@@ -13,10 +13,7 @@ fn with_letter(s: Scan, b: u8) -> Scan
     let more = s.letters as u64 * 32 + (b % 32) as u64;
     Scan {
         letters: (more % 4294967296) as u32,
-        minus: s.minus,
-        first: s.first,
-        second: s.second,
-        third: s.third,
+        ..s
     }
 }
 
@@ -26,11 +23,8 @@ fn with_digit(s: Scan, b: u8) -> Scan
 {
     let more = s.third as u64 * 10 + (b - 48) as u64;
     Scan {
-        letters: s.letters,
-        minus: s.minus,
-        first: s.first,
-        second: s.second,
         third: (more % 4294967296) as u32,
+        ..s
     }
 }
 
@@ -40,21 +34,14 @@ fn with_byte(s: Scan, b: u8) -> Scan
 {
     if b == 32 {
         return Scan {
-            letters: s.letters,
-            minus: s.minus,
             first: s.second,
             second: s.third,
             third: 0,
+            ..s
         };
     }
     if b == 45 {
-        return Scan {
-            letters: s.letters,
-            minus: true,
-            first: s.first,
-            second: s.second,
-            third: s.third,
-        };
+        return Scan { minus: true, ..s };
     }
     if b < 48 {
         return with_letter(s, b);
@@ -66,21 +53,16 @@ fn with_byte(s: Scan, b: u8) -> Scan
 }
 
 fn scan_of(line: &[u8]) -> Scan
-    ensures { result ≡ scan_from start line.now }
+    ensures { result ≡ fold scanned start line.now }
 {
-    let mut s = Scan {
+    let start = Scan {
         letters: 0,
         minus: false,
         first: 0,
         second: 0,
         third: 0,
     };
-    let mut i = 0;
-    while i < line.len() {
-        s = with_byte(s, line[i]);
-        i += 1;
-    }
-    s
+    line.iter().fold(start, |s, b| with_byte(s, *b))
 }
 
 // The last number, with its sign.

@@ -149,10 +149,8 @@ fn put_registers(out: &mut [u8; ROOM], at: usize, regs: &[u32; 256], i: usize) -
     ensures { Puts out.old at out.new result (registers_from regs.now i) 1472 }
 {
     let mut end = at;
-    let mut j = 0;
-    while j < 32 {
-        end = put_register(out, end, j, regs[i * 32 + j]);
-        j += 1;
+    for (j, w) in regs[i * 32..i * 32 + 32].iter().enumerate() {
+        end = put_register(out, end, j, *w);
     }
     end
 }
@@ -191,10 +189,8 @@ fn put_partitions(
     ensures { Puts out.old at out.new result (joined (λ i. block_of i (get_or running.now i false) (get_or parts i no_partition) regs.now) n) (2134 * n) }
 {
     let mut end = at;
-    let mut i = 0;
-    while i < n {
+    for i in 0..n {
         end = put_partition(out, end, i, running[i], parts[i], regs);
-        i += 1;
     }
     end
 }
@@ -203,10 +199,7 @@ fn put_partitions(
 fn used(count: u32) -> usize
     ensures { result ≡ min count 8 }
 {
-    if count < 8 {
-        return wide(count);
-    }
-    8
+    wide(count.min(8))
 }
 
 // Whose turn it is.

@@ -2,8 +2,7 @@
 use mathlib.Core.Path.{◌≡◌, ap, sym, ◌∙◌}
 use mathlib.Core.Bool.{false}
 use mathlib.Core.List.{List, ◌∷◌}
-use Prim.Native.Nat.{ℕ, suc, ◌+◌, ◌*◌, ◌<◌, ◌≤◌}
-use native.Mathlib.Nat.{min-eq_left, min-eq_right}
+use Prim.Native.Nat.{ℕ, suc, ◌+◌, ◌*◌, ◌<◌, ◌≤◌, min}
 use native.Mathlib.Numerals.{add-one}
 use native.Mathlib.Omega.{arith}
 use borrow.Author.Tests.{lt-ltb, le-ltb, lt-leb, le-leb}
@@ -46,10 +45,6 @@ module _ (l : List ℕ) (low high : ℕ) (h : 22 ≤ length l) (a : low ≡ numb
   said : low + 65536 * high ≡ number (take 4 (drop 10 l))
   said = rw (a, b) (four_at l h)
 
-  pub some_room : low + 65536 * high ≤ 1048576 → low + 65536 * high ≡ room_for l
+  pub some_room : min (low + 65536 * high) 1048576 ≡ room_for l
   unfolding room_for
-  some_room r = sym (rw (le-ltb (length l) 22 h, ← said) (min-eq_left r))
-
-  pub most_room : 1048576 < low + 65536 * high → 1048576 ≡ room_for l
-  unfolding room_for
-  most_room r = sym (rw (le-ltb (length l) 22 h, ← said) (min-eq_right (omega arith)))
+  some_room = sym (rw (le-ltb (length l) 22 h, ← said))

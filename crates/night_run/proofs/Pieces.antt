@@ -6,13 +6,13 @@ use Prim.Native.Nat.{ℕ, zero, suc, ◌+◌, ◌-◌, ◌^◌, ◌<◌, ◌≤�
 use native.Mathlib.Omega.{arith}
 use borrow.Author.Tests.{eq-eqb, ne_eqb, lt-ltb, le-ltb, ltb-true, ltb-false, le-leb, lt-leb, eqb-true, eqb-false}
 use lib.Dec.{eqb, ltb}
-use lib.IntN.{ℤ, pos, negsuc}
 use lib.ListN.{length, take, length-append, length-take}
 use lib.Seq.{take-append-le, take_all, length-take-le}
 use native.Mathlib.Nat.{min-eq_left}
-use lib.Signed.{lt_z}
+use Rattle.std.proofs.Common.{Option, Some, None, IfSome, is_none}
+use Rattle.std.specs.Option.{unwrap_or}
 use Rattle.dlx.specs.Choice.{when◌then◌else◌}
-use Rattle.files.specs.Counts.{IsPrefixLen, clamp_len}
+use Rattle.files.specs.Counts.{IsPrefixLen}
 use Rattle.dlx.proofs.Kept.{either}
 use Rattle.dlx.proofs.Tests.{by_test}
 use Rattle.house.proofs.Lists.Bounded.{one_way}
@@ -22,18 +22,26 @@ use Rattle.night_run.specs.declared.input.Taken.{Taken}
 
 -- ---- one read
 
-came_taken : (a : ℤ) (b : List ℕ) → take (clamp_len a (length b)) b ≡ came a b
-came_taken (pos n) b = take_there n b
-came_taken (negsuc n) b = refl
+came_taken : (a : Option ℕ) (b : List ℕ) → take (unwrap_or a 0) b ≡ came a b
+came_taken (Some n) b = refl
+came_taken None b = refl
 
-module _ (t : Taken) (a : ℤ) (b : List ℕ) (n : ℕ) (counts : IsPrefixLen n b) (is : n ≡ clamp_len a (length b)) where
+pub counts_within : (a : Option ℕ) (b : List ℕ) {n : ℕ} → n ≡ unwrap_or a 0 → IfSome a (λ k. IsPrefixLen k b) → IsPrefixLen n b
+counts_within (Some k) b e h = subst (λ (x : ℕ). IsPrefixLen x b) (sym e) h
+counts_within None b e h = subst (λ (x : ℕ). IsPrefixLen x b) (sym e) (omega arith, refl)
+
+pub moved_within : (a : Option ℕ) (b : List ℕ) → IfSome a (λ k. IsPrefixLen k b) → IfSome a (λ k. k ≤ length b)
+moved_within (Some k) b h = h.0
+moved_within None b h = h
+
+module _ (t : Taken) (a : Option ℕ) (b : List ℕ) (n : ℕ) (counts : IsPrefixLen n b) (is : n ≡ unwrap_or a 0) where
   taken : take n b ≡ came a b
   taken = ap (λ (k : ℕ). take k b) is ∙ came_taken a b
 
   size : n ≡ length (came a b)
   size = counts.1 ∙ ap length taken
 
-  pub read_none : (failed : Bool) (x : Taken) → n ≡ 0 → failed ≡ lt_z a (pos 0) → x ≡ over t failed → x ≡ after_read t a b
+  pub read_none : (failed : Bool) (x : Taken) → n ≡ 0 → failed ≡ is_none a → x ≡ over t failed → x ≡ after_read t a b
   unfolding after_read
   read_none failed x z f e = e ∙ ap (over t) f ∙ sym (rw (eq-eqb (length (came a b)) 0 (omega (arith, size))))
 
@@ -87,7 +95,7 @@ pub record Added (t t' : Taken) (bs : List ℕ) : Type 0 where
   pub fits : t.bytes < 2 ^ 64 → t.bytes + length bs < 2 ^ 64
   pub some : t'.ended ≡ false → length bs ≡ 0 → ⊥
 
-added : (t : Taken) (a : ℤ) (b : List ℕ) → Added t (after_read t a b) (brought t a b)
+added : (t : Taken) (a : Option ℕ) (b : List ℕ) → Added t (after_read t a b) (brought t a b)
 unfolding after_read brought
 added t a b =
     let bs = came a b in
@@ -95,7 +103,7 @@ added t a b =
     (λ z.
     let e = eqb-true (length bs) 0 z in
     rw z
-    (either (λ (l : List ℕ). Added t (over t (lt_z a (pos 0))) l) (ltb (t.bytes + length bs) (2 ^ 64))
+    (either (λ (l : List ℕ). Added t (over t (is_none a)) l) (ltb (t.bytes + length bs) (2 ^ 64))
     (λ _. record { count = omega (arith, e); fits = λ f. omega (arith, e); some = λ n _. one_way true refl n })
     (λ _. record { count = omega arith; fits = λ f. omega arith; some = λ n _. one_way true refl n })))
     λ z. rw z (by_test (ltb (t.bytes + length bs) (2 ^ 64))

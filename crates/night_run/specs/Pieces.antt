@@ -1,8 +1,6 @@
 -- A file read in pieces: what each read adds, and what all of them come to.
-use Rattle.std.specs.Prelude.{◌≡◌, Bool, true, false, ◌&&◌, ◌||◌, List, [], ◌++◌, ℕ, ◌+◌, ◌<◌, ◌≤◌, ◌^◌, ltb, leb, eqb, ℤ, pos, negsuc, length, get_or, take}
-use Rattle.std.specs.Int.Signed.{lt_z}
+use Rattle.std.specs.Prelude.{◌≡◌, Bool, true, false, ◌&&◌, ◌||◌, List, [], ◌++◌, ℕ, ◌+◌, ◌<◌, ◌≤◌, ◌^◌, ltb, leb, eqb, length, get_or, take, Option, Some, None, IfSome, is_none}
 use Rattle.dlx.specs.Choice.{when◌then◌else◌}
-use Rattle.files.specs.Counts.{Moved}
 use Rattle.night_run.specs.declared.input.Taken.{Taken}
 
 abbrev pub Bytes : List ℕ → Type 0
@@ -23,27 +21,27 @@ abbrev pub onward : Taken → ℕ → Taken
 onward t n = record { bytes = t.bytes + n; ended = false; failed = false }
 
 -- the bytes of a read that answered this and left this buffer
-abbrev pub came : ℤ → List ℕ → List ℕ
-came (pos n) buffer = take n buffer
-came (negsuc n) buffer = []
+abbrev pub came : Option ℕ → List ℕ → List ℕ
+came (Some n) buffer = take n buffer
+came None buffer = []
 
 -- those of them that count: with the 2^64th byte the reads fail
-unfoldable pub brought : Taken → ℤ → List ℕ → List ℕ
+unfoldable pub brought : Taken → Option ℕ → List ℕ → List ℕ
 brought t answer buffer = when ltb (t.bytes + length (came answer buffer)) (2 ^ 64) then came answer buffer else []
 
--- After such a read. Without a byte the reads are over, and failed where the answer is below 0. They also fail at the 2^64th byte.
-unfoldable pub after_read : Taken → ℤ → List ℕ → Taken
+-- After such a read. Without a byte the reads are over, and failed where it answered none. They also fail at the 2^64th byte.
+unfoldable pub after_read : Taken → Option ℕ → List ℕ → Taken
 after_read t answer buffer =
     let bs = came answer buffer in
-    when eqb (length bs) 0 then over t (lt_z answer (pos 0)) else
+    when eqb (length bs) 0 then over t (is_none answer) else
     when ltb (t.bytes + length bs) (2 ^ 64) then onward t (length bs) else
     over t true
 
 -- one read more: what it answered, the buffer that it left, how the reads stand then, and how many bytes at the buffer's start are new
 pub record OneRead (t t' : Taken) (count : ℕ) (buffer : List ℕ) : Type 0 where
-  pub answer : ℤ
+  pub answer : Option ℕ
   pub fits : t.bytes < 2 ^ 64
-  pub moved : Moved (length buffer) answer
+  pub moved : IfSome answer (λ n. n ≤ length buffer)
   pub bytes : Bytes buffer
   pub stands : t' ≡ after_read t answer buffer
   pub new : take count buffer ≡ brought t answer buffer

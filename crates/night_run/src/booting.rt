@@ -57,6 +57,7 @@ fn take_house(
 {
     let mut taken = t;
     let mut reader = r;
+    // Not a `for`: the system tells where the input ends, and its bytes where a record is wrong.
     while taken.more(reader.wrong) {
         let x = house_piece(taken, reader, source, turns, pages, frames, memory);
         taken = x.taken;

@@ -3,12 +3,7 @@ ghost use Rattle.std.specs.Prelude.{◌≡◌, ◌+◌, ◌<◌, ◌≤◌, leng
 ghost use Rattle.housefile.specs.Records.{number};
 ghost use Rattle.night_run.specs.Ran.{is_saved, room_for};
 
-fn broad(b: u8) -> usize
-    ensures value { result ≡ b }
-    ensures upper_bound { result < 256 }
-{
-    b as usize
-}
+use crate::WORDS;
 
 // The number of two bytes.
 fn pair(head: &[u8], at: usize) -> usize
@@ -16,9 +11,7 @@ fn pair(head: &[u8], at: usize) -> usize
     ensures value { result ≡ number (take 2 (drop at head.now)) }
     ensures upper_bound { result < 65536 }
 {
-    let a = broad(head[at]);
-    let b = broad(head[at + 1]);
-    a + 256 * b
+    usize::from(head[at]) + 256 * usize::from(head[at + 1])
 }
 
 // The first record is of kind 5.
@@ -31,7 +24,7 @@ pub fn is_saved(head: &[u8]) -> bool
     pair(head, 4) == 5
 }
 
-// How many words the file's memory has, at most 1,024 frames.
+// How many words the file's memory has, at most those that are lent.
 pub fn room(head: &[u8]) -> usize
     ensures { result ≡ room_for head.now }
 {
@@ -40,9 +33,5 @@ pub fn room(head: &[u8]) -> usize
     }
     let low = pair(head, 10);
     let high = pair(head, 12);
-    let words = low + 65536 * high;
-    if words <= 1048576 {
-        return words;
-    }
-    1048576
+    (low + 65536 * high).min(WORDS)
 }

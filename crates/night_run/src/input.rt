@@ -1,5 +1,5 @@
 // The reads of a file: how many bytes they bring, and how they end. What is made of the bytes is for others.
-ghost use Rattle.std.specs.Prelude.{◌≡◌, Bool, not, ◌&&◌, List, ◌++◌, ℕ, ◌-◌, ◌^◌, ◌<◌, ◌≤◌, ltb, length, take};
+ghost use Rattle.std.specs.Prelude.{◌≡◌, Bool, not, ◌&&◌, List, ◌++◌, ℕ, ◌-◌, ◌^◌, ◌<◌, ◌≤◌, ltb, length, take, IfSome};
 ghost use Rattle.files.specs.Counts.{IsPrefixLen};
 ghost use Rattle.night_run.specs.Pieces.{Bytes, none_taken, over, brought, after_read, OneRead, Going};
 
@@ -12,7 +12,7 @@ use files::Source;
 pub const HEAD: usize = 22;
 
 // What the reads have come to: how many bytes they brought, whether they are over, and whether the last one failed. Other modules get one from `none` and
-// `take_piece` alone.
+// `take_piece` alone. Two flags, and no enum: theorems name both (`going_more` and `as_told` the first, `told_answer` and `left_world` the second).
 #[derive(Clone, Copy)]
 pub struct Taken {
     bytes: u64,
@@ -58,10 +58,7 @@ impl Taken {
         ensures prefix_len { IsPrefixLen result head.now }
         ensures value { self.bytes ≤ length head.now → result ≡ self.bytes }
     {
-        if self.bytes as usize > head.len() {
-            return head.len();
-        }
-        self.bytes as usize
+        head.len().min(self.bytes as usize)
     }
 }
 
@@ -87,14 +84,15 @@ pub struct Piece {
 
 // After a read that answered this and left this in the buffer.
 fn after_read(t: Taken, answer: Answer, buffer: &[u8]) -> Piece
-    ensures taken_value { result.taken ≡ after_read t answer.got buffer.now }
-    ensures buffer_value { take result.count buffer.now ≡ brought t answer.got buffer.now }
+    requires { IfSome answer.brought (λ n. IsPrefixLen n buffer.now) }
+    ensures taken_value { result.taken ≡ after_read t answer.brought buffer.now }
+    ensures buffer_value { take result.count buffer.now ≡ brought t answer.brought buffer.now }
     ensures prefix_len { IsPrefixLen result.count buffer.now }
     ensures bytes { Bytes buffer.now }
     ensures bytes_bound { t.bytes < 2 ^ 64 }
 {
     let so_far = t.bytes;
-    let n = answer.count(buffer);
+    let n = answer.count();
     if n == 0 {
         let taken = over(t, answer.failed());
         return Piece { taken, count: 0 };
@@ -141,6 +139,7 @@ pub fn take_head(source: &mut Source, head: &mut [u8]) -> Taken
     ensures bytes_bound { result.bytes ≤ 22 }
 {
     let mut t = Taken::none();
+    // Not a `for`: how many bytes a read brings is the system's.
     while t.begins() {
         let p = head_piece(t, source, head);
         t = p.taken;

@@ -49,6 +49,7 @@ fn take_saved(
 {
     let mut taken = t;
     let mut restoring = r;
+    // Not a `for`: the system tells where the input ends, and its bytes what is refused.
     while taken.more(restoring.reader.refusal != 0) {
         let x = saved_piece(taken, restoring, source, held, memory);
         taken = x.taken;

@@ -1,36 +1,40 @@
 // What the operating system hands over. No contract can say what that is, so an answer comes from `read` alone.
-ghost use Rattle.std.specs.Prelude.{◌≡◌, pos, length};
-ghost use Rattle.std.specs.Int.Signed.{lt_z};
-ghost use Rattle.files.specs.Counts.{IsPrefixLen, Moved, clamp_len};
+ghost use Rattle.std.specs.Prelude.{◌≡◌, length, IfSome, is_none};
+ghost use Rattle.std.specs.Option.{unwrap_or};
+ghost use Rattle.files.specs.Counts.{IsPrefixLen};
 
 use files::{Source, count};
 
-// What a read answered: how many bytes it put at the buffer's start, none at the end of the input; or a number below 0, where it failed.
+// What a read answered: how many bytes it put at the buffer's start, 0 at the end of the input; or none, where it failed.
 #[derive(Clone, Copy)]
 pub struct Answer {
-    got: isize,
+    brought: Option<usize>,
 }
 
 // One read.
 pub fn read(source: &mut Source, buffer: &mut [u8]) -> Answer
-    ensures { Moved (length buffer.old) result.got }
+    ensures { IfSome result.brought (λ n. IsPrefixLen n buffer.new) }
 {
     let got = source.read(buffer);
-    Answer { got }
+    if got < 0 {
+        return Answer { brought: None };
+    }
+    Answer {
+        brought: Some(count(got, buffer)),
+    }
 }
 
 impl Answer {
     // How many bytes it brought.
-    pub fn count(self, buffer: &[u8]) -> usize
-        ensures prefix_len { IsPrefixLen result buffer.now }
-        ensures value { result ≡ clamp_len self.got (length buffer.now) }
+    pub fn count(self) -> usize
+        ensures { result ≡ unwrap_or self.brought 0 }
     {
-        count(self.got, buffer)
+        self.brought.unwrap_or(0)
     }
 
     pub fn failed(self) -> bool
-        ensures { result ≡ lt_z self.got (pos 0) }
+        ensures { result ≡ is_none self.brought }
     {
-        self.got < 0
+        self.brought.is_none()
     }
 }

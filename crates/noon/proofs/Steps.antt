@@ -1,6 +1,5 @@
 -- One word more, and one image more.
 use mathlib.Core.Path.{◌≡◌, refl, sym, ap, ◌∙◌}
-use mathlib.Core.Bool.{true}
 use mathlib.Core.List.{List, [], ◌∷◌, ◌++◌}
 use Prim.Native.Nat.{ℕ, zero, suc, ◌+◌, ◌*◌, ◌/◌, ◌<◌, ◌≤◌, min}
 use native.Mathlib.Omega.{arith}
@@ -14,8 +13,10 @@ use Rattle.decimal.proofs.Texts.{whole}
 use Rattle.dlx.specs.Choice.{when◌then◌else◌}
 use Rattle.dlx.proofs.Tests.{by_test}
 use Rattle.contents.specs.Contents.{list_words}
-use Rattle.asked.specs.Asked.{Going, going, took_word, took_words, at_first}
+use Rattle.asked.specs.Asked.{Going, going, took_word, took_words, nothing, at_first}
 use Rattle.asked.specs.declared.asked.Asked.{Asked}
+use Rattle.asked.specs.declared.asked.Awaits.TheVariants.{ImageOrPartition}
+use Rattle.std.specs.Prelude.{Some}
 use Rattle.laying.specs.Laid.{count_of, sum_words, laid_words, laid_image, memory_of}
 use Rattle.noon.specs.Noon.{Asks, AsksNext, Given, Laid, LaidNext}
 
@@ -29,9 +30,8 @@ words_on g n (w ∷ words) word =
     ap (λ (x : ℕ). took_word (took_words (took_word g n w) (n + 1) words) x word) e ∙ words_on (took_word g n w) (n + 1) words word
 
 pub asks_on : (a a' : Asked) (pages frames table pages' frames' table' : List ℕ) (i : ℕ) → Asks a pages frames table i
-    → AsksNext (going a pages frames table) (going a' pages' frames' table') i → a'.right ≡ true → Asks a' pages' frames' table' (i + 1)
-asks_on a a' pages frames table pages' frames' table' i s x r =
-    let y = x r in
+    → AsksNext (going (Some a) pages frames table) (going (Some a') pages' frames' table') i → Asks a' pages' frames' table' (i + 1)
+asks_on a a' pages frames table pages' frames' table' i s y =
     let words = s.0 in (
       words ++ (y.0 ∷ []),
       omega (arith, length-append words (y.0 ∷ []), s.1),
@@ -104,7 +104,7 @@ next_laid pages frames table counts sums memory counts' sums' memory' bytes k w 
     record { image = bytes; laid = laid ∙ rw e; counted = c ∙ rw (z, f); summed = t ∙ rw (z, summed) }
 
 pub asks_none : (pages frames table : List ℕ) → pages ≡ replicate 65 0 → frames ≡ replicate 2048 0 → table ≡ replicate 192 0
-    → Asks (record { right = true; awaits = 0; owner = 0; total = 0; images = 0 }) pages frames table 4
+    → Asks nothing pages frames table 4
 unfolding took_words
 asks_none pages frames table e f g = ([], refl, rw (e, f, g))
 
@@ -124,7 +124,7 @@ slip_there out o r t room p =
     let n : length o ≡ 80 = ap length w.1 ∙ length-append t (drop (0 + length t) out) ∙ omega (arith, length-drop (0 + length t) out, p.short) in
     (ap (take r) w.1 ∙ take_at t (drop (0 + length t) out) r (sym z), omega (arith, p.short))
 
-pub given_all : (a : Asked) (ps fr table : List ℕ) (n : ℕ) → Asks a ps fr table n → a.awaits ≡ 3 → (w₁ w₂ w₃ r₁ r₂ r₃ : ℕ) → w₁ ≡ a.owner → w₂ ≡ a.total → w₃ ≡ a.images
-    → r₁ ≡ min (w₁ + 1) 65 → r₂ ≡ min w₂ 2048 → r₃ ≡ min w₃ 64 → Given (take r₁ ps) (take r₂ fr) table r₃
-given_all a ps fr table n s t w₁ w₂ w₃ r₁ r₂ r₃ e₁ e₂ e₃ f₁ f₂ f₃ =
-    record { asked = a; counts = ps; lists = fr; given = n; asks = s; ended = t; paged = rw (f₁, e₁); framed = rw (f₂, e₂); named = f₃ ∙ rw e₃ }
+pub given_all : (a : Asked) (ps fr table : List ℕ) (n : ℕ) → Asks a ps fr table n → a.awaits ≡ ImageOrPartition → (w₁ w₂ r₁ r₂ r₃ : ℕ) → w₁ ≡ a.owner → w₂ ≡ a.total
+    → r₁ ≡ min (w₁ + 1) 65 → r₂ ≡ min w₂ 2048 → r₃ ≡ min a.images 64 → Given (take r₁ ps) (take r₂ fr) table r₃
+given_all a ps fr table n s t w₁ w₂ r₁ r₂ r₃ e₁ e₂ f₁ f₂ f₃ =
+    record { asked = a; counts = ps; lists = fr; given = n; asks = s; ended = t; paged = rw (f₁, e₁); framed = rw (f₂, e₂); named = f₃ }

@@ -1,5 +1,5 @@
 -- What noon refuses, and what it may write and tell: from its words and from what it read of the images.
-use Rattle.std.specs.Prelude.{◌≡◌, true, List, ℕ, ◌+◌, ◌<◌, min, eqb, length, get_or, take, set}
+use Rattle.std.specs.Prelude.{◌≡◌, Some, OnSome, List, ℕ, ◌+◌, ◌<◌, min, eqb, length, get_or, take, set}
 use Rattle.dlx.specs.Choice.{when◌then◌else◌}
 use Rattle.house.specs.Boot.{Verdict, verdict}
 use Rattle.house.specs.Calls.{Answered}
@@ -8,6 +8,7 @@ use Rattle.night_run.specs.Ran.{ran_of}
 use Rattle.contents.specs.Contents.{contents_file}
 use Rattle.asked.specs.Asked.{Going, going, took_word, took_words, at_first}
 use Rattle.asked.specs.declared.asked.Asked.{Asked}
+use Rattle.asked.specs.declared.asked.Awaits.TheVariants.{ImageOrPartition}
 use Rattle.laying.specs.Laid.{count_of, sum_words, laid_image, memory_of}
 
 -- the night's refusal; 0 and 0 where it runs
@@ -22,7 +23,7 @@ Runs f = (ran_of (reading_of (contents_file f))).verdict.number ≡ 0
 
 -- this is what n words ask for, the first of which is word 4
 abbrev pub Asks : Asked → List ℕ → List ℕ → List ℕ → ℕ → Type 0
-Asks a pages frames table n = (words : List (List ℕ)) × (length words + 4 ≡ n) × (going a pages frames table ≡ took_words at_first 4 words)
+Asks a pages frames table n = (words : List (List ℕ)) × (length words + 4 ≡ n) × (going (Some a) pages frames table ≡ took_words at_first 4 words)
 
 -- these lists and this table are what all the words ask for; of pages, frames and images as many are kept as there is room for
 pub record Given (pages frames table : List ℕ) (images : ℕ) : Type 0 where
@@ -31,14 +32,14 @@ pub record Given (pages frames table : List ℕ) (images : ℕ) : Type 0 where
   pub lists : List ℕ
   pub given : ℕ
   pub asks : Asks asked counts lists table given
-  pub ended : asked.awaits ≡ 3
+  pub ended : asked.awaits ≡ ImageOrPartition
   pub paged : pages ≡ take (min (asked.owner + 1) 65) counts
   pub framed : frames ≡ take (min asked.total 2048) lists
   pub named : images ≡ min asked.images 64
 
 -- word n is the next
 abbrev pub AsksNext : Going → Going → ℕ → Type 0
-AsksNext g g' n = g'.asked.right ≡ true → (word : List ℕ) × (g' ≡ took_word g n word)
+AsksNext g g' n = OnSome g'.asked ((word : List ℕ) × (g' ≡ took_word g n word))
 
 -- ---- its images
 

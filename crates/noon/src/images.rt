@@ -9,21 +9,21 @@ use command::{fail, open, put_out, wrong};
 use decimal::is;
 use dlx::words::wide;
 use files::{Source, print};
-use laying::{fault_of, lay_image, put_slip};
+use laying::{Fault, fault_of, lay_image, put_slip};
 use std::io;
 
 // ---- one image
 
-fn tell_fault(rt: &HostRuntime, fault: u32, name: &[u8]) {
-    if fault == 1 {
-        wrong(rt, b"an image of whole words, 4 bytes each", name);
-        return;
+fn tell_fault(rt: &HostRuntime, fault: Fault, name: &[u8]) {
+    match fault {
+        Fault::PartOfAWord => wrong(rt, b"an image of whole words, 4 bytes each", name),
+        Fault::BeyondThePages => wrong(
+            rt,
+            b"an image that ends within its partition's pages",
+            name,
+        ),
+        Fault::OnAnother => wrong(rt, b"an image apart from the others of its partition", name),
     }
-    if fault == 2 {
-        wrong(rt, b"an image that ends within its partition's pages", name);
-        return;
-    }
-    wrong(rt, b"an image apart from the others of its partition", name);
 }
 
 // Image k, which has these bytes. Answers whether it is laid.
@@ -46,8 +46,7 @@ fn lay_bytes(
     requires fact_5 { length counts.old ≡ 64 }
     ensures { result ≡ true → LaidNext pages.now frames.now table.now k counts.old sums.old memory.old counts.new sums.new memory.new }
 {
-    let fault = fault_of(pages, table, counts, k, bytes.len());
-    if fault != 0 {
+    if let Some(fault) = fault_of(pages, table, counts, k, bytes.len()) {
         tell_fault(rt, fault, name);
         return false;
     }
@@ -85,11 +84,9 @@ fn lay_open(
 {
     let mut buffer = files::large_buffer();
     let n = source.read_full(&mut buffer);
-    if n < 65536 {
-        if !at_end(source) {
-            fail(rt, name, source.why());
-            return false;
-        }
+    if n < 65536 && !at_end(source) {
+        fail(rt, name, source.why());
+        return false;
     }
     lay_bytes(
         rt,
@@ -124,12 +121,7 @@ fn was_read(rt: &HostRuntime, k: u32, table: &[u32]) -> bool
     requires at_most_64 { k < 64 }
     requires rows { length table.now ≡ 192 }
 {
-    for j in 0..k {
-        if is_input(rt, j, table) {
-            return true;
-        }
-    }
-    false
+    (0..k).any(|j| is_input(rt, j, table))
 }
 
 // Opens what image k is read from. Standard input is read once, and closed then.
@@ -137,10 +129,8 @@ fn open_image(rt: &HostRuntime, k: u32, table: &[u32], name: &[u8]) -> io::Resul
     requires at_most_64 { k < 64 }
     requires rows { length table.now ≡ 192 }
 {
-    if is(name, b"-") {
-        if was_read(rt, k, table) {
-            return Err(io::Error::from_raw_os_error(CLOSED));
-        }
+    if is(name, b"-") && was_read(rt, k, table) {
+        return Err(io::Error::from_raw_os_error(CLOSED));
     }
     open(rt, name)
 }
@@ -204,12 +194,10 @@ pub fn lay_all(
     requires fact_5 { memory.old ≡ replicate 16384 0 }
     ensures { result ≡ true → Laid pages.now frames.now table.now counts.new sums.new memory.new images }
 {
-    let mut k: u32 = 0;
-    while k < images {
+    for k in 0..images {
         if !lay_next(rt, k, pages, frames, table, counts, sums, memory) {
             return false;
         }
-        k += 1;
     }
     true
 }
@@ -257,9 +245,7 @@ pub fn tell_all(rt: &HostRuntime, images: u32, table: &[u32], counts: &[u32], su
     requires fact_3 { length counts.now ≡ 64 }
     requires fact_4 { length sums.now ≡ 64 }
 {
-    let mut k: u32 = 0;
-    while k < images {
+    for k in 0..images {
         tell_image(rt, k, table, counts, sums);
-        k += 1;
     }
 }

@@ -31,17 +31,15 @@ fn help(rt: &HostRuntime) {
 fn with_numbers(rt: &HostRuntime, given: u32, path: &[u8], q_word: &[u8], steps_word: &[u8])
     requires { 4 ≤ given }
 {
-    let q = number_in(q_word, 4294967295);
-    if !q.said {
+    let Some(q) = number_in(q_word, 4294967295) else {
         wrong(rt, b"Q, a decimal below 2^32", q_word);
         return;
-    }
-    let steps = number_in(steps_word, 4294967295);
-    if !steps.said {
+    };
+    let Some(steps) = number_in(steps_word, 4294967295) else {
         wrong(rt, b"STEPS, a decimal below 2^32", steps_word);
         return;
-    }
-    make(rt, given, path, q.value as u32, steps.value as u32);
+    };
+    make(rt, given, path, q as u32, steps as u32);
 }
 
 fn main(rt: HostRuntime) {

@@ -1,5 +1,5 @@
 // The house file made: refused as the night would, or written and told.
-ghost use Rattle.std.specs.Prelude.{◌≡◌, List, ℕ, ◌≤◌, min, length, OnOk};
+ghost use Rattle.std.specs.Prelude.{◌≡◌, List, ℕ, ◌≤◌, length, OnOk};
 ghost use Rattle.house.specs.Boot.{verdict};
 ghost use Rattle.house.specs.Refusals.{refusal as verdict_of_refusal, verdict_of};
 ghost use Rattle.housefile.specs.Records.{file, right};
@@ -10,9 +10,10 @@ ghost use Rattle.noon.specs.Noon.{night_refusal, Given, LaidAll, Made};
 
 use crate::images::{lay_all, tell_all};
 use crate::words::ask;
+use asked::asked::Awaits;
 use boot::boot;
 use command::{put_out, wrong};
-use contents::put_contents;
+use contents::{MOST, put_contents};
 use dlx::words::wide;
 use house::Refusal;
 use hypervisor::calls::check_run;
@@ -64,9 +65,13 @@ fn put_file(
 ) -> bool
     requires { (Made q run pages.now frames.now table.now memory.now images) × (bytes.now ≡ contents_file (file q run pages.now frames.now memory.now)) }
 {
-    let w = begin(rt, path);
-    let x = put(rt, w, path, bytes);
-    end(rt, x, path)
+    let Some(begun) = begin(rt, path) else {
+        return false;
+    };
+    match put(rt, begun, path, bytes) {
+        Some(w) => end(rt, w, path),
+        None => false,
+    }
 }
 
 fn write_file(
@@ -86,7 +91,7 @@ fn write_file(
     requires fact_4 { LaidAll pages.now frames.now table.now memory.now images }
     requires fact_5 { night_refusal (ran_of (right (file q run pages.now frames.now memory.now))) ≡ verdict 0 0 }
 {
-    let mut out = [0u8; 73956];
+    let mut out = [0u8; MOST];
     let n = put_contents(q, run, pages, frames, memory, &mut out);
     put_file(
         rt,
@@ -145,15 +150,6 @@ fn make_listed(
     tell_all(rt, images, table, &counts, &sums);
 }
 
-fn up_to(n: usize, most: usize) -> usize
-    ensures { result ≡ min n most }
-{
-    if n < most {
-        return n;
-    }
-    most
-}
-
 // Of the words from the fourth on.
 pub fn make(rt: &HostRuntime, given: u32, path: &[u8], q: u32, run: u32)
     requires { 4 ≤ given }
@@ -161,17 +157,16 @@ pub fn make(rt: &HostRuntime, given: u32, path: &[u8], q: u32, run: u32)
     let mut pages = [0u32; 65];
     let mut frames = [0u32; 2048];
     let mut table = [0u32; 192];
-    let a = ask(rt, given, &mut pages, &mut frames, &mut table);
-    if !a.right {
+    let Some(a) = ask(rt, given, &mut pages, &mut frames, &mut table) else {
         return;
-    }
-    if a.awaits != 3 {
+    };
+    if a.awaits != Awaits::ImageOrPartition {
         wrong(rt, b"an image", b"no more words");
         return;
     }
-    let count = up_to(wide(a.owner) + 1, 65);
-    let total = up_to(wide(a.total), 2048);
-    let images = up_to(wide(a.images), 64) as u32;
+    let count = (wide(a.owner) + 1).min(65);
+    let total = wide(a.total).min(2048);
+    let images = a.images.min(64);
     make_listed(
         rt,
         q,

@@ -1,5 +1,7 @@
 -- What is seen serves, and what a plain instruction asks for is done.
 use Rattle.std.proofs.Common.{◌≡◌, ℕ, ◌+◌, ◌*◌, ◌/◌, ◌%◌, ◌≤◌, Bool, true, false, not, ◌&&◌, eqb, ltb, List, length, get_or, set, sym, refl, ap, ◌∙◌, subst, arith, ne_eqb}
+use Rattle.std.specs.Prelude.{Option, Some, None}
+use Rattle.std.specs.Option.{MatchOption}
 use Rattle.dlx.specs.Choice.{when◌then◌else◌}
 use Rattle.dlx.specs.Words.{plus}
 use Rattle.dlx.specs.Fields.{aligned, width, brought, placed}
@@ -28,6 +30,11 @@ not_true false e = refl
 pub not_false : (b : Bool) → not b ≡ false → b ≡ true
 not_false true e = refl
 not_false false e = sym e
+
+-- what is said of each case of an option, said in other words
+pub match_on : {A P P' : Type 0} {Q Q' : A → Type 0} (o : Option A) → MatchOption o P Q → (P → P') → ((x : A) → Q x → Q' x) → MatchOption o P' Q'
+match_on None m f g = f m
+match_on (Some x) m f g = g x m
 
 -- what a test of the address says of its alignment
 pub fits_left : (o a : ℕ) (r : Bool) → r ≡ (aligned (width o) a && ltb a 4194304) → not r ≡ false → aligned (width o) a ≡ true

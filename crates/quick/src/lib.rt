@@ -74,35 +74,20 @@ fn in_page(
     let held = plain::held(frames, pages, t);
     let mut x = std::num::wrapping_sub_u32(p.dpc, page);
     let mut y = std::num::wrapping_sub_u32(p.pc, page);
-    let mut rest = k;
-    while rest > 0 {
+    for left in (0..k).rev() {
         if away(x) {
-            return quit(page, x, y, rest, 0);
+            return quit(page, x, y, left + 1, 0);
         }
         let w = fetch(&words[base..base + 1024], x);
-        let mut target: u32 = 0;
-        if !plain::act(
-            specials,
-            p,
-            t,
-            held,
-            pages,
-            w,
-            page,
-            y,
-            regs,
-            frames,
-            shadow,
-            words,
-            &mut target,
-        ) {
-            return quit(page, x, y, rest, w);
-        }
+        let Some(target) = plain::act(
+            specials, p, t, held, pages, w, page, y, regs, frames, shadow, words,
+        ) else {
+            return quit(page, x, y, left + 1, w);
+        };
         x = y;
         y = target;
-        rest -= 1;
     }
-    quit(page, x, y, rest, 0)
+    quit(page, x, y, 0, 0)
 }
 
 // Plain steps up to k.
@@ -126,6 +111,7 @@ pub fn plain(
     let mut dpc = p.dpc;
     let mut pc = p.pc;
     let mut rest = k;
+    // Not a `for`: the steps in a page are made at once.
     while rest > 0 {
         let e = plain::seen(frames, shadow, pages, p.mode == 1, dpc);
         if e / 2048 % 2 != 1 {

@@ -1,6 +1,6 @@
 -- Which text an answer gives.
-use mathlib.Core.Path.{◌≡◌, refl, sym, ap, subst, ◌∙◌}
-use mathlib.Core.Bool.{Bool, true, false, not, ◌&&◌}
+use mathlib.Core.Path.{◌≡◌, sym, ap, subst, ◌∙◌}
+use mathlib.Core.Bool.{false, not}
 use mathlib.Core.List.{List, ◌++◌, append-nil, append_assoc}
 use Prim.Native.Nat.{ℕ, zero, suc, ◌+◌, ◌*◌, ◌%◌, ◌^◌, ◌<◌, ◌≤◌}
 use native.Mathlib.Omega.{arith}
@@ -8,7 +8,6 @@ use borrow.Author.Tests.{eq-eqb, ne_eqb, ltb-true, ltb-false, leb-false}
 use lib.Dec.{eqb, ltb, leb}
 use lib.ListN.{length, get_or, replicate}
 use Rattle.dlx.proofs.Kept.{either}
-use Rattle.dlx.proofs.Tests.{and_left}
 use Rattle.house.specs.House.{pages_of}
 use Rattle.house.specs.Damage.{damaged}
 use Rattle.house.specs.Boot.{Verdict, verdict, first_of}
@@ -21,7 +20,7 @@ use Rattle.housefile.specs.Records.{number}
 use Rattle.decimal.specs.Raw.{low_first}
 use Rattle.report.specs.Put.{put}
 use Rattle.report.specs.Report.{refused_text}
-use Rattle.readout.specs.Printed.{word_text, words_text, words_from, refused_out, read_text, no_words, printed, read_refusal, refusal_of, ToldBehind}
+use Rattle.readout.specs.Printed.{word_text, is_raw, words_text, words_from, refused_out, read_text, no_words, printed, read_refusal, refusal_of, ToldBehind}
 use Rattle.night_run.specs.Ran.{either_file, Told}
 use Rattle.night_run.specs.declared.input.Taken.{Taken}
 use Rattle.decimal.specs.Texts.{joined}
@@ -59,19 +58,6 @@ behind_told want t words from at n count piece e l m h p = record {
   text = h;
   part = p ∙ ap (λ (k : ℕ). words_from want words k n) e;
 }
-
--- while a piece is to come, and where none is
-pub goes_on : (k count : ℕ) (failed r : Bool) → r ≡ (ltb k count && not failed) → r ≡ true → k < count
-goes_on k count failed r e t = ltb-true k count (and_left (ltb k count) (not failed) (sym e ∙ t))
-
-pub all_shown : (k count : ℕ) (failed r : Bool) → r ≡ (ltb k count && not failed) → r ≡ false → failed ≡ false → count ≤ k
-all_shown k count failed r e t f =
-    let w : ltb k count ≡ false = with_true (ltb k count) (ap (λ (b : Bool). ltb k count && not b) (sym f) ∙ sym e ∙ t) in
-    ltb-false k count w
-  where
-    with_true : (a : Bool) → (a && true) ≡ false → a ≡ false
-    with_true true e = e
-    with_true false e = refl
 
 -- ---- the read-out
 
@@ -164,7 +150,7 @@ unfolding refusal_of
 text_told want n d w z = rw (ne_eqb n 0 z)
 
 -- where no raw words are asked for the refusal is printed
-pub text_shown : (want : Want) (n d : ℕ) → want.raw ≡ false → refused_out want (verdict n d) ≡ refused_text n d
+pub text_shown : (want : Want) (n d : ℕ) → is_raw want.form ≡ false → refused_out want (verdict n d) ≡ refused_text n d
 unfolding refused_out
 text_shown want n d e = rw e
 

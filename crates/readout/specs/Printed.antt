@@ -1,5 +1,5 @@
 -- What readout prints for what a file comes to: words of one partition, or the first refusal of the file, of boot, of run, or of the read-out, but where raw words are asked for.
-use Rattle.std.specs.Prelude.{◌≡◌, false, List, [], ◌∷◌, ◌++◌, ℕ, ◌+◌, ◌^◌, ◌≤◌, eqb, get_or, replicate}
+use Rattle.std.specs.Prelude.{◌≡◌, Bool, true, false, List, [], ◌∷◌, ◌++◌, ℕ, ◌+◌, ◌^◌, ◌≤◌, eqb, get_or, replicate}
 use Rattle.dlx.specs.Choice.{when◌then◌else◌}
 use Rattle.house.specs.Boot.{Verdict}
 use Rattle.house.specs.Turns.{World}
@@ -10,17 +10,26 @@ use Rattle.decimal.specs.Texts.{joined}
 use Rattle.report.specs.Report.{field, refusal}
 use Rattle.night_run.specs.Ran.{either_file, Told}
 use Rattle.night_run.specs.declared.input.Taken.{Taken}
+use Rattle.readout.specs.declared.Form.{Form}
+use Rattle.readout.specs.declared.Form.TheVariants.{Unsigned, Signed, Raw}
 use Rattle.readout.specs.declared.Want.{Want}
 use Rattle.readout.specs.declared.shown.Shown.{Shown}
 
 -- ---- words as text
 
 -- raw, or in decimals, with their sign or without, and a newline behind
-unfoldable pub word_text : Want → ℕ → List ℕ
-word_text want w =
-    when want.raw then low_first w else
-    when want.signed then signed_text (2 ^ 32) w ++ (10 ∷ []) else
-    field w 10
+unfoldable pub text_in : Form → ℕ → List ℕ
+text_in Raw w = low_first w
+text_in Signed w = signed_text (2 ^ 32) w ++ (10 ∷ [])
+text_in Unsigned w = field w 10
+
+abbrev pub word_text : Want → ℕ → List ℕ
+word_text want w = text_in want.form w
+
+abbrev pub is_raw : Form → Bool
+is_raw Raw = true
+is_raw Signed = false
+is_raw Unsigned = false
 
 -- the first so many of the words
 unfoldable pub words_text : Want → List ℕ → ℕ → List ℕ
@@ -34,7 +43,7 @@ words_from want words from n = joined (λ i. word_text want (get_or words (from 
 
 -- a refusal is no word: where raw ones are asked for nothing is printed
 unfoldable pub refused_out : Want → Verdict → List ℕ
-refused_out want v = when want.raw then [] else refusal v
+refused_out want v = when is_raw want.form then [] else refusal v
 
 -- the read-out of a house that has run, into an output of these words
 unfoldable pub read_text : Want → World → List ℕ → List ℕ
@@ -70,4 +79,4 @@ pub record ToldBehind (want : Want) (t : Taken) (from n : ℕ) (piece : List ℕ
 
 -- no word is printed yet
 abbrev pub none_shown : Shown
-none_shown = record { words = 0; failed = false }
+none_shown = record { words = 0 }

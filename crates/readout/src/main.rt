@@ -6,17 +6,16 @@
 mod shown;
 mod words;
 
-ghost use Rattle.std.specs.Prelude.{◌≡◌, false, ◌+◌, ◌%◌, ◌<◌, ◌≤◌};
+ghost use Rattle.std.specs.Prelude.{◌≡◌, ◌+◌, ◌%◌, ◌<◌, ◌≤◌, IfSome};
 ghost use Rattle.house.specs.House.{pages_of};
 ghost use Rattle.house.specs.Boot.{verdict};
 ghost use Rattle.house.specs.Turns.{world};
 ghost use Rattle.house.specs.Calls.{answered};
 ghost use Rattle.report.specs.Report.{refused_text};
 ghost use Rattle.night_run.specs.Ran.{no_frames, either_file, Told};
-ghost use Rattle.readout.specs.Printed.{words_text, refused_out, read_text, printed, read_refusal, refusal_of};
+ghost use Rattle.readout.specs.Printed.{is_raw, words_text, refused_out, read_text, printed, read_refusal, refusal_of};
 
 use command::{Number, asks_help, fail, number_in, open, put_out, wrong};
-use decimal::is;
 use dlx::words::wide;
 use files::{Source, print};
 use house::House;
@@ -26,14 +25,29 @@ use report::refused;
 use shown::{Shown, show};
 use words::{PIECE, ROOM, WORDS, put_words};
 
+// How words are written: in decimals, without their sign or with it, or raw.
+#[derive(Clone, Copy, Debug, PartialEq, Eq)]
+pub enum Form {
+    Unsigned,
+    Signed,
+    Raw,
+}
+
+impl Form {
+    fn is_raw(self) -> bool
+        ensures { result ≡ is_raw self }
+    {
+        matches!(self, Form::Raw)
+    }
+}
+
 // What is asked for.
 #[derive(Clone, Copy)]
 pub struct Want {
     pub partition: u32,
     pub address: u32,
     pub count: u64,
-    pub raw: bool,
-    pub signed: bool,
+    pub form: Form,
 }
 
 // The memory that is lent to a file.
@@ -64,7 +78,7 @@ fn tell_refusal(rt: &HostRuntime, t: Taken, w: Want, number: u32, detail: u64)
     requires fact_1 { Told either_file (printed w) t (refused_out w (verdict number detail)) }
     requires fact_2 { Told either_file (refusal_of w) t (refused_text number detail) }
 {
-    if w.raw {
+    if w.form.is_raw() {
         say(rt, t, w, number, detail);
         return;
     }
@@ -127,40 +141,37 @@ fn show_words(
     s: Shown,
     n: usize,
     count: usize,
-) -> Shown
+) -> Option<Shown>
     requires fact_1 { s.words + n ≤ count }
     requires fact_2 { n ≤ 4096 }
     requires fact_3 { count ≤ 262144 }
     requires fact_4 { Told either_file (printed w) t (words_text w words.now count) }
-    ensures { result.words ≡ s.words + n }
+    ensures { IfSome result (λ x. x.words ≡ s.words + n) }
 {
     let mut out = [0u8; ROOM];
     let k = put_words(words, s.words(), n, w, &mut out);
     show(rt, s, t, w, n, &out[..k])
 }
 
-fn least(a: usize, b: usize) -> usize
-    ensures upper_bound { (result ≤ a) × (result ≤ b) }
-    ensures result_nonzero { 0 < a → 0 < b → 0 < result }
-{
-    if a < b {
-        return a;
-    }
-    b
-}
-
 // Prints the words, piece by piece: all of them, but where a write fails.
-fn tell_words(rt: &HostRuntime, t: Taken, w: Want, words: &[u32; WORDS], count: usize) -> Shown
+fn tell_words(
+    rt: &HostRuntime,
+    t: Taken,
+    w: Want,
+    words: &[u32; WORDS],
+    count: usize,
+) -> Option<Shown>
     requires fact_1 { count ≤ 262144 }
     requires fact_2 { Told either_file (printed w) t (words_text w words.now count) }
-    ensures { result.failed ≡ false → result.words ≡ count }
+    ensures { IfSome result (λ s. s.words ≡ count) }
 {
     let mut s = Shown::none();
-    while s.more(count) {
-        let n = least(count - s.words(), PIECE);
-        s = show_words(rt, t, w, words, s, n, count);
+    // Not a `for`: the words that are printed say how many the next piece has.
+    while s.words() < count {
+        let n = PIECE.min(count - s.words());
+        s = show_words(rt, t, w, words, s, n, count)?;
     }
-    s
+    Some(s)
 }
 
 // Reads the words of the house out over these zeros, and prints them.
@@ -185,7 +196,7 @@ fn tell_read(
         tell_refusal(rt, t, w, a.number, a.detail);
         return;
     }
-    tell_words(rt, t, w, words, w.count as usize);
+    let _ = tell_words(rt, t, w, words, w.count as usize);
 }
 
 // Prints the text for an answer.
@@ -246,44 +257,20 @@ fn number_at(rt: &HostRuntime, i: usize, expected: &[u8], most: u64) -> Number
     n
 }
 
-// The words' form: in decimals, or as the fifth word says.
-#[derive(Clone, Copy)]
-struct Form {
-    said: bool,
-    raw: bool,
-    signed: bool,
-}
-
 // The form that the fifth word asks for, if there is one. Where it asks for none, that is told.
-fn asked_form(rt: &HostRuntime, given: usize) -> Form {
+fn asked_form(rt: &HostRuntime, given: usize) -> Option<Form> {
     if given < 6 {
-        return Form {
-            said: true,
-            raw: false,
-            signed: false,
-        };
+        return Some(Form::Unsigned);
     }
     let mut word = files::buffer();
     let length = files::word(rt, 5, &mut word);
-    if is(&word[..length], b"raw") {
-        return Form {
-            said: true,
-            raw: true,
-            signed: false,
-        };
-    }
-    if is(&word[..length], b"signed") {
-        return Form {
-            said: true,
-            raw: false,
-            signed: true,
-        };
-    }
-    wrong(rt, b"nothing behind COUNT, raw or signed", &word[..length]);
-    Form {
-        said: false,
-        raw: false,
-        signed: false,
+    match &word[..length] {
+        b"raw" => Some(Form::Raw),
+        b"signed" => Some(Form::Signed),
+        other => {
+            wrong(rt, b"nothing behind COUNT, raw or signed", other);
+            None
+        }
     }
 }
 
@@ -295,10 +282,9 @@ fn open_and_read(rt: &HostRuntime, path: &[u8], w: Want) {
 }
 
 fn with_words(rt: &HostRuntime, path: &[u8], given: usize) {
-    let f = asked_form(rt, given);
-    if !f.said {
+    let Some(form) = asked_form(rt, given) else {
         return;
-    }
+    };
     let partition = number_at(rt, 2, b"PARTITION, a decimal below 4294967296", 0xFFFF_FFFF);
     if !partition.said {
         return;
@@ -322,8 +308,7 @@ fn with_words(rt: &HostRuntime, path: &[u8], given: usize) {
         partition: i,
         address: a,
         count: count.value,
-        raw: f.raw,
-        signed: f.signed,
+        form,
     };
     open_and_read(rt, path, w);
 }

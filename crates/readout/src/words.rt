@@ -5,7 +5,7 @@ ghost use Rattle.decimal.specs.Texts.{Puts};
 ghost use Rattle.report.specs.Put.{Counts, put};
 ghost use Rattle.readout.specs.Printed.{word_text, words_from};
 
-use crate::Want;
+use crate::{Form, Want};
 use decimal::{put_byte, put_raw, put_signed};
 use report::put_word;
 
@@ -22,20 +22,18 @@ fn put_with_sign(out: &mut [u8], at: usize, w: u32) -> usize
     ensures { Puts out.old at out.new result (signed_text (2 ^ 32) w ++ (10 ∷ [])) 12 }
 {
     let number = put_signed(out, at, 4294967296, w as u64);
-    put_byte(out, number, 10)
+    put_byte(out, number, b'\n')
 }
 
 // A word.
 fn put_one(out: &mut [u8], at: usize, w: u32, want: Want) -> usize
     ensures { Puts out.old at out.new result (word_text want w) 12 }
 {
-    if want.raw {
-        return put_raw(out, at, w);
+    match want.form {
+        Form::Raw => put_raw(out, at, w),
+        Form::Signed => put_with_sign(out, at, w),
+        Form::Unsigned => put_word(out, at, w, b'\n'),
     }
-    if want.signed {
-        return put_with_sign(out, at, w);
-    }
-    put_word(out, at, w, b'\n')
 }
 
 // n of the words, from this one on.
@@ -44,10 +42,8 @@ fn put_each(words: &[u32; WORDS], from: usize, n: usize, want: Want, out: &mut [
     ensures { Puts out.old 0 out.new result (words_from want words.now from n) (12 * n) }
 {
     let mut end = 0;
-    let mut i = 0;
-    while i < n {
-        end = put_one(out, end, words[from + i], want);
-        i += 1;
+    for w in &words[from..from + n] {
+        end = put_one(out, end, *w, want);
     }
     end
 }

@@ -1,7 +1,7 @@
 -- The record at hand in its buffer.
-use Rattle.std.proofs.Common.{◌≡◌, ℕ, suc, ◌+◌, ◌-◌, ◌*◌, ◌/◌, ◌%◌, ◌<◌, ◌≤◌, min, Bool, true, false, not, ◌&&◌, eqb, ltb, leb, List, [], ◌∷◌, ◌++◌, length, get_or, take, drop, set, sym, refl, ap, ◌∙◌, subst, append_assoc, append-nil, add-one, arith, length-append, length-drop, length-set, take-append-drop, length-take-le, get_or-drop, drop-cons, take-suc, take-take, drop-drop, take-suc-set, ltb-true, lt-ltb, eq-eqb, ne_eqb, eqb-true}
+use Rattle.std.proofs.Common.{◌≡◌, ℕ, suc, ◌+◌, ◌-◌, ◌*◌, ◌/◌, ◌<◌, ◌≤◌, min, Bool, true, false, not, eqb, List, [], ◌∷◌, ◌++◌, length, get_or, take, drop, set, sym, refl, ap, ◌∙◌, subst, append_assoc, add-one, arith, length-append, length-drop, length-set, take-append-drop, take_at, length-take-le, drop-cons, take-take, drop-drop, take-suc-set, lt-ltb, ne_eqb, eqb-true}
 use borrow.Author.Tests.{eqb-false}
-use Rattle.dlx.proofs.Tests.{by_eq}
+use Rattle.dlx.specs.Choice.{when◌then◌else◌}
 use Rattle.house.proofs.Lists.Bounded.{one_way}
 use Rattle.house.specs.declared.House.{House}
 use Rattle.housefile.specs.Records.{number, words_of, size, kind}
@@ -10,8 +10,14 @@ use Rattle.house.specs.House.{no_house, layout, with_layout}
 use Rattle.save.proofs.Exact.{by_kind}
 use Rattle.save.proofs.Bytes.{drop_take, words_there}
 use Rattle.save.proofs.Machine.{Open, fed_pieces, head_size, head_kind, took_within, took_last, took_wrong, take_within, take_to_end}
-use Rattle.restore.specs.Standing.{held_to, wrong_at, progress_at, reading_at, stepped, Comes, SteppedTo, Rested, Kept}
+use Rattle.restore.specs.Standing.{is_ended, number_of, held_to, wrong_at, progress_at, reading_at, stepped, Comes, SteppedTo, Rested, Kept}
 use Rattle.restore.specs.declared.Reader.{Reader}
+use Rattle.restore.specs.declared.records.Kind.{Kind}
+use Rattle.restore.specs.declared.records.Kind.TheVariants.{Frame, End, Turn, Guest, Tickets}
+use Rattle.restore.specs.declared.Stage.{Stage}
+use Rattle.restore.specs.declared.Stage.TheVariants.{Start, Middle, Ended}
+use Rattle.restore.specs.contracts.Stage.{the_type}
+use denote.Enum.Bare.{sameb}
 
 -- ---- the head of a buffer
 
@@ -52,6 +58,12 @@ module _ (n : ℕ) (l : List ℕ) (h : 6 ≤ n) where
 
 -- ---- a byte's ways
 
+-- the test for the stage after kind 4
+pub ended_is : {b v : Bool} (s : Stage) → b ≡ sameb the_type s Ended → b ≡ v → is_ended s ≡ v
+ended_is Start e t = sym e ∙ t
+ended_is Middle e t = sym e ∙ t
+ended_is Ended e t = sym e ∙ t
+
 module _ (r : Reader) (b : ℕ) (held : List ℕ) (fits : r.held ≤ 4105) (long : length held ≡ 4106) (h : House) (m : List ℕ) where
   abbrev p : Progress
   p = progress_at r h m
@@ -77,11 +89,11 @@ module _ (r : Reader) (b : ℕ) (held : List ℕ) (fits : r.held ≤ 4105) (long
   byte_refused e = sym (simp (ne_eqb r.refusal 0 e))
 
   module _ (right : r.refusal ≡ 0) where
-    pub byte_ended : r.ended ≡ true → reading (refused_by 17 p) [] ≡ took (reading_at r h held m) b
+    pub byte_ended : is_ended r.stage ≡ true → reading (refused_by 17 p) [] ≡ took (reading_at r h held m) b
     unfolding took
     byte_ended e = sym (simp (right, e))
 
-    module _ (more : r.ended ≡ false) where
+    module _ (more : is_ended r.stage ≡ false) where
       pub byte_early : n < 6 → reading p (take n held') ≡ took (reading_at r h held m) b
       unfolding took
       byte_early l = sym (simp (right, more, bytes_now, bytes_long, lt-ltb n 6 l))
@@ -123,63 +135,29 @@ module _ (r : Reader) (b : ℕ) (held : List ℕ) (fits : r.held ≤ 4105) (long
               ∙ ap (λ (x : ℕ). reading (settled p x (words_of (size (xs ++ (b ∷ [])) / 4) (drop 6 (xs ++ (b ∷ []))))) []) kind_now
               ∙ ap (λ (x : List ℕ). reading (settled p (kind held') x) []) q)
 
--- ---- which records may come
+-- ---- a number that is no kind's
 
-module _ (r : Reader) (k z : ℕ) (h : House) (m : List ℕ) where
-  abbrev May : Bool → Type 0
-  May x = x ≡ may_come (progress_at r h m) k z
-
-  pub may_5 : not r.opened ≡ true → May (eqb k 5 && eqb z 16)
-  unfolding may_come
-  may_5 o = sym (simp o)
-
-  module _ (o : not r.opened ≡ false) where
-    pub may_6 : (c : ℕ) → h.count ≡ c → k ≡ 6 → May (eqb r.queues 0 && eqb r.frames 0 && ltb c 8 && (leb 200 z && leb z 1224) && eqb (z % 4) 0)
-    unfolding may_come
-    may_6 c e six = sym (simp (o, eq-eqb k 6 six, e))
-
-    module _ (n₆ : k ≡ 6 → ⊥) where
-      pub may_7 : (c : ℕ) → h.count ≡ c → k ≡ 7 → May (eqb r.frames 0 && ltb r.queues c && ltb r.queues 8 && leb z 128 && eqb (z % 4) 0)
-      unfolding may_come
-      may_7 c e seven = sym (simp (o, ne_eqb k 6 n₆, eq-eqb k 7 seven, e))
-
-      module _ (n₇ : k ≡ 7 → ⊥) where
-        pub may_not : (c : ℕ) → h.count ≡ c → (r.queues ≡ c → ⊥) → May false
-        unfolding may_come
-        may_not c e n = sym (simp (o, ne_eqb k 6 n₆, ne_eqb k 7 n₇, e, ne_eqb r.queues c n))
-
-        module _ (c : ℕ) (e : h.count ≡ c) (q : r.queues ≡ c) where
-          pub may_none : c ≡ 0 → May false
-          unfolding may_come
-          may_none z₀ = sym (simp (o, ne_eqb k 6 n₆, ne_eqb k 7 n₇, e, eq-eqb r.queues c q, eq-eqb c 0 z₀))
-
-          module _ (some : c ≡ 0 → ⊥) where
-            pub may_3 : (w : ℕ) → h.words ≡ w → k ≡ 3 → May (ltb r.frames (w / 1024) && eqb z 4100)
-            unfolding may_come
-            may_3 w d three = sym (simp (o, ne_eqb k 6 n₆, ne_eqb k 7 n₇, e, eq-eqb r.queues c q, ne_eqb c 0 some, eq-eqb k 3 three, d))
-
-            pub may_4 : (w : ℕ) → h.words ≡ w → (k ≡ 3 → ⊥) → May (eqb k 4 && eqb r.frames (w / 1024) && eqb z 0)
-            unfolding may_come
-            may_4 w d n₃ = sym (simp (o, ne_eqb k 6 n₆, ne_eqb k 7 n₇, e, eq-eqb r.queues c q, ne_eqb c 0 some, ne_eqb k 3 n₃, d))
+pub may_none : (p : Progress) (k z : ℕ) → ((j : Kind) → number_of j ≡ k → ⊥) → false ≡ may_come p k z
+unfolding may_come
+may_none p k z n =
+    sym (simp (ne_eqb k 3 (λ e. n Frame (sym e)), ne_eqb k 4 (λ e. n End (sym e)), ne_eqb k 5 (λ e. n Turn (sym e)), ne_eqb k 6 (λ e. n Guest (sym e)), ne_eqb k 7 (λ e. n Tickets (sym e)), neither))
+  where
+    neither : (b : Bool) → (when b then false else false) ≡ false
+    neither true = refl
+    neither false = refl
 
 -- ---- the bytes behind a head
 
-pub copy_none : (held : List ℕ) (at : ℕ) → take (at + 0) held ≡ take at held ++ []
-copy_none held at = let e : at + 0 ≡ at = omega arith in ap (λ (x : ℕ). take x held) e ∙ sym (append-nil (take at held))
-
--- one byte more
-pub copy_on : (held₀ held piece : List ℕ) (at from n i : ℕ) → i < n → at + n ≤ length held → from + n ≤ length piece → take (at + i) held ≡ take at held₀ ++ take i (drop from piece)
-    → take (at + (i + 1)) (set held (at + i) (get_or piece (from + i) 0)) ≡ take at held₀ ++ take (i + 1) (drop from piece)
-copy_on held₀ held piece at from n i l h p e =
-    let x = get_or piece (from + i) 0 in
-    let d = drop from piece in
-    let z : at + (i + 1) ≡ suc (at + i) = omega arith in
-    ap (λ (y : ℕ). take y (set held (at + i) x)) z
-    ∙ take-suc-set held (at + i) x (omega arith)
-    ∙ ap (λ (y : List ℕ). y ++ (x ∷ [])) e
-    ∙ append_assoc (take at held₀) (take i d) (x ∷ [])
-    ∙ ap (λ (y : List ℕ). take at held₀ ++ y)
-    (ap (λ (y : ℕ). take i d ++ (y ∷ [])) (sym (get_or-drop from piece i 0)) ∙ sym (take-suc d i 0 (omega (arith, length-drop from piece))) ∙ ap (λ (y : ℕ). take y d) (sym (add-one i)))
+-- copied behind the first of them
+pub copied : (held piece xs behind : List ℕ) (at at' from n : ℕ) → at ≡ at' → xs ≡ take (from + n - from) (drop from piece) → at + n ≤ length held → from + n ≤ length piece
+    → take (at' + n) (take at held ++ (xs ++ behind)) ≡ take at' held ++ take n (drop from piece)
+copied held piece xs behind at at' from n ea ex h p =
+    let ys = take n (drop from piece) in
+    let z : from + n - from ≡ n = omega arith in
+    let e : xs ≡ ys = ex ∙ ap (λ (k : ℕ). take k (drop from piece)) z in
+    let long : length (take at held ++ ys) ≡ at + n =
+    length-append (take at held) ys ∙ omega (arith, length-take-le at held (omega arith), length-take-le n (drop from piece) (omega (arith, length-drop from piece))) in
+    rw (← ea, e, ← append_assoc (take at held) ys behind) (take_at (take at held ++ ys) behind (at + n) long)
 
 module _ (r : Reader) (held held' piece : List ℕ) (from k : ℕ) (six : 6 ≤ r.held) (fits : r.held ≤ 4105) (long : length held ≡ 4106)
     (put : take (r.held + k) held' ≡ take r.held held ++ take k (drop from piece)) where
@@ -200,7 +178,7 @@ module _ (r : Reader) (held held' piece : List ℕ) (from k : ℕ) (six : 6 ≤ 
   rest_kind =
       sym (kind_front (r.held + k) held' (omega arith)) ∙ ap kind put ∙ head_kind front rest (omega (arith, front_long)) ∙ kind_front r.held held six
 
-  module _ (right : r.refusal ≡ 0) (more : r.ended ≡ false) (few : size held ≤ 4100) (inside : from + k ≤ length piece) (h : House) (m : List ℕ)
+  module _ (right : r.refusal ≡ 0) (more : is_ended r.stage ≡ false) (few : size held ≤ 4100) (inside : from + k ≤ length piece) (h : House) (m : List ℕ)
       (may : may_come (progress_at r h m) (kind held) (size held) ≡ true) where
     abbrev P : Progress
     P = progress_at r h m
@@ -258,17 +236,6 @@ module _ (r : Reader) (held held' piece : List ℕ) (from k : ℕ) (six : 6 ≤ 
         ∙ ap (λ (x : ℕ). fed (reading (settled P x (words_of (size bs / 4) (drop 6 bs))) []) (drop (from + k) piece)) bs_kind
         ∙ ap (λ (x : List ℕ). fed (reading (settled P (kind held') x) []) (drop (from + k) piece)) q)
 
-pub rested : (r : Reader) (size : ℕ) (piece : List ℕ) (from : ℕ) (held held' : List ℕ) (x : Reader) (at w n : ℕ) → at ≡ r.held → w ≡ size → n ≡ min (6 + w - at) (length piece - from)
-    → take (at + n) held' ≡ take at held ++ take n (drop from piece) → x ≡ held_to r (at + n) → Rested r size piece from held x (eqb (at + n) (6 + w)) (from + n) held'
-rested r size piece from held held' x at w n ea ew en ep ex = record {
-  more = n;
-  most = en ∙ ap (λ (y : ℕ). min (6 + y - at) (length piece - from)) ew ∙ ap (λ (y : ℕ). min (6 + size - y) (length piece - from)) ea;
-  reader = ex ∙ ap (λ (y : ℕ). held_to r (y + n)) ea;
-  ends = ap (λ (y : ℕ). eqb (y + n) (6 + w)) ea ∙ ap (λ (y : ℕ). eqb (r.held + n) (6 + y)) ew;
-  goes = refl;
-  put = ap (λ (y : ℕ). take (y + n) held') (sym ea) ∙ ep ∙ ap (λ (y : ℕ). take y held ++ take n (drop from piece)) ea;
-}
-
 -- ---- a byte, as the code takes it
 
 not_true : (x : Bool) → not x ≡ true → x ≡ false
@@ -317,11 +284,11 @@ module _ (r : Reader) (b : ℕ) (held : List ℕ) (fits : r.held ≤ 4105) (long
   step_refused count words n = (λ h m _ _. byte_refused r b held fits long h m n, (not_whole r count words held fits, (refl, λ z. z)))
 
   module _ (right : r.refusal ≡ 0) where
-    pub step_ended : (x : Reader) (count words : ℕ) → x ≡ wrong_at r → r.ended ≡ true → Steps x false held count words
+    pub step_ended : (x : Reader) (count words : ℕ) → x ≡ wrong_at r → is_ended r.stage ≡ true → Steps x false held count words
     unfolding stepped
     step_ended x count words e d = rw e (λ h m _ _. byte_ended r b held fits long h m right d, (not_whole (wrong_at r) count words held (omega arith), (refl, λ z. absurd (omega arith))))
 
-    module _ (more : r.ended ≡ false) (count words : ℕ) where
+    module _ (more : is_ended r.stage ≡ false) (count words : ℕ) where
       pub step_early : (x : Reader) → x ≡ held_to r (r.held + 1) → r.held + 1 < 6 → Steps x false now count words
       unfolding stepped
       step_early x e l =
@@ -420,62 +387,3 @@ module _ (r : Reader) (b : ℕ) (held : List ℕ) (fits : r.held ≤ 4105) (long
           unfolding stepped
           step_whole x e l =
               rw e (λ h m c w. byte_whole r b held fits long h m right more six (may_is true (not_false t n) h m c w) (omega (arith, size_is)), ((λ d. one_way true refl d, λ _. (right, λ h m c w. may_is true (not_false t n) h m c w)), (refl, λ z. z)))
-
--- ---- the bytes of a piece, until a record is whole
-
-pub record Taking (piece : List ℕ) (from : ℕ) (held₀ : List ℕ) (count words : ℕ) (r₀ : Reader) (held : List ℕ) (r : Reader) (whole : Bool) (next : ℕ) (more : Bool) : Type 0 where
-  pub same : (h : House) (m : List ℕ) → h.count ≡ count → h.words ≡ words → fed (stepped r whole h held m) (drop next piece) ≡ fed (reading_at r₀ h held₀ m) (drop from piece)
-  pub to : SteppedTo r whole count words held
-  pub goes : more ≡ (not whole && ltb next (length piece))
-  pub low : from ≤ next
-  pub high : next ≤ length piece
-  pub began : next ≡ from → whole ≡ false
-  pub long : length held ≡ 4106
-  pub kept : Kept r₀ r
-
-both_true : (a b : Bool) → (a && b) ≡ true → (a ≡ true) × (b ≡ true)
-both_true true b e = (refl, e)
-both_true false b e = one_way false e refl
-
-module _ (piece : List ℕ) (from : ℕ) (held₀ : List ℕ) (count words : ℕ) (r₀ : Reader) where
-  abbrev Takes : List ℕ → Reader → Bool → ℕ → Bool → Type 0
-  Takes held r whole next more = Taking piece from held₀ count words r₀ held r whole next more
-
-  pub taking_begin : r₀.held ≤ 4105 → length held₀ ≡ 4106 → from < length piece → Takes held₀ r₀ false from (not false && ltb from (length piece))
-  unfolding stepped
-  taking_begin l e f = record { same = λ h m _ _. refl; to = (λ _. l, λ d. one_way false d refl); goes = refl; low = omega arith; high = omega arith; began = λ _. refl; long = e; kept = (refl, λ z. z) }
-
-  module _ (held : List ℕ) (r : Reader) (whole : Bool) (next : ℕ) (more : Bool) (t : Takes held r whole next more) where
-    module _ (yes₁ : more ≡ true) where
-      goes_on : (not whole ≡ true) × (ltb next (length piece) ≡ true)
-      goes_on = both_true (not whole) (ltb next (length piece)) (sym t.goes ∙ yes₁)
-
-      pub taking_open : (whole ≡ false) × (next < length piece) × (r.held ≤ 4105)
-      taking_open = let w = not_true whole goes_on.0 in (w, ltb-true next (length piece) goes_on.1, t.to.0 w)
-
-      pub taking_on : (held' : List ℕ) (x : Reader) (w : Bool) (next' : ℕ) → length held' ≡ length held → Took r held piece next count words x w held' next'
-          → Takes held' x w next' (not w && ltb next' (length piece))
-      unfolding stepped
-      taking_on held' x w next' l s =
-          let o = taking_open in
-          record {
-            same = λ h m c d.
-                s.0 h m c d
-                ∙ (let q : stepped r whole h held m ≡ reading_at r h held m = rw o.0 in ap (λ (y : Reading). fed y (drop next piece)) (sym q))
-                ∙ t.same h m c d;
-            to = s.1.0.0;
-            goes = refl;
-            low = omega (arith, t.low, s.1.0.1);
-            high = s.1.0.2;
-            began = λ z. absurd (omega (arith, t.low, s.1.0.1));
-            long = l ∙ t.long;
-            kept = (s.1.1.0 ∙ t.kept.0, λ z. t.kept.1 (s.1.1.1 z));
-          }
-
-    pub taking_past : from < length piece → more ≡ false → from < next
-    taking_past l e =
-        by_eq next from
-        (λ z. one_way more
-        (t.goes ∙ (let w = t.began z in let y : ltb next (length piece) ≡ true = lt-ltb next (length piece) (omega arith) in rw (w, y)))
-        e)
-        (λ n. omega (arith, t.low))

@@ -1,21 +1,20 @@
 -- Laws of a count.
 use mathlib.Core.Path.{◌≡◌, refl}
 use mathlib.Core.Bool.{Bool, true, false}
-use Prim.Native.Nat.{ℕ, zero, suc, ◌+◌, ◌<◌, ◌≤◌}
+use Prim.Native.Nat.{ℕ, zero, suc, ◌+◌, ◌<◌}
 use native.Mathlib.Numerals.{add-one}
 use native.Mathlib.Omega.{arith}
-use Rattle.dlx.specs.Choice.{when◌then◌else◌}
 use Rattle.dlx.proofs.Tests.{by_test, by_eq}
 use Rattle.staleness.specs.Audit.{count_of}
 
-pub one_most : (b : Bool) (r : ℕ) → r ≡ (when b then 1 else 0) → r ≤ 1
-one_most true r e = omega arith
-one_most false r e = omega arith
-
 module _ (p : ℕ → Bool) where
-  pub count_more : (n : ℕ) → count_of p (n + 1) ≡ count_of p n + (when p n then 1 else 0)
+  pub count_yes : (n : ℕ) → p n ≡ true → count_of p (n + 1) ≡ count_of p n + 1
   unfolding count_of
-  count_more n = rw (add-one n) refl
+  count_yes n e = rw (add-one n, e) refl
+
+  pub count_no : (n : ℕ) → p n ≡ false → count_of p (n + 1) ≡ count_of p n
+  unfolding count_of
+  count_no n e = rw (add-one n, e) (omega arith)
 
   -- none is counted exactly where it holds of none
   pub count_none : (n : ℕ) → ((k : ℕ) → k < n → p k ≡ false) → count_of p n ≡ 0

@@ -1,5 +1,6 @@
 -- A list of n numbers that a loop makes over, one by one, from the rule g to the rule f.
-use mathlib.Core.Path.{◌≡◌, sym, ap, ◌∙◌}
+use mathlib.Core.Path.{◌≡◌, refl, sym, ap, ◌∙◌}
+use mathlib.Core.Bool.{true, false}
 use mathlib.Core.List.{List}
 use Prim.Native.Nat.{ℕ, ◌+◌, ◌<◌, ◌≤◌}
 use native.Mathlib.Omega.{arith}
@@ -7,6 +8,7 @@ use borrow.Author.Tests.{lt-ltb, le-ltb, ltb-true, ltb-false}
 use lib.Dec.{ltb}
 use lib.ListN.{length, get_or, set, get_or-eq_default}
 use lib.Seq.{ext_get_or}
+use Rattle.std.proofs.lemmas.List.{set-get_or}
 use Rattle.dlx.specs.Choice.{when◌then◌else◌}
 use Rattle.dlx.proofs.Tests.{by_test}
 use Rattle.dlx.specs.declared.partition.Table.{Table}
@@ -57,17 +59,32 @@ module _ (f g : ℕ → ℕ) (n : ℕ) where
       (λ t. let b = ltb-true j px t in rw (t, lt-ltb j (px + 1) (omega arith)))
       (λ t. let b = ltb-false j px t in rw (t, le-ltb j (px + 1) (omega arith)))) l
 
+  -- the rules agree on the next
+  pub far_same : (px : ℕ) → f px ≡ g px → so_far px ≡ so_far (px + 1)
+  far_same px e =
+      list_from_same (λ k. when ltb k px then f k else g k) (λ k. when ltb k (px + 1) then f k else g k) 0 n
+      (λ k _. by_test (ltb k px)
+      (λ t. let b = ltb-true k px t in rw (t, lt-ltb k (px + 1) (omega arith)))
+      (λ t. by_test (ltb k (px + 1))
+      (λ s. let b = ltb-true k (px + 1) s in let c = ltb-false k px t in let q : k ≡ px = omega arith in rw (t, s, q) (sym e))
+      (λ s. rw (t, s))))
+
   -- as a loop has it: the list, the place and the number each by an equation
   pub far_set : (l : List ℕ) (px a r : ℕ) → l ≡ so_far px → px < n → a ≡ px → r ≡ f px → set l a r ≡ so_far (px + 1)
   far_set l px a r e b p q = rw (e, p, q) (far_more px b)
 
--- one entry more of a shadow that is mended
-pub kept_more : (fr : List ℕ) (n : ℕ) (t : Table) (ws old sh : List ℕ) (px a b r : ℕ)
-    → sh ≡ so_far (kept_in fr n t ws old) (λ k. get_or old k 0) entries px → px < entries → a ≡ px → b ≡ px
-    → r ≡ (when stale fr n t ws px (get_or sh a 0) then 0 else get_or sh a 0)
-    → set sh b r ≡ so_far (kept_in fr n t ws old) (λ k. get_or old k 0) entries (px + 1)
-kept_more fr n t ws old sh px a b r i l p q e =
-    let f = kept_in fr n t ws old in
-    let s : get_or sh a 0 ≡ get_or old px 0 = rw (i, p) (far_at f (λ k. get_or old k 0) entries px l) in
-    let v : r ≡ f px = e ∙ ap (λ (x : ℕ). when stale fr n t ws px x then 0 else x) s in
-    far_set f (λ k. get_or old k 0) entries sh px b r i l q v
+-- one entry more of a shadow that is mended: a stale one, and another
+module _ (fr : List ℕ) (n : ℕ) (t : Table) (ws old sh : List ℕ) (px : ℕ)
+    (i : sh ≡ so_far (kept_in fr n t ws old) (λ k. get_or old k 0) entries px) (l : px < entries) where
+  before : get_or sh px 0 ≡ get_or old px 0
+  before = rw i (far_at (kept_in fr n t ws old) (λ k. get_or old k 0) entries px l)
+
+  pub made_empty : stale fr n t ws px (get_or sh px 0) ≡ true → set sh px 0 ≡ so_far (kept_in fr n t ws old) (λ k. get_or old k 0) entries (px + 1)
+  made_empty e =
+      let v : 0 ≡ kept_in fr n t ws old px = rw (rw before at e) in
+      far_set (kept_in fr n t ws old) (λ k. get_or old k 0) entries sh px px 0 i l refl v
+
+  pub left_alone : stale fr n t ws px (get_or sh px 0) ≡ false → set sh px (get_or sh px 0) ≡ so_far (kept_in fr n t ws old) (λ k. get_or old k 0) entries (px + 1)
+  left_alone e =
+      let v : kept_in fr n t ws old px ≡ get_or old px 0 = rw (rw before at e) in
+      set-get_or sh px 0 ∙ i ∙ far_same (kept_in fr n t ws old) (λ k. get_or old k 0) entries px v

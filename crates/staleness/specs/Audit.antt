@@ -1,6 +1,6 @@
 -- The audit of a house and its memory: which shadow entries are stale (`stale_at`), the first of them, how many there are, and the house without them. Every
 -- partition's whole shadow counts: running or stopped, in either mode, below PTL or not.
-use Rattle.std.specs.Prelude.{Option, Some, None, Result, Ok, Err, Bool, true, false, not, List, [], ◌∷◌, ℕ, zero, suc, ◌+◌, ◌*◌, ◌<◌, ◌≤◌, ltb, eqb, length, get_or, replicate}
+use Rattle.std.specs.Prelude.{◌≡◌, Option, Some, None, MatchOption, Result, Ok, Err, Bool, true, false, not, List, [], ◌∷◌, ℕ, zero, suc, ◌+◌, ◌*◌, ◌<◌, ◌≤◌, ltb, eqb, length, get_or, replicate}
 use Rattle.dlx.specs.Choice.{when◌then◌else◌}
 use Rattle.dlx.specs.Parts.{outer}
 use Rattle.dlx.specs.declared.partition.Table.{Table}
@@ -54,6 +54,10 @@ found (Some s) = finding 0 true s.partition s.page
 abbrev pub finding_of : Result (Option Stale) Refusal → Finding
 finding_of (Ok s) = found s
 finding_of (Err r) = finding (refusal r).number false 0 0
+
+-- r is the first number below n of which p holds, where there is one
+abbrev pub IsFirst : (ℕ → Bool) → ℕ → Option ℕ → Type 0
+IsFirst p n r = MatchOption r (first_from p 0 n ≡ n) (λ k. (k < n) × (first_from p 0 n ≡ k))
 
 -- partition i's first, or the number of its entries
 abbrev pub first_page : World → ℕ → ℕ

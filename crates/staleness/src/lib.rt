@@ -1,17 +1,16 @@
 // The audit: is every valid shadow entry what the guest's table and the host's list give now? Two readings and a mending, each linear in the entries.
 #![tactic(auto)]
 
-ghost use Rattle.std.specs.Prelude.{◌≡◌, List, ℕ, ◌^◌, ◌<◌, length};
-ghost use Rattle.dlx.specs.Choice.{when◌then◌else◌};
+ghost use Rattle.std.specs.Prelude.{◌≡◌, List, ℕ, ◌<◌, length};
 ghost use Rattle.addresses.specs.Walk.{entries};
 ghost use Rattle.addresses.specs.Memory.{stale};
 ghost use Rattle.addresses.specs.Premises.{Placed};
-ghost use Rattle.house.specs.Lists.{list_from, first_from};
+ghost use Rattle.house.specs.Lists.{list_from};
 ghost use Rattle.house.specs.House.{pages_of, frames_of};
 ghost use Rattle.house.specs.Boot.{sum};
-ghost use Rattle.house.specs.Turns.{world};
+ghost use Rattle.house.specs.Turns.{world, stale_at};
 ghost use Rattle.house.specs.Refusals.{verdict_of, answer_of};
-ghost use Rattle.staleness.specs.Audit.{audit_verdict, stale_in, kept_in, first_page, found, first_stale, finding_of, audit_call, count_of, stale_count, stale_counts, counts_of, counts_call, mended_one, mended, mend_call, Walkable};
+ghost use Rattle.staleness.specs.Audit.{audit_verdict, stale_in, kept_in, IsFirst, found, first_stale, finding_of, audit_call, count_of, stale_count, stale_counts, counts_of, counts_call, mended_one, mended, mend_call, Walkable};
 
 use addresses::ENTRIES;
 use damage::damaged;
@@ -19,9 +18,6 @@ use dlx::partition::Table;
 use dlx::words::wide;
 use house::{Answer, Done, House, Refusal};
 use translate::walk;
-
-// Virtual pages are below it.
-const LIMIT: u32 = ENTRIES as u32;
 
 // Where a stale entry stands.
 #[derive(Clone, Copy, Debug, PartialEq, Eq)]
@@ -33,57 +29,29 @@ pub struct Stale {
 // ---- one entry
 
 // Entry e of page px is stale.
+#[tactic(auto, unfolding(addresses::specs::Memory::stale))]
 fn is_stale(words: &[u32], frames: &[u32], pages: u32, t: Table, px: u32, e: u32) -> bool
     requires { Placed frames.now pages (length words.now) }
     ensures { result ≡ stale frames.now pages t words.now px e }
 {
-    if e / 2048 % 2 != 1 {
-        return false;
-    }
-    if e == walk(words, frames, pages, t, px) {
-        return false;
-    }
-    true
-}
-
-// 1 where it is stale.
-fn tally(words: &[u32], frames: &[u32], pages: u32, t: Table, px: u32, e: u32) -> u32
-    requires { Placed frames.now pages (length words.now) }
-    ensures { result ≡ (when stale frames.now pages t words.now px e then 1 else 0) }
-{
-    if is_stale(words, frames, pages, t, px, e) {
-        return 1;
-    }
-    0
-}
-
-// The entry, or the empty one where it is stale.
-fn kept(words: &[u32], frames: &[u32], pages: u32, t: Table, px: u32, e: u32) -> u32
-    requires { Placed frames.now pages (length words.now) }
-    ensures { result ≡ (when stale frames.now pages t words.now px e then 0 else e) }
-{
-    if is_stale(words, frames, pages, t, px, e) {
-        return 0;
-    }
-    e
+    e / 2048 % 2 == 1 && e != walk(words, frames, pages, t, px)
 }
 
 // ---- one shadow
 
-// The first page whose entry is stale, or the number of the entries.
-fn first_page(words: &[u32], frames: &[u32], shadow: &[u32], pages: u32, t: Table) -> u32
+// The first page whose entry is stale.
+fn first_page(words: &[u32], frames: &[u32], shadow: &[u32], pages: u32, t: Table) -> Option<u32>
     requires fact_1 { Placed frames.now pages (length words.now) }
     requires fact_2 { length shadow.now ≡ entries }
-    ensures { result ≡ first_from (stale_in frames.now pages t words.now shadow.now) 0 entries }
+    ensures { IsFirst (stale_in frames.now pages t words.now shadow.now) entries result }
 {
-    let mut px: u32 = 0;
-    while px < LIMIT {
-        if is_stale(words, frames, pages, t, px, shadow[wide(px)]) {
-            return px;
+    for (px, e) in shadow.iter().enumerate() {
+        let px = px as u32;
+        if is_stale(words, frames, pages, t, px, *e) {
+            return Some(px);
         }
-        px += 1;
     }
-    px
+    None
 }
 
 // How many are stale.
@@ -92,11 +60,11 @@ fn count_stale(words: &[u32], frames: &[u32], shadow: &[u32], pages: u32, t: Tab
     requires fact_2 { length shadow.now ≡ entries }
     ensures { result ≡ count_of (stale_in frames.now pages t words.now shadow.now) entries }
 {
-    let mut n: u32 = 0;
-    let mut px: u32 = 0;
-    while px < LIMIT {
-        n += tally(words, frames, pages, t, px, shadow[wide(px)]);
-        px += 1;
+    let mut n = 0;
+    for (px, e) in shadow.iter().enumerate() {
+        if is_stale(words, frames, pages, t, px as u32, *e) {
+            n += 1;
+        }
     }
     n
 }
@@ -107,49 +75,39 @@ fn mend_shadow(words: &[u32], frames: &[u32], shadow: &mut [u32], pages: u32, t:
     requires fact_2 { length shadow.old ≡ entries }
     ensures { shadow.new ≡ list_from (kept_in frames.now pages t words.now shadow.old) 0 entries }
 {
-    let mut px: u32 = 0;
-    while px < LIMIT {
-        shadow[wide(px)] = kept(words, frames, pages, t, px, shadow[wide(px)]);
-        px += 1;
+    for (px, e) in shadow.iter_mut().enumerate() {
+        if is_stale(words, frames, pages, t, px as u32, *e) {
+            *e = 0;
+        }
     }
 }
 
 // ---- one partition
 
-// Partition i's first stale page, or the number of its entries.
-fn first_of(h: House, memory: &[u32], i: u32) -> u32
+// Partition i's first stale page.
+fn first_of(h: &House, memory: &[u32], i: u32) -> Option<u32>
     requires fact_1 { i < 8 }
-    requires fact_2 { Placed (frames_of h i) (pages_of h i) (length memory.now) }
-    ensures { result ≡ first_page (world h memory.now) i }
+    requires fact_2 { Placed (frames_of h.now i) (pages_of h.now i) (length memory.now) }
+    ensures { IsFirst (stale_at (world h.now memory.now) i) entries result }
 {
-    let frames = h.frames;
-    let shadows = h.shadows;
-    let parts = h.parts;
     let k = wide(i);
-    let p = parts[k];
-    let a = k * 256;
-    let b = a + 256;
-    let c = k * ENTRIES;
-    let d = c + ENTRIES;
-    first_page(memory, &frames[a..b], &shadows[c..d], p.pages, p.table)
+    let p = h.parts[k];
+    let frames = &h.frames[k * 256..k * 256 + 256];
+    let shadow = &h.shadows[k * ENTRIES..k * ENTRIES + ENTRIES];
+    first_page(memory, frames, shadow, p.pages, p.table)
 }
 
 // How many of its entries are stale.
-fn count_of(h: House, memory: &[u32], i: u32) -> u32
+fn count_of(h: &House, memory: &[u32], i: u32) -> u32
     requires fact_1 { i < 8 }
-    requires fact_2 { Placed (frames_of h i) (pages_of h i) (length memory.now) }
-    ensures { result ≡ stale_count (world h memory.now) i }
+    requires fact_2 { Placed (frames_of h.now i) (pages_of h.now i) (length memory.now) }
+    ensures { result ≡ stale_count (world h.now memory.now) i }
 {
-    let frames = h.frames;
-    let shadows = h.shadows;
-    let parts = h.parts;
     let k = wide(i);
-    let p = parts[k];
-    let a = k * 256;
-    let b = a + 256;
-    let c = k * ENTRIES;
-    let d = c + ENTRIES;
-    count_stale(memory, &frames[a..b], &shadows[c..d], p.pages, p.table)
+    let p = h.parts[k];
+    let frames = &h.frames[k * 256..k * 256 + 256];
+    let shadow = &h.shadows[k * ENTRIES..k * ENTRIES + ENTRIES];
+    count_stale(memory, frames, shadow, p.pages, p.table)
 }
 
 // The house with its stale entries empty.
@@ -158,19 +116,13 @@ fn mend_of(h: House, memory: &[u32], i: u32) -> House
     requires fact_2 { Placed (frames_of h i) (pages_of h i) (length memory.now) }
     ensures { world result memory.now ≡ mended_one (world h memory.now) i }
 {
-    let frames = h.frames;
-    let mut shadows = h.shadows;
-    let parts = h.parts;
     let k = wide(i);
-    let p = parts[k];
-    let a = k * 256;
-    let b = a + 256;
-    let c = k * ENTRIES;
-    let d = c + ENTRIES;
-    mend_shadow(memory, &frames[a..b], &mut shadows[c..d], p.pages, p.table);
-    let mut r = h;
-    r.shadows = shadows;
-    r
+    let p = h.parts[k];
+    let frames = &h.frames[k * 256..k * 256 + 256];
+    let mut shadows = h.shadows;
+    let shadow = &mut shadows[k * ENTRIES..k * ENTRIES + ENTRIES];
+    mend_shadow(memory, frames, shadow, p.pages, p.table);
+    House { shadows, ..h }
 }
 
 // ---- all partitions
@@ -179,14 +131,10 @@ fn first_stale(h: House, memory: &[u32]) -> Option<Stale>
     requires { Walkable (world h memory.now) }
     ensures { found result ≡ first_stale (world h memory.now) }
 {
-    let n = h.count;
-    let mut i: u32 = 0;
-    while i < n {
-        let page = first_of(h, memory, i);
-        if page < LIMIT {
+    for i in 0..h.count {
+        if let Some(page) = first_of(&h, memory, i) {
             return Some(Stale { partition: i, page });
         }
-        i += 1;
     }
     None
 }
@@ -195,12 +143,9 @@ fn count_each(h: House, memory: &[u32]) -> [u32; 8]
     requires { Walkable (world h memory.now) }
     ensures { result ≡ stale_counts (world h memory.now) }
 {
-    let n = h.count;
     let mut each = [0u32; 8];
-    let mut i: u32 = 0;
-    while i < n {
-        each[wide(i)] = count_of(h, memory, i);
-        i += 1;
+    for i in 0..h.count {
+        each[wide(i)] = count_of(&h, memory, i);
     }
     each
 }
@@ -209,31 +154,19 @@ fn mend_each(h: House, memory: &[u32]) -> House
     requires { Walkable (world h memory.now) }
     ensures { world result memory.now ≡ mended (world h memory.now) }
 {
-    let n = h.count;
     let mut r = h;
-    let mut i: u32 = 0;
-    while i < n {
+    for i in 0..h.count {
         r = mend_of(r, memory, i);
-        i += 1;
     }
     r
-}
-
-// A count, as a part of a detail.
-fn long(x: u32) -> u64
-    ensures { (result ≡ x) × (result < 2 ^ 32) }
-{
-    x as u64
 }
 
 fn total(each: [u32; 8]) -> u64
     ensures { result ≡ sum each }
 {
-    let mut n: u64 = 0;
-    let mut i: usize = 0;
-    while i < 8 {
-        n += long(each[i]);
-        i += 1;
+    let mut n = 0;
+    for x in &each {
+        n += u64::from(*x);
     }
     n
 }

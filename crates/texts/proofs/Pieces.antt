@@ -1,6 +1,5 @@
 -- What the calls of a function give together, as laws over plain variables.
-use Rattle.std.proofs.Common.{◌≡◌, ℕ, ◌+◌, ◌-◌, ◌*◌, ◌%◌, ◌^◌, ◌<◌, ◌≤◌, Bool, true, false, List, [], ◌∷◌, ◌++◌, length, get_or, take, drop, set, sym, refl, ap, ◌∙◌, add-one, arith, length-append, length-set, drop_of_length-le, length-take, length-take-le, drop-cons, take-suc-set, take_at, le-ltb, lt-ltb, eq-eqb, ne_eqb}
-use Rattle.dlx.specs.Choice.{when◌then◌else◌}
+use Rattle.std.proofs.Common.{◌≡◌, ℕ, ◌+◌, ◌*◌, ◌%◌, ◌^◌, ◌<◌, ◌≤◌, Bool, true, false, List, [], ◌∷◌, ◌++◌, length, get_or, take, drop, set, sym, refl, ap, ◌∙◌, add-one, arith, length-append, length-set, drop_of_length-le, length-take-le, drop-cons, take-suc-set, take_at, le-ltb, lt-ltb, eq-eqb, ne_eqb, Option, Some, None, is_some}
 use Rattle.decimal.specs.Raw.{low_first, raw}
 use Rattle.decimal.specs.Texts.{Text, text, put}
 use Rattle.decimal.proofs.Texts.{put_behind, exactly, whole}
@@ -10,7 +9,7 @@ use Rattle.texts.specs.Reading.{no_words, Going, going, start, held, Fits, longe
 use Rattle.texts.specs.declared.reading.At.{At}
 use Rattle.texts.proofs.Whole.{read_whole}
 
-abbrev at : ℕ → ℕ → ℕ → At
+abbrev at : ℕ → ℕ → Option ℕ → At
 at k n w = record { length = k; lines = n; wrong = w }
 
 -- ---- one byte of a line more
@@ -35,40 +34,40 @@ module _ (a : At) (line : List ℕ) (b : ℕ) (f : Fits a line) where
 -- ---- the line has ended
 
 module _ (d : Bool) (a : At) (line words : List ℕ) (f : Fits a line) {n : ℕ} (e : n ≡ (a.lines + 1) % 2 ^ 64) {r : Bool} (q : r ≡ right_by d (take a.length line)) where
-  pub ended_wrong : r ≡ false → held (at a.length n n) line words ≡ ended d (held a line words)
+  pub ended_wrong : r ≡ false → held (at a.length n (Some n)) line words ≡ ended d (held a line words)
   unfolding ended
   ended_wrong z = rw (← q, z, ← e)
 
-  pub ended_right : {w : ℕ} {o : List ℕ} → r ≡ true → w ≡ word_by d (take a.length line) → o ≡ set words a.lines w → held (at 0 n 0) line o ≡ ended d (held a line words)
+  pub ended_right : {w : ℕ} {o : List ℕ} → r ≡ true → w ≡ word_by d (take a.length line) → o ≡ set words a.lines w → held (at 0 n None) line o ≡ ended d (held a line words)
   unfolding ended
   ended_right z c s = rw (← q, z, ← e, s, c)
 
-pub fits_same : (a : At) (line : List ℕ) (n w : ℕ) → Fits a line → Fits (at a.length n w) line
+pub fits_same : (a : At) (line : List ℕ) (n : ℕ) (w : Option ℕ) → Fits a line → Fits (at a.length n w) line
 fits_same a line n w f = record { size = f.size; within = f.within }
 
-pub fits_none : (a : At) (line : List ℕ) (n w : ℕ) → Fits a line → Fits (at 0 n w) line
+pub fits_none : (a : At) (line : List ℕ) (n : ℕ) (w : Option ℕ) → Fits a line → Fits (at 0 n w) line
 fits_none a line n w f = record { size = f.size; within = omega arith }
 
 -- ---- one byte
 
 module _ (d : Bool) (g : Going) (b : ℕ) where
-  pub took_wrong : (g.wrong ≡ 0 → ⊥) → g ≡ took d g b
+  pub took_wrong : is_some g.wrong ≡ true → g ≡ took d g b
   unfolding took
-  took_wrong z = rw (ne_eqb g.wrong 0 z)
+  took_wrong z = rw z
 
-  module _ (z : g.wrong ≡ 0) where
+  module _ (z : is_some g.wrong ≡ false) where
     pub took_end : {x : Going} → b ≡ 10 → x ≡ ended d g → x ≡ took d g b
     unfolding took
-    took_end n e = rw (eq-eqb g.wrong 0 z, eq-eqb b 10 n) e
+    took_end n e = rw (z, eq-eqb b 10 n) e
 
     module _ (n : b ≡ 10 → ⊥) {r : Bool} (q : r ≡ idle d g.line b) where
       pub took_idle : r ≡ true → g ≡ took d g b
       unfolding took
-      took_idle t = rw (eq-eqb g.wrong 0 z, ne_eqb b 10 n, ← q, t)
+      took_idle t = rw (z, ne_eqb b 10 n, ← q, t)
 
       pub took_more : {x : Going} → r ≡ false → x ≡ longer g b → x ≡ took d g b
       unfolding took
-      took_more f e = rw (eq-eqb g.wrong 0 z, ne_eqb b 10 n, ← q, f) e
+      took_more f e = rw (z, ne_eqb b 10 n, ← q, f) e
 
 -- ---- a piece: what is left from here is what was to do from the start
 
@@ -89,24 +88,24 @@ fed_more d g (x ∷ a) b = fed_more d (took d g x) a b
 -- ---- the end of the text
 
 module _ (d : Bool) (a : At) (line words : List ℕ) (f : Fits a line) where
-  pub finished_wrong : (a.wrong ≡ 0 → ⊥) → held a line words ≡ finished d (held a line words)
+  pub finished_wrong : is_some a.wrong ≡ true → held a line words ≡ finished d (held a line words)
   unfolding finished
-  finished_wrong z = rw (ne_eqb a.wrong 0 z)
+  finished_wrong z = rw z
 
-  module _ (z : a.wrong ≡ 0) where
+  module _ (z : is_some a.wrong ≡ false) where
     pub finished_none : a.length ≡ 0 → held a line words ≡ finished d (held a line words)
     unfolding finished
-    finished_none n = rw (eq-eqb a.wrong 0 z, eq-eqb (length (take a.length line)) 0 (held_length a line 0 f ∙ n))
+    finished_none n = rw (z, eq-eqb (length (take a.length line)) 0 (held_length a line 0 f ∙ n))
 
     pub finished_line : {x : Going} → (a.length ≡ 0 → ⊥) → x ≡ ended d (held a line words) → x ≡ finished d (held a line words)
     unfolding finished
-    finished_line n e = rw (eq-eqb a.wrong 0 z, ne_eqb (length (take a.length line)) 0 (λ q. n (sym (held_length a line 0 f) ∙ q))) e
+    finished_line n e = rw (z, ne_eqb (length (take a.length line)) 0 (λ q. n (sym (held_length a line 0 f) ∙ q))) e
 
 -- ---- all pieces
 
-pub behind_none : (d : Bool) (line words : List ℕ) → words ≡ no_words → Behind d (held (at 0 0 0) line words) 0
+pub behind_none : (d : Bool) (line words : List ℕ) → words ≡ no_words → Behind d (held (at 0 0 None) line words) 0
 unfolding fed
-behind_none d line words e = ([], refl, ap (λ (ws : List ℕ). going [] 0 0 ws) e)
+behind_none d line words e = ([], refl, ap (λ (ws : List ℕ). going [] 0 None ws) e)
 
 pub behind_more : (d : Bool) (g x : Going) (n k : ℕ) (piece : List ℕ) → Behind d g n → x ≡ fed d g piece → k ≡ length piece → Behind d x (n + k)
 behind_more d g x n k piece (t, l, e) q z =
@@ -115,27 +114,24 @@ behind_more d g x n k piece (t, l, e) q z =
 pub whole_of : (d : Bool) (g x : Going) (n : ℕ) → Behind d g n → n + 1 < 2 ^ 64 → x ≡ finished d g → Whole d x
 whole_of d g x n (t, l, e) h q = (t, omega (arith, l), q ∙ ap (finished d) e)
 
-pub no_fail : {P : Type 0} → ◌≡◌ {A = Bool} true false → P
-no_fail e = absurd (let z : ◌≡◌ {A = ℕ} 1 0 = ap (λ (b : Bool). when b then 1 else 0) e in omega arith)
-
 -- ---- what may be said and written
 
 module _ (d : Bool) (g : Going) (w : Whole d g) where
   told_of : (a : Answer) → answer_of g ≡ a → (t : List ℕ) × (length t + 1 < 2 ^ 64) × (words_of d t ≡ a)
   told_of a e = (w.0, w.1, sym (read_whole d w.0 w.1) ∙ ap answer_of (sym w.2) ∙ e)
 
-  pub told_wrong : (g.wrong ≡ 0 → ⊥) → Told d 18 g.wrong 0 no_words
+  pub told_wrong : (n : ℕ) → g.wrong ≡ Some n → Told d 18 n 0 no_words
   unfolding answer_of
-  told_wrong z = told_of (answer 18 g.wrong 0 no_words) (rw (ne_eqb g.wrong 0 z))
+  told_wrong n z = told_of (answer 18 n 0 no_words) (rw (z, answer_of))
 
-  module _ (z : g.wrong ≡ 0) where
+  module _ (z : g.wrong ≡ None) where
     pub told_short : 262144 < g.lines → Told d 13 0 0 no_words
     unfolding answer_of
-    told_short l = told_of (answer 13 0 0 no_words) (rw (eq-eqb g.wrong 0 z, lt-ltb 262144 g.lines l))
+    told_short l = told_of (answer 13 0 0 no_words) (rw (z, lt-ltb 262144 g.lines l))
 
     pub told_done : g.lines ≤ 262144 → Told d 0 0 g.lines g.words
     unfolding answer_of
-    told_done l = told_of (answer 0 0 g.lines g.words) (rw (eq-eqb g.wrong 0 z, le-ltb 262144 g.lines l))
+    told_done l = told_of (answer 0 0 g.lines g.words) (rw (z, le-ltb 262144 g.lines l))
 
 -- ---- raw words: what is left to put from here is what was to put from the start
 
@@ -165,6 +161,3 @@ raw_in ws b o end n l e =
     let d = drop (0 + length (raw ws)) b in
     let q : o ≡ raw ws ++ d = p.1 in
     (sym m, rw q (take_at (raw ws) d end m), omega (arith, ap length q, length-append (raw ws) d))
-
-pub few_taken : (a b : ℕ) (ws : List ℕ) → b ≤ a + 1024 → length (take (b - a) (drop a ws)) ≤ 1024
-few_taken a b ws e = omega (arith, length-take (b - a) (drop a ws))

@@ -1,5 +1,5 @@
 -- Byte by byte the answer is that of the call for the whole text.
-use Rattle.std.proofs.Common.{◌≡◌, ℕ, suc, ◌+◌, ◌%◌, ◌^◌, ◌<◌, ◌≤◌, Bool, true, false, not, ◌&&◌, eqb, ltb, leb, List, [], ◌∷◌, ◌++◌, length, take, drop, set, sym, refl, ap, ◌∙◌, append_assoc, append-nil, mod-eq_of_lt, add-one, arith, length-append, length-take, take_all, ltb-false, ltb-true, le-ltb, ne_eqb, leb-true}
+use Rattle.std.proofs.Common.{◌≡◌, ℕ, suc, ◌+◌, ◌%◌, ◌^◌, ◌<◌, ◌≤◌, Bool, true, false, not, ◌&&◌, eqb, ltb, leb, List, [], ◌∷◌, ◌++◌, length, take, drop, set, sym, refl, ap, ◌∙◌, append_assoc, append-nil, mod-eq_of_lt, add-one, arith, length-append, length-take, take_all, ltb-false, ltb-true, le-ltb, ne_eqb, leb-true, Some, None, is_some}
 use borrow.Author.Tests.{lt-leb}
 use lib.Seq.{sets, take-append-le}
 use Rattle.dlx.specs.Choice.{when◌then◌else◌}
@@ -36,13 +36,13 @@ snoc_first l b =
 
 -- a state whose line is l, of which the first 81 bytes are kept
 abbrev along : List ℕ → ℕ → List ℕ → Going
-along l n ws = going (take 81 l) n 0 ws
+along l n ws = going (take 81 l) n None ws
 
 longer_along : (l : List ℕ) (n : ℕ) (ws : List ℕ) (b : ℕ) → longer (along l n ws) b ≡ along (l ++ (b ∷ [])) n ws
 unfolding longer
-longer_along l n ws b = pushed (ltb (length (take 81 l)) 81) ∙ ap (λ (x : List ℕ). going x n 0 ws) (sym (snoc_first l b))
+longer_along l n ws b = pushed (ltb (length (take 81 l)) 81) ∙ ap (λ (x : List ℕ). going x n None ws) (sym (snoc_first l b))
   where
-    pushed : (t : Bool) → (when t then going (take 81 l ++ (b ∷ [])) n 0 ws else going (take 81 l) n 0 ws) ≡ going (when t then take 81 l ++ (b ∷ []) else take 81 l) n 0 ws
+    pushed : (t : Bool) → (when t then going (take 81 l ++ (b ∷ [])) n None ws else going (take 81 l) n None ws) ≡ going (when t then take 81 l ++ (b ∷ []) else take 81 l) n None ws
     pushed true = refl
     pushed false = refl
 
@@ -142,7 +142,7 @@ module _ (d : Bool) where
         let k = right_short l e in
         rw (k, e, m)
 
-    ended_wrong : right_by d l ≡ false → ended d (along l n ws) ≡ going (take 81 l) (suc n) (suc n) ws
+    ended_wrong : right_by d l ≡ false → ended d (along l n ws) ≡ going (take 81 l) (suc n) (Some (suc n)) ws
     unfolding ended
     ended_wrong e =
         let m : (n + 1) % 2 ^ 64 ≡ suc n = mod-eq_of_lt small ∙ add-one n in
@@ -158,18 +158,18 @@ module _ (d : Bool) where
   unfolding answer_by wrong_by words_by
   by_right n ws l ls e = let z : suc n + length ls ≡ n + suc (length ls) = omega arith in rw (e, wrong_by, z)
 
-  by_wrong : (n : ℕ) (x ws l : List ℕ) (ls : List (List ℕ)) → right_of d l ≡ false → answer_of (going x (suc n) (suc n) ws) ≡ answer_by d n ws (l ∷ ls)
+  by_wrong : (n : ℕ) (x ws l : List ℕ) (ls : List (List ℕ)) → right_of d l ≡ false → answer_of (going x (suc n) (Some (suc n)) ws) ≡ answer_by d n ws (l ∷ ls)
   unfolding answer_of answer_by wrong_by
   by_wrong n x ws l ls e = rw (e, wrong_by, ne_eqb (suc n) 0 (λ z. omega arith))
 
-  fed_wrong : (g : Going) (bs : List ℕ) → (g.wrong ≡ 0 → ⊥) → fed d g bs ≡ g
+  fed_wrong : (g : Going) (bs : List ℕ) → is_some g.wrong ≡ true → fed d g bs ≡ g
   unfolding fed took
   fed_wrong g [] z = refl
-  fed_wrong g (b ∷ bs) z = rw (ne_eqb g.wrong 0 z) (fed_wrong g bs z)
+  fed_wrong g (b ∷ bs) z = rw z (fed_wrong g bs z)
 
-  finished_wrong : (g : Going) → (g.wrong ≡ 0 → ⊥) → finished d g ≡ g
+  finished_wrong : (g : Going) → is_some g.wrong ≡ true → finished d g ≡ g
   unfolding finished
-  finished_wrong g z = rw (ne_eqb g.wrong 0 z)
+  finished_wrong g z = rw z
 
   finished_empty : (n : ℕ) (ws : List ℕ) → finished d (along [] n ws) ≡ along [] n ws
   unfolding finished
@@ -209,14 +209,14 @@ module _ (d : Bool) where
       ∙ by_right n ws l (lines_behind [] bs) q
       ∙ rw (e, lines_behind))
       (λ q. ap (λ (g : Going). answer_of (finished d (fed d g bs))) (ended_wrong k n ws (omega arith) q)
-      ∙ stays bs (going (take 81 k) (suc n) (suc n) ws) (λ z. omega arith)
+      ∙ stays bs (going (take 81 k) (suc n) (Some (suc n)) ws) refl
       ∙ by_wrong n (take 81 k) ws l (lines_behind [] bs) q
       ∙ rw (e, lines_behind)))
       (λ e. ap (λ (g : Going). answer_of (finished d (fed d g bs))) (took_more k n ws b e ∙ ap (λ (x : List ℕ). along x n ws) (sym (bared_more d [] l b)))
       ∙ by_bytes bs (l ++ (b ∷ [])) n ws (omega arith)
       ∙ rw (e, lines_behind))
     where
-      stays : (bs : List ℕ) (g : Going) → (g.wrong ≡ 0 → ⊥) → answer_of (finished d (fed d g bs)) ≡ answer_of g
+      stays : (bs : List ℕ) (g : Going) → is_some g.wrong ≡ true → answer_of (finished d (fed d g bs)) ≡ answer_of g
       stays bs g z = ap answer_of (ap (finished d) (fed_wrong g bs z) ∙ finished_wrong g z)
 
   by_call : (t : List ℕ) → answer_by d 0 no_words (lines_of t) ≡ words_of d t

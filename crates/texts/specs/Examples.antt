@@ -1,14 +1,19 @@
 -- Worked examples: a text read byte by byte, in two pieces. proofs/Checked.antt checks them by a single claim.
-use Rattle.std.specs.Prelude.{ℕ, ◌-◌, ◌^◌, Bool, true, false, not, ◌&&◌, List, [], ◌∷◌, ◌++◌, replicate, ◌==◌}
+use Rattle.std.specs.Prelude.{ℕ, ◌-◌, ◌^◌, Bool, true, false, not, ◌&&◌, List, [], ◌∷◌, ◌++◌, replicate, ◌==◌, Option, Some, None}
 use Rattle.decimal.specs.Texts.{ascii, same}
 use Rattle.texts.specs.Numbers.{bared, right_by, word_by}
 use Rattle.texts.specs.Reading.{going, fed, finished}
 
+-- the number of the wrong line, 0 for none
+abbrev pub wrong_number : Option ℕ → ℕ
+wrong_number (Some n) = n
+wrong_number None = 0
+
 -- the lines, the wrong one, the line at hand and the words, over an output of three words, each 9
 unfoldable pub comes : Bool → List ℕ → List ℕ → ℕ → ℕ → List ℕ → List ℕ → Bool
 comes d a b n w l ws =
-    let g = finished d (fed d (fed d (going [] 0 0 (replicate 3 9)) a) b) in
-    (g.lines == n) && g.wrong == w && same g.line l && same g.words ws
+    let g = finished d (fed d (fed d (going [] 0 None (replicate 3 9)) a) b) in
+    (g.lines == n) && wrong_number g.wrong == w && same g.line l && same g.words ws
 
 unfoldable pub texts : List Bool
 texts =

@@ -5,7 +5,7 @@
 mod numbers;
 mod reading;
 
-ghost use Rattle.std.specs.Prelude.{◌≡◌, ◌+◌, ◌≤◌, min, false, length};
+ghost use Rattle.std.specs.Prelude.{◌≡◌, ◌≤◌, length, IfSome};
 ghost use Rattle.decimal.specs.Raw.{raw};
 ghost use Rattle.decimal.specs.Texts.{text, put};
 ghost use Rattle.texts.specs.Reading.{no_words, held, Fits, Whole, Told};
@@ -20,48 +20,34 @@ const WORDS: usize = 262144;
 
 // ---- the text
 
-// What was read, and whether a read failed.
-#[derive(Clone, Copy)]
-struct Text {
-    at: At,
-    failed: bool,
-}
-
-// Reads the source to its end, and keeps the words of its lines. A read fails also at the 2^64th byte.
-fn read_text(decimals: bool, source: &mut Source, line: &mut [u8], words: &mut [u32]) -> Text
+// Reads the source to its end, and keeps the words of its lines: nothing where a read fails. It fails also at the 2^64th byte.
+fn read_text(decimals: bool, source: &mut Source, line: &mut [u8], words: &mut [u32]) -> Option<At>
     requires fact_1 { length line.old ≡ 81 }
     requires fact_2 { words.old ≡ no_words }
-    ensures whole { result.failed ≡ false → Whole decimals (held result.at line.new words.new) }
-    ensures fits { Fits result.at line.new }
+    ensures whole { IfSome result (λ at. Whole decimals (held at line.new words.new)) }
+    ensures fits { IfSome result (λ at. Fits at line.new) }
 {
     let mut at = At {
         length: 0,
         lines: 0,
-        wrong: 0,
+        wrong: None,
     };
     let mut bytes: u64 = 0;
+    // Not a `for`: it counts the bytes that the reads bring, up to the end that the source tells.
     while bytes < u64::MAX {
         let mut buffer = files::buffer();
         let got = source.read(&mut buffer);
         if got < 0 {
-            return Text { at, failed: true };
+            return None;
         }
         let n = count(got, &buffer);
         if n == 0 {
-            let last = finished(decimals, at, line, words);
-            return Text {
-                at: last,
-                failed: false,
-            };
+            return Some(finished(decimals, at, line, words));
         }
-        let size = n as u64;
-        if size > u64::MAX - bytes {
-            return Text { at, failed: true };
-        }
+        bytes = bytes.checked_add(n as u64)?;
         at = fed(decimals, at, line, words, &buffer[..n]);
-        bytes += size;
     }
-    Text { at, failed: true }
+    None
 }
 
 // ---- what is said and written: the answer for the text that was read
@@ -88,10 +74,8 @@ fn put_words(words: &[u32], out: &mut [u8]) -> usize
     ensures { text out.new result ≡ put (text out.old 0) (raw words.now) }
 {
     let mut end = 0;
-    let mut i = 0;
-    while i < words.len() {
-        end = put_raw(out, end, words[i]);
-        i += 1;
+    for w in words {
+        end = put_raw(out, end, *w);
     }
     end
 }
@@ -111,28 +95,14 @@ fn write_some(rt: &HostRuntime, words: &[u32]) -> bool
     show(rt, words, &out[..n])
 }
 
-// Where the next 1,024 words end.
-fn next(at: usize, count: usize) -> usize
-    requires { at ≤ count }
-    ensures { result ≡ min (at + 1024) count }
-{
-    if count - at < 1024 {
-        return count;
-    }
-    at + 1024
-}
-
 fn write_words(rt: &HostRuntime, decimals: bool, words: &[u32], count: usize)
     requires fact_1 { Told decimals 0 0 count words.now }
     requires fact_2 { count ≤ length words.now }
 {
-    let mut at = 0;
-    while at < count {
-        let to = next(at, count);
-        if !write_some(rt, &words[at..to]) {
+    for some in words[..count].chunks(1024) {
+        if !write_some(rt, some) {
             return;
         }
-        at = to;
     }
 }
 
@@ -141,11 +111,9 @@ fn answer(rt: &HostRuntime, decimals: bool, at: At, line: &[u8], words: &[u32])
     requires fact_2 { Fits at line.now }
     requires fact_3 { length words.now ≡ 262144 }
 {
-    let wrong = at.wrong;
-    if wrong != 0 {
-        let n = at.length;
+    if let Some(wrong) = at.wrong {
         refuse(rt, decimals, 18, wrong);
-        say_line(rt, &line[..n]);
+        say_line(rt, &line[..at.length]);
         return;
     }
     if at.lines > 262144 {
@@ -161,11 +129,8 @@ fn answer(rt: &HostRuntime, decimals: bool, at: At, line: &[u8], words: &[u32])
 pub fn turn(rt: &HostRuntime, decimals: bool, source: &mut Source, name: &[u8]) {
     let mut line = [0u8; 81];
     let mut words = [0u32; WORDS];
-    let x = read_text(decimals, source, &mut line, &mut words);
-    if x.failed {
-        fail(rt, name, source.why());
-        return;
+    match read_text(decimals, source, &mut line, &mut words) {
+        Some(at) => answer(rt, decimals, at, &line, &words),
+        None => fail(rt, name, source.why()),
     }
-    let at = x.at;
-    answer(rt, decimals, at, &line, &words);
 }

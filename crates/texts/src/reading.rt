@@ -5,12 +5,12 @@ ghost use Rattle.texts.specs.Reading.{held, Fits, longer, ended, took, fed, fini
 
 use crate::numbers::{idle, right_by, word_by};
 
-// How much of a line is kept, how many lines have ended, and the number of the wrong one, 0 for none yet.
+// How much of a line is kept, how many lines have ended, and the number of the wrong one, if one is.
 #[derive(Clone, Copy)]
 pub struct At {
     pub length: usize,
     pub lines: u64,
-    pub wrong: u64,
+    pub wrong: Option<u64>,
 }
 
 // A word at its place; none where the output ends before it.
@@ -18,10 +18,9 @@ fn put_word(words: &mut [u32], i: u64, w: u32)
     ensures { words.new ≡ slice_set words.old i w }
 {
     let place = i as usize;
-    if words.len() <= place {
-        return;
+    if place < words.len() {
+        words[place] = w;
     }
-    words[place] = w;
 }
 
 // One byte of a line more.
@@ -37,8 +36,7 @@ fn longer(a: At, line: &mut [u8], b: u8) -> At
     line[place] = b;
     At {
         length: place + 1,
-        lines: a.lines,
-        wrong: a.wrong,
+        ..a
     }
 }
 
@@ -49,12 +47,12 @@ fn ended(decimals: bool, a: At, line: &[u8], words: &mut [u32]) -> At
     ensures fits { Fits result line.now }
 {
     let n = a.length;
-    let number = std::num::wrapping_add_u64(a.lines, 1);
+    let number = a.lines.wrapping_add(1);
     if !right_by(decimals, &line[..n]) {
         return At {
             length: n,
             lines: number,
-            wrong: number,
+            wrong: Some(number),
         };
     }
     let w = word_by(decimals, &line[..n]);
@@ -62,7 +60,7 @@ fn ended(decimals: bool, a: At, line: &[u8], words: &mut [u32]) -> At
     At {
         length: 0,
         lines: number,
-        wrong: 0,
+        wrong: None,
     }
 }
 
@@ -80,7 +78,7 @@ fn took(decimals: bool, a: At, line: &mut [u8], words: &mut [u32], b: u8) -> At
     ensures words_after { held result line.new words.new ≡ took decimals (held a line.old words.old) b }
     ensures fits { Fits result line.new }
 {
-    if a.wrong != 0 {
+    if a.wrong.is_some() {
         return a;
     }
     if b == 10 {
@@ -99,10 +97,8 @@ pub fn fed(decimals: bool, a: At, line: &mut [u8], words: &mut [u32], piece: &[u
     ensures fits { Fits result line.new }
 {
     let mut x = a;
-    let mut i = 0;
-    while i < piece.len() {
-        x = took(decimals, x, line, words, piece[i]);
-        i += 1;
+    for b in piece {
+        x = took(decimals, x, line, words, *b);
     }
     x
 }
@@ -113,7 +109,7 @@ pub fn finished(decimals: bool, a: At, line: &[u8], words: &mut [u32]) -> At
     ensures words_after { held result line.now words.new ≡ finished decimals (held a line.now words.old) }
     ensures fits { Fits result line.now }
 {
-    if a.wrong != 0 {
+    if a.wrong.is_some() {
         return a;
     }
     if a.length == 0 {

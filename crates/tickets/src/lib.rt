@@ -12,13 +12,8 @@ fn shift(places: &mut [u32])
     requires { length places.old ≡ 32 }
     ensures { places.new ≡ drop 1 places.old ++ (0 ∷ []) }
 {
-    let mut k: usize = 0;
-    while k < 31 {
-        let v = places[k + 1];
-        places[k] = v;
-        k += 1;
-    }
-    places[31] = 0;
+    places[0] = 0;
+    places.rotate_left(1);
 }
 
 // v sent to one of so many partitions.

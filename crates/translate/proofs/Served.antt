@@ -1,4 +1,6 @@
 -- What the code of a look and of a store cites.
+use Prim.{tt}
+use Rattle.std.specs.Prelude.{Ok}
 use mathlib.Core.Path.{◌≡◌, sym, ap, subst, ◌∙◌}
 use mathlib.Core.Bool.{Bool, true, false}
 use mathlib.Core.List.{List}
@@ -29,7 +31,7 @@ update_mid a k j xs f l h =
     set_mid_at a k j xs _ h ∙ ap (λ (y : ℕ). set xs (a + j) (f y)) (get_or-take k (drop a xs) j 0 l ∙ get_or-drop a xs j 0)
 
 -- a store that is made
-pub written_is : (fr : List ℕ) (n : ℕ) (t : Table) (ws ws' sh sh' : List ℕ) (e a : ℕ) (f : ℕ → ℕ) → valid e ≡ true → eqb (protection e) 1 ≡ false → ws' ≡ updated ws (word_in (number e) a) f → sh' ≡ emptied fr n t (number e) (a / 4 % 1024) sh → (0, host t ws' sh') ≡ host_written fr n (host t ws sh) a f e
+pub written_is : (fr : List ℕ) (n : ℕ) (t : Table) (ws ws' sh sh' : List ℕ) (e a : ℕ) (f : ℕ → ℕ) → valid e ≡ true → eqb (protection e) 1 ≡ false → ws' ≡ updated ws (word_in (number e) a) f → sh' ≡ emptied fr n t (number e) (a / 4 % 1024) sh → (Ok tt, host t ws' sh') ≡ host_written fr n (host t ws sh) a f e
 unfolding host_written
 written_is fr n t ws ws' sh sh' e a f h p w s = simp (h, p, w, s)
 

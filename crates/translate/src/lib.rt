@@ -4,36 +4,35 @@
 ghost use Rattle.std.specs.Prelude.{◌≡◌, ◌+◌, ◌*◌, ◌/◌, ◌%◌, ◌<◌, length, true};
 ghost use Rattle.dlx.specs.Fields.{aligned, storing, width, placed};
 ghost use Rattle.dlx.specs.declared.partition.Table.{Table};
-ghost use Rattle.addresses.specs.Entries.{composition_of};
+ghost use Rattle.addresses.specs.Entries.{composed_page};
 ghost use Rattle.addresses.specs.Walk.{entries, direct};
 ghost use Rattle.addresses.specs.Memory.{updated, host, hosted, given, looked, served, host_reads, host_writes, emptied, fresh_shadow};
 ghost use Rattle.addresses.specs.Premises.{Listed, Placed, Shadowed};
 
 use addresses::ENTRIES;
-use dlx::execute::Access;
 use dlx::partition::Table;
 use dlx::words::wide;
 
 // Virtual pages are below it.
 const LIMIT: u32 = ENTRIES as u32;
 
-// Entry composition: 0 is load, all else store. Answers the guest page, or 4,294,967,295 for a fault.
-pub fn compose(entry: u32, pages: u32, access: u32) -> u32
-    ensures { result ≡ composition_of entry pages access }
+// Entry composition: 0 is load, all else store. Answers the guest page, or none for a fault.
+pub fn compose(entry: u32, pages: u32, access: u32) -> Option<u32>
+    ensures { result ≡ composed_page entry pages access }
 {
     if entry / 2048 % 2 != 1 {
-        return 4294967295;
+        return None;
     }
     if entry / 4096 >= pages {
-        return 4294967295;
+        return None;
     }
     if access == 0 {
-        return entry / 4096;
+        return Some(entry / 4096);
     }
     if entry / 1024 % 2 == 1 {
-        return 4294967295;
+        return None;
     }
-    entry / 4096
+    Some(entry / 4096)
 }
 
 // The shadow entry that the guest's table and the host's list give now for page px, or the fault's number.
@@ -117,7 +116,7 @@ fn serve(
     straight(frames, pages, a)
 }
 
-// The word at address a, or the fault's number.
+// The word at address a, or the translation fault's number.
 pub fn load(
     words: &[u32],
     frames: &[u32],
@@ -126,16 +125,16 @@ pub fn load(
     t: Table,
     user: bool,
     a: u32,
-) -> Access
+) -> Result<u32, u32>
     requires fact_1 { Placed frames.now pages (length words.now) }
     requires fact_2 { Shadowed frames.now pages shadow.old }
     ensures { (result, host t words.now shadow.new) ≡ host_reads frames.now pages (host t words.now shadow.old) user a }
 {
     let e = serve(words, frames, shadow, pages, t, user, a);
     if e / 2048 % 2 == 1 {
-        return Access::Word(words[wide(e / 4096) * 1024 + wide(a / 4 % 1024)]);
+        return Ok(words[wide(e / 4096) * 1024 + wide(a / 4 % 1024)]);
     }
-    Access::Fault(e)
+    Err(e)
 }
 
 // The word x after a store of v by an opcode at address a. The opcode's bit 1 tells a word, bit 0 a half word.
@@ -184,7 +183,7 @@ fn empty_entry(frames: &[u32], shadow: &mut [u32], pages: u32, t: Table, frame: 
     shadow[wide(off)] = 0;
 }
 
-// The word at address a after a store of v by an opcode. Answers 0 where the store was made, else the fault's number.
+// The word at address a after a store of v by an opcode, or the translation fault's number.
 pub fn store(
     words: &mut [u32],
     frames: &[u32],
@@ -195,7 +194,7 @@ pub fn store(
     o: u32,
     a: u32,
     v: u32,
-) -> u32
+) -> Result<(), u32>
     requires fact_1 { Placed frames.now pages (length words.old) }
     requires fact_2 { Shadowed frames.now pages shadow.old }
     requires fact_3 { storing o ≡ true }
@@ -204,17 +203,17 @@ pub fn store(
 {
     let e = serve(words, frames, shadow, pages, t, user, a);
     if e / 2048 % 2 != 1 {
-        return e;
+        return Err(e);
     }
     if e / 1024 % 2 == 1 {
-        return 6;
+        return Err(6);
     }
     let off = a / 4 % 1024;
     let base = wide(e / 4096) * 1024;
     let end = base + 1024;
     put(&mut words[base..end], wide(off), o, a, v);
     empty_entry(frames, shadow, pages, t, e / 4096, off);
-    0
+    Ok(())
 }
 
 // A fresh shadow table.
@@ -229,11 +228,7 @@ pub fn copy(to: &mut [u32], from: &[u32])
     requires { length to.old ≡ length from.now }
     ensures { to.new ≡ from.now }
 {
-    let mut i = 0;
-    while i < from.len() {
-        to[i] = from[i];
-        i += 1;
-    }
+    to.copy_from_slice(from);
 }
 
 // All entries become empty.
@@ -241,6 +236,5 @@ pub fn clear(shadow: &mut [u32])
     requires { length shadow.old ≡ entries }
     ensures { shadow.new ≡ fresh_shadow }
 {
-    let fresh = fresh_shadow();
-    copy(shadow, &fresh);
+    shadow.fill(0);
 }

@@ -9,7 +9,7 @@ use Rattle.dlx.specs.declared.partition.Partition.{Partition}
 use Rattle.dlx.specs.declared.partition.Processor.{Processor}
 use Rattle.dlx.specs.declared.partition.Table.{Table}
 use Rattle.addresses.specs.Memory.{Host, host, host_memory, fresh_shadow}
-use Rattle.addresses.specs.Examples.{words_from, answer, numbers}
+use Rattle.addresses.specs.Examples.{words_from, answer, numbers, told}
 use Rattle.house.specs.House.{no_house, layout, guests, turn, with_layout, with_turn, with_guests, partition, registers_of}
 use Rattle.house.specs.Turns.{World, world, host_step}
 use Rattle.unshadowed.specs.Memory.{Unshadowed, unshadowed, unshadowed_memory}
@@ -53,7 +53,7 @@ gives s user a w =
 unfoldable pub refuses : Unshadowed → Bool → ℕ → ℕ → Bool
 refuses s user a n =
     let g = (unshadowed_memory frames 3).write s user a (λ w. w + 7) in
-    (g.0 == n) && same_memory g.1 s
+    (told g.0 == n) && same_memory g.1 s
 
 unfoldable pub faults : Unshadowed → Bool → ℕ → ℕ → Bool
 faults s user a n =
@@ -64,7 +64,7 @@ faults s user a n =
 unfoldable pub writes : Unshadowed → Bool → ℕ → ℕ → ℕ → Bool
 writes s user a v i =
     let g = (unshadowed_memory frames 3).write s user a (λ _. v) in
-    (g.0 == 0) && same_memory g.1 (unshadowed s.table (slice_set s.words i v))
+    (told g.0 == 0) && same_memory g.1 (unshadowed s.table (slice_set s.words i v))
 
 -- ---- single accesses
 

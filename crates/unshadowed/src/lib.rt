@@ -10,7 +10,7 @@ ghost use Rattle.addresses.specs.Premises.{Placed};
 ghost use Rattle.unshadowed.specs.Memory.{unshadowed, sought, sought_read, sought_written, unshadowed_memory};
 ghost use Rattle.unshadowed.specs.Answers.{step_of, stretch_of};
 
-use dlx::execute::{Access, Change, Effect};
+use dlx::execute::{Change, Effect};
 use dlx::partition::{Partition, Processor, Table, Timer};
 use dlx::words::wide;
 
@@ -45,18 +45,18 @@ fn seek(words: &[u32], frames: &[u32], pages: u32, t: Table, user: bool, a: u32)
 }
 
 // The word at address a, or the fault's number.
-fn load(words: &[u32], frames: &[u32], pages: u32, t: Table, user: bool, a: u32) -> Access
+fn load(words: &[u32], frames: &[u32], pages: u32, t: Table, user: bool, a: u32) -> Result<u32, u32>
     requires { Placed frames.now pages (length words.now) }
     ensures { result ≡ sought_read (unshadowed t words.now) a (sought frames.now pages (unshadowed t words.now) user a) }
 {
     let e = seek(words, frames, pages, t, user, a);
     if e / 2048 % 2 == 1 {
-        return Access::Word(words[wide(e / 4096) * 1024 + wide(a / 4 % 1024)]);
+        return Ok(words[wide(e / 4096) * 1024 + wide(a / 4 % 1024)]);
     }
-    Access::Fault(e)
+    Err(e)
 }
 
-// The word at address a after a store of v by an opcode. Answers 0 where the store was made, else the fault's number.
+// The word at address a after a store of v by an opcode, or the translation fault's number.
 fn store(
     words: &mut [u32],
     frames: &[u32],
@@ -66,7 +66,7 @@ fn store(
     o: u32,
     a: u32,
     v: u32,
-) -> u32
+) -> Result<(), u32>
     requires fact_1 { Placed frames.now pages (length words.old) }
     requires fact_2 { storing o ≡ true }
     requires fact_3 { aligned (width o) a ≡ true }
@@ -74,16 +74,16 @@ fn store(
 {
     let e = seek(words, frames, pages, t, user, a);
     if e / 2048 % 2 != 1 {
-        return e;
+        return Err(e);
     }
     if e / 1024 % 2 == 1 {
-        return 6;
+        return Err(6);
     }
     let off = a / 4 % 1024;
     let base = wide(e / 4096) * 1024;
     let end = base + 1024;
     translate::put(&mut words[base..end], wide(off), o, a, v);
-    0
+    Ok(())
 }
 
 // The fetch at DPC, and what its word asks for. A fault is the latest then.
@@ -106,11 +106,11 @@ fn fetch(
         return Effect::Done(Change::Cause(Partition::MAL, 0));
     }
     match load(words, frames, pages, t, p.mode == 1, dpc) {
-        Access::Fault(n) => {
+        Err(n) => {
             *latest = n;
             Effect::Done(Change::Cause(Partition::PFF, dpc))
         }
-        Access::Word(w) => processor::execute::execute(
+        Ok(w) => processor::execute::execute(
             p,
             t,
             k,
@@ -145,19 +145,20 @@ fn access(
     match e {
         Effect::Done(c) => c,
         Effect::Load(rd, a, o) => match load(words, frames, pages, t, p.mode == 1, a) {
-            Access::Fault(n) => {
+            Err(n) => {
                 *latest = n;
                 Change::Cause(Partition::PFLS, a)
             }
-            Access::Word(w) => Change::Plain(rd, processor::fields::bring(o, a, w), next),
+            Ok(w) => Change::Plain(rd, processor::fields::bring(o, a, w), next),
         },
         Effect::Store(o, a, v) => {
-            let n = store(words, frames, pages, t, p.mode == 1, o, a, v);
-            if n == 0 {
-                return Change::Plain(0, 0, next);
+            match store(words, frames, pages, t, p.mode == 1, o, a, v) {
+                Err(n) => {
+                    *latest = n;
+                    Change::Cause(Partition::PFLS, a)
+                }
+                Ok(()) => Change::Plain(0, 0, next),
             }
-            *latest = n;
-            Change::Cause(Partition::PFLS, a)
         }
         Effect::Send(v, to) => {
             let reply = tickets::send(count, tickets, waiting, v, to);
@@ -244,22 +245,19 @@ pub fn stretch(
     let mut processor = p;
     let mut table = t;
     let mut timer = k;
-    let mut rest = n;
-    while rest > 0 {
+    for made in 0..n {
         let s = step(
             processor, table, timer, pages, regs, frames, words, count, i, tickets, waiting, latest,
         );
         processor = s.processor;
         table = s.table;
         timer = s.timer;
-        rest -= 1;
         if s.calls {
-            let made = n - rest;
             return Stretched {
                 processor,
                 table,
                 timer,
-                made,
+                made: made + 1,
                 called: true,
             };
         }

@@ -39,6 +39,7 @@ fn steps(mut h: House, memory: &mut [u32], k: u32) -> House
     let mut current = h.current;
     let mut left = h.left;
     let mut made: u32 = 0;
+    // Not a `for`: a stretch makes several steps at once.
     while made < k {
         let i = wide(current);
         let mut p = parts[i];

@@ -1,6 +1,5 @@
--- What is good so far, and counts.
-use mathlib.Core.Path.{◌≡◌, refl, sym, ap, ◌∙◌}
-use mathlib.Core.Bool.{Bool, true, false, not}
+-- What was put, and counts.
+use mathlib.Core.Path.{◌≡◌, sym, ap, ◌∙◌}
 use mathlib.Core.List.{List, ◌++◌}
 use Prim.Native.Nat.{ℕ, ◌+◌, ◌≤◌}
 use native.Mathlib.Omega.{arith}
@@ -9,14 +8,6 @@ use lib.Seq.{length-take-le, take_at}
 use Rattle.decimal.specs.Texts.{Puts}
 use Rattle.decimal.proofs.Texts.{whole}
 use Rattle.files.specs.Counts.{IsPrefixLen}
-
--- what is spoiled is not good
-pub not_good : {A : Type 0} (g : Bool) → g ≡ false → g ≡ true → A
-not_good g e f = absurd (let z : ◌≡◌ {A = Bool} true false = sym f ∙ e in let y : ◌≡◌ {A = ℕ} 0 1 = cc in omega arith)
-
-pub was_good : (g : Bool) → not g ≡ false → g ≡ true
-was_good true e = refl
-was_good false e = sym e
 
 pub counts_at : (n : ℕ) (l : List ℕ) → n ≤ length l → IsPrefixLen n l
 counts_at n l h = (h, sym (length-take-le n l h))

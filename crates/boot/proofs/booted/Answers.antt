@@ -3,4 +3,4 @@ use Rattle.boot.proofs.booted.Goals as goal
 
 pub returns : goal.returns
 unfolding booted_house
-returns c = simp (c.all_running-running.ensures, c.fresh_parts-parts.ensures, c.lay-places.ensures, c.none-r.ensures)
+returns c = simp (c.all_running.ensures, c.fresh_parts.ensures, c.lay.ensures, c.none.ensures)

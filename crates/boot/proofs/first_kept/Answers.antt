@@ -1,23 +1,14 @@
-use mathlib.Core.Path.{refl, sym}
-use Prim.Native.Nat.{zero-le}
-use native.Mathlib.Nat.{le_antisymm}
-use native.Mathlib.Omega.{arith}
-use borrow.Author.Tests.{eq-eqb, ne_eqb}
-use Rattle.house.specs.Lists.{any}
-use Rattle.house.specs.Boot.{frame_kept}
-use Rattle.house.proofs.Lists.Bounded.{any_more}
-use Rattle.house.proofs.Lists.ByRule.{first_is, first_none}
+use mathlib.Core.Path.{◌∙◌, ap}
+use lib.Dec.{eqb}
+use lib.ListN.{length}
+use Rattle.std.proofs.Common.{rules, tests}
+use Rattle.std.proofs.lemmas.Iterator.{YieldsList-from_slice}
+use Rattle.std.proofs.lemmas.Iterator.Search.{position_from_yields_List}
+use Rattle.std.specs.Option.{unwrap_or}
+use Rattle.boot.proofs.Places.{first_position}
 use Rattle.boot.proofs.first_kept.Goals as goal
 
-pub loop-i-init : goal.loop-i-init
-unfolding any
-loop-i-init c = (refl, zero-le)
-
-pub returns-then-frames-i-eq0 : goal.returns-then-frames-i-eq0
-returns-then-frames-i-eq0 c = sym (first_is (frame_kept c.args.frames.now) _ c.loop-i.i c.loop-i.invariant.0 c.loop-i-test.true (eq-eqb _ _ c.if-frames-i-eq0.true))
-
-pub loop-i-preserved : goal.loop-i-preserved
-loop-i-preserved c = (any_more (frame_kept c.args.frames.now) c.loop-i.i c.loop-i.invariant.0 (ne_eqb _ _ c.if-frames-i-eq0.false), omega arith)
-
 pub returns : goal.returns
-returns c = rw (le_antisymm c.loop-i-test.false c.loop-i.invariant.1) (sym (first_none (frame_kept c.args.frames.now) c.loop-i.i c.loop-i.invariant.0))
+returns c =
+    let at = position_from_yields_List (λ f. eqb f 0) _ _ _ c.position.ensures.ran (YieldsList-from_slice c.args.frames.now cc) (λ x b q k. search (rules, tests)) in
+    c.unwrap_or.ensures ∙ ap (λ r. unwrap_or r (length c.args.frames.now)) at ∙ first_position (λ f. eqb f 0) c.args.frames.now

@@ -1,23 +1,15 @@
-use mathlib.Core.Path.{refl, sym}
-use Prim.Native.Nat.{zero-le}
-use native.Mathlib.Nat.{le_antisymm}
-use native.Mathlib.Omega.{arith}
-use borrow.Author.Tests.{le-leb, lt-leb}
-use Rattle.house.specs.Lists.{any}
-use Rattle.house.specs.Boot.{frame_outside}
-use Rattle.house.proofs.Lists.Bounded.{any_more}
-use Rattle.house.proofs.Lists.ByRule.{first_is, first_none}
+use mathlib.Core.Path.{◌∙◌, ap}
+use Prim.Native.Nat.{◌/◌}
+use lib.Dec.{leb}
+use lib.ListN.{length}
+use Rattle.std.proofs.Common.{rules, tests}
+use Rattle.std.proofs.lemmas.Iterator.{YieldsList-from_slice}
+use Rattle.std.proofs.lemmas.Iterator.Search.{position_from_yields_List}
+use Rattle.std.specs.Option.{unwrap_or}
+use Rattle.boot.proofs.Places.{first_position}
 use Rattle.boot.proofs.first_outside.Goals as goal
 
-pub loop-i-init : goal.loop-i-init
-unfolding any
-loop-i-init c = (refl, zero-le)
-
-pub returns-then-count-wide : goal.returns-then-count-wide
-returns-then-count-wide c = sym (first_is (frame_outside c.args.frames.now c.args.words) _ c.loop-i.i c.loop-i.invariant.0 c.loop-i-test.true (le-leb _ _ (simp c.wide.ensures at c.if-count-wide.true)))
-
-pub loop-i-preserved : goal.loop-i-preserved
-loop-i-preserved c = (any_more (frame_outside c.args.frames.now c.args.words) c.loop-i.i c.loop-i.invariant.0 (lt-leb _ _ (simp c.wide.ensures at c.if-count-wide.false)), omega arith)
-
 pub returns : goal.returns
-returns c = rw (le_antisymm c.loop-i-test.false c.loop-i.invariant.1) (sym (first_none (frame_outside c.args.frames.now c.args.words) c.loop-i.i c.loop-i.invariant.0))
+returns c =
+    let at = position_from_yields_List (λ f. leb (c.args.words / 1024) f) _ _ _ c.position.ensures.ran (YieldsList-from_slice c.args.frames.now cc) (λ x b q k. search (rules, tests)) in
+    c.unwrap_or.ensures ∙ ap (λ r. unwrap_or r (length c.args.frames.now)) at ∙ first_position (λ f. leb (c.args.words / 1024) f) c.args.frames.now

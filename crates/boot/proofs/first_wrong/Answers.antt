@@ -1,22 +1,15 @@
-use mathlib.Core.Path.{refl, sym, ◌∙◌}
-use Prim.Native.Nat.{zero-le}
-use native.Mathlib.Nat.{le_antisymm}
-use native.Mathlib.Omega.{arith}
-use Rattle.house.specs.Lists.{any}
-use Rattle.house.specs.Boot.{pages_wrong}
-use Rattle.house.proofs.Lists.Bounded.{any_more}
-use Rattle.house.proofs.Lists.ByRule.{first_is, first_none}
+use mathlib.Core.Path.{◌∙◌, ap}
+use mathlib.Core.Bool.{not}
+use lib.ListN.{length}
+use Rattle.std.proofs.Common.{rules, tests}
+use Rattle.std.proofs.lemmas.Iterator.{YieldsList-from_slice}
+use Rattle.std.proofs.lemmas.Iterator.Search.{position_from_yields_List}
+use Rattle.std.specs.Option.{unwrap_or}
+use Rattle.house.specs.Lists.{between}
+use Rattle.boot.proofs.Places.{first_position}
 use Rattle.boot.proofs.first_wrong.Goals as goal
 
-pub loop-i-init : goal.loop-i-init
-unfolding any
-loop-i-init c = (refl, zero-le)
-
-pub returns-then-wrong : goal.returns-then-wrong
-returns-then-wrong c = sym (first_is (pages_wrong c.args.pages.now) _ c.loop-i.i c.loop-i.invariant.0 c.loop-i-test.true (sym c.wrong.ensures ∙ c.if-wrong.true))
-
-pub loop-i-preserved : goal.loop-i-preserved
-loop-i-preserved c = (any_more (pages_wrong c.args.pages.now) c.loop-i.i c.loop-i.invariant.0 (sym c.wrong.ensures ∙ c.if-wrong.false), omega arith)
-
 pub returns : goal.returns
-returns c = rw (le_antisymm c.loop-i-test.false c.loop-i.invariant.1) (sym (first_none (pages_wrong c.args.pages.now) c.loop-i.i c.loop-i.invariant.0))
+returns c =
+    let at = position_from_yields_List (λ f. not (between 1 f 256)) _ _ _ c.position.ensures.ran (YieldsList-from_slice c.args.pages.now cc) (λ x b q k. search (rules, tests)) in
+    c.unwrap_or.ensures ∙ ap (λ r. unwrap_or r (length c.args.pages.now)) at ∙ first_position (λ f. not (between 1 f 256)) c.args.pages.now

@@ -6,8 +6,8 @@ use Rattle.command.proofs.asks_help.Goals as goal
 
 pub returns-then-is : goal.returns-then-is
 unfolding asks_help ascii
-returns-then-is c = either_yes _ (sym c.is.ensures ∙ c.if-is.true)
+returns-then-is c = c.if-is.true ∙ either_yes _ (sym c.is.ensures ∙ c.if-is.true)
 
-pub returns : goal.returns
+pub returns-else-is : goal.returns-else-is
 unfolding asks_help ascii
-returns c = either_no (sym c.is.ensures ∙ c.if-is.false) c.is-2.ensures
+returns-else-is c = either_no (sym c.is.ensures ∙ c.if-is.false) c.is-else-is.ensures

@@ -1,9 +1,10 @@
 use mathlib.Core.Path.{◌∙◌, sym}
+use borrow.Author.Tests.{le-ltb}
 use Rattle.damage.proofs.Marks.{behind_none, behind_gathered}
 use Rattle.damage.proofs.behind_used.Goals as goal
 
-pub returns-then-size-n : goal.returns-then-size-n
-returns-then-size-n c = let a = c.args in sym (behind_none a.l.now a.n c.if-size-n.true)
+pub returns-then-n-l : goal.returns-then-n-l
+returns-then-n-l c = c.not_zero.ensures ∙ behind_gathered c.args.l.now c.args.n c.if-n-l.true
 
-pub returns : goal.returns
-returns c = let a = c.args in c.not_zero.ensures ∙ behind_gathered a.l.now a.n c.if-size-n.false
+pub returns-else-n-l : goal.returns-else-n-l
+returns-else-n-l c = le-ltb _ _ c.if-n-l.false ∙ sym (behind_none c.args.l.now c.args.n c.if-n-l.false)

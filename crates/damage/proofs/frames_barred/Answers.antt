@@ -1,59 +1,36 @@
-use native.Mathlib.Omega.{arith}
-use native.Mathlib.Nat.{le_antisymm, add-sub_cancel_left}
 use mathlib.Core.Path.{refl, ◌∙◌, sym}
-use Prim.Native.Nat.{zero-le}
-use Rattle.dlx.specs.Parts.{inner}
+use Prim.Native.Nat.{◌<◌, ◌/◌}
+use native.Mathlib.Omega.{arith}
+use lib.ListN.{length}
+use Rattle.std.proofs.lemmas.List.{length-take-le}
 use Rattle.house.specs.Lists.{any}
 use Rattle.house.proofs.Lists.Bounded.{any_more, any_yes}
 use Rattle.damage.specs.Marks.{frames_barred}
+use Rattle.damage.proofs.Marks.{part_length, pages_here, pages_within, barred_here}
 use Rattle.damage.proofs.frames_barred.Goals as goal
 
 pub loop-i-init : goal.loop-i-init
 unfolding any
-loop-i-init c = (refl, zero-le)
-
-pub pages_at-requires : goal.pages_at-requires
-pages_at-requires c = omega arith
-
-pub wide-pages-requires : goal.wide-pages-requires
-wide-pages-requires c = omega arith
-
-pub overflow_mul-a : goal.overflow_mul-a
-overflow_mul-a c = omega arith
-
-pub overflow_add-e : goal.overflow_add-e
-overflow_add-e c = omega arith
-
-pub offset_bounds-frames-a : goal.offset_bounds-frames-a
-offset_bounds-frames-a c = omega arith
-
-pub slice_bounds-frame_barred-count : goal.slice_bounds-frame_barred-count
-slice_bounds-frame_barred-count c = omega arith
-
-pub slice_bounds-frame_barred-start : goal.slice_bounds-frame_barred-start
-slice_bounds-frame_barred-start c = omega arith
-
-pub slice_bounds-frame_barred-end : goal.slice_bounds-frame_barred-end
-slice_bounds-frame_barred-end c = omega arith
+loop-i-init c = refl
 
 pub frame_barred-requires : goal.frame_barred-requires
-frame_barred-requires c = omega (arith, c.wide-pages.ensures, c.pages_at.ensures, c.requires.2 c.loop-i.i c.loop-i-test.true)
+frame_barred-requires c =
+    let h = c.args.h.now in
+    let i = c.loop-i.i in
+    let l : i < c.wide.result = omega (arith, length-take-le c.wide.result h.parts) in
+    let pages = pages_here h.parts c.wide.result i l c.wide-in-loop-i.result c.wide-in-loop-i.ensures in
+    omega (arith, pages, pages_within h.parts h.count c.requires.1 i (omega (arith, c.wide.ensures)), part_length h.frames i (omega arith))
 
 pub returns-then-frame_barred : goal.returns-then-frame_barred
-unfolding inner
-returns-then-frame_barred c = let a = c.args in let l = c.loop-i in
-    sym (any_yes (frames_barred a.parts a.frames.now a.size) a.n l.i c.loop-i-test.true (simp (add-sub_cancel_left, c.wide-pages.ensures ∙ c.pages_at.ensures) at (sym c.frame_barred.ensures ∙ c.if-frame_barred.true)))
-
-pub overflow_add-i : goal.overflow_add-i
-overflow_add-i c = omega arith
-
-pub loop-i-smaller : goal.loop-i-smaller
-loop-i-smaller c = omega arith
+returns-then-frame_barred c =
+    let h = c.args.h.now in
+    let l : c.loop-i.i < c.wide.result = omega (arith, length-take-le c.wide.result h.parts) in
+    let here = barred_here h.parts c.wide.result c.loop-i.i l h.frames (h.words / 1024) _ _ c.wide-in-loop-i.ensures c.frame_barred.ensures in
+    sym (any_yes (frames_barred h.parts h.frames (h.words / 1024)) h.count c.loop-i.i (omega (arith, c.wide.ensures)) (sym here ∙ c.if-frame_barred.true))
 
 pub loop-i-preserved : goal.loop-i-preserved
-unfolding inner
-loop-i-preserved c = let a = c.args in let l = c.loop-i in
-    (any_more (frames_barred a.parts a.frames.now a.size) l.i l.invariant.0 (simp (add-sub_cancel_left, c.wide-pages.ensures ∙ c.pages_at.ensures) at (sym c.frame_barred.ensures ∙ c.if-frame_barred.false)), omega arith)
-
-pub returns : goal.returns
-returns c = sym (rw (le_antisymm c.loop-i-test.false c.loop-i.invariant.1) c.loop-i.invariant.0)
+loop-i-preserved c =
+    let h = c.args.h.now in
+    let l : c.loop-i.i < c.wide.result = omega (arith, length-take-le c.wide.result h.parts) in
+    let here = barred_here h.parts c.wide.result c.loop-i.i l h.frames (h.words / 1024) _ _ c.wide-in-loop-i.ensures c.frame_barred.ensures in
+    any_more (frames_barred h.parts h.frames (h.words / 1024)) c.loop-i.i c.loop-i.invariant (sym here ∙ c.if-frame_barred.false)

@@ -1,12 +1,9 @@
 use mathlib.Core.Bool.{false}
 use mathlib.Core.Path.{◌≡◌}
-use Prim.Native.Nat.{◌≤◌, ◌-◌}
+use Prim.Native.Nat.{◌/◌}
 use Rattle.house.specs.Lists.{any}
 use Rattle.damage.specs.Marks.{frames_barred}
 use Rattle.damage.proofs.frames_barred.Given as goal
 
 abbrev pub invariant-loop-i : goal.invariant-loop-i
-invariant-loop-i l = (any (frames_barred l.parts l.frames l.size) l.i ≡ false) × (l.i ≤ l.n)
-
-abbrev pub decreases-loop-i : goal.decreases-loop-i
-decreases-loop-i l = l.n - l.i
+invariant-loop-i l = any (frames_barred l.h.parts l.h.frames (l.h.words / 1024)) l.i ≡ false

@@ -1,74 +1,49 @@
-use Rattle.damage.proofs.Marks.{part_is, mark_part, owners_length}
-use native.Mathlib.Omega.{arith}
-use native.Mathlib.Nat.{le_antisymm, add-sub_cancel_left}
-use lib.ListN.{length}
+use mathlib.Core.Path.{◌≡◌, refl, ap, ◌∙◌, sym}
+use Prim.Native.Nat.{◌*◌, ◌<◌, ◌+◌, ◌≤◌}
 use mathlib.Core.Bool.{true}
-use mathlib.Core.Path.{refl, ◌∙◌, ap, sym}
-use Prim.Native.Nat.{zero-le}
-use Rattle.dlx.specs.Parts.{inner}
+use native.Mathlib.Omega.{arith}
+use lib.ListN.{length, length-replicate}
+use Rattle.std.proofs.lemmas.List.{length-take-le}
 use Rattle.house.specs.Lists.{any}
-use Rattle.house.proofs.Lists.Bounded.{any_more, any_yes}
-use Rattle.damage.specs.Marks.{owners_of, twice_in}
-use Rattle.house.proofs.Lists.Bounded.{one_way}
-use Rattle.damage.proofs.Marks.{owners_length}
+use Rattle.house.proofs.Lists.Bounded.{one_way, any_more, any_yes}
+use Rattle.dlx.proofs.Parts.{inner_length}
+use Rattle.damage.specs.Marks.{part_at, owners_of, twice_in}
+use Rattle.damage.proofs.Marks.{part_is, part_length, mark_part, owners_length, pages_here}
 use Rattle.damage.proofs.mark_all.Goals as goal
 
 pub loop-i-init : goal.loop-i-init
 unfolding any owners_of
-loop-i-init c = (refl, c.requires.3, refl, zero-le)
+loop-i-init c = (refl, c.requires.1)
 
-pub pages_at-requires : goal.pages_at-requires
-pages_at-requires c = omega arith
-
-pub overflow_mul-a : goal.overflow_mul-a
-overflow_mul-a c = omega arith
-
-pub overflow_add-e : goal.overflow_add-e
-overflow_add-e c = omega arith
-
-pub offset_bounds-frames-a : goal.offset_bounds-frames-a
-offset_bounds-frames-a c = omega arith
-
-pub slice_bounds-mark-count : goal.slice_bounds-mark-count
-slice_bounds-mark-count c = omega arith
-
-pub slice_bounds-mark-start : goal.slice_bounds-mark-start
-slice_bounds-mark-start c = omega arith
-
-pub slice_bounds-mark-end : goal.slice_bounds-mark-end
-slice_bounds-mark-end c = omega arith
-
-pub mark-found-requires : goal.mark-found-requires
-unfolding inner
-mark-found-requires c = let l = c.loop-i in
-    let b = c.requires.2 l.i c.loop-i-test.true in
-    let w = c.wide-pages.ensures ∙ c.pages_at.ensures in (
-      omega (arith, w, b.0),
-      omega (arith, l.invariant.2),
-      ap length l.invariant.1 ∙ owners_length c.args.parts c.args.frames.now l.i,
-      λ k h. simp add-sub_cancel_left (b.1 k (rw w at h)),
+pub mark-requires : goal.mark-requires
+mark-requires c =
+    let h = c.args.h.now in
+    let i = c.loop-i.i in
+    let l : i < c.wide.result = omega (arith, length-take-le c.wide.result h.parts) in
+    let pages = pages_here h.parts c.wide.result i l c.wide-in-loop-i.result c.wide-in-loop-i.ensures in
+    let low : i < h.count = omega (arith, c.wide.ensures) in
+    let most = c.requires.0.pages i low in (
+      omega (arith, pages, most, part_length h.frames i (omega arith)),
+      omega arith,
+      ap length c.loop-i.invariant.1 ∙ owners_length h.parts h.frames i,
+      λ k m. rw (part_is h.frames i) (c.requires.0.below i low k (omega (arith, pages))),
     )
 
-pub returns-then-found : goal.returns-then-found
-returns-then-found c = let a = c.args in let l = c.loop-i in
-    let m = mark_part a.parts a.frames.now a.n l.i (c.requires.2 l.i c.loop-i-test.true).1 _ _ _ _ _ _ (part_is a.frames.now l.i) (c.wide-pages.ensures ∙ c.pages_at.ensures) l.invariant.2 l.invariant.1 c.mark-found.ensures.0 c.mark-found.ensures.2 in
-    (sym (any_yes (twice_in a.parts a.frames.now) a.n l.i c.loop-i-test.true (sym m.0 ∙ c.if-found.true)), λ e. one_way true refl e)
-
-pub overflow_add-tag : goal.overflow_add-tag
-overflow_add-tag c = omega arith
-
-pub overflow_add-i : goal.overflow_add-i
-overflow_add-i c = omega arith
-
-pub loop-i-smaller : goal.loop-i-smaller
-loop-i-smaller c = omega arith
+pub returns-then-is_some : goal.returns-then-is_some
+returns-then-is_some c =
+    let h = c.args.h.now in
+    let l : c.loop-i.i < c.wide.result = omega (arith, length-take-le c.wide.result h.parts) in
+    let pages = pages_here h.parts c.wide.result c.loop-i.i l c.wide-in-loop-i.result c.wide-in-loop-i.ensures in
+    let low : c.loop-i.i < h.count = omega (arith, c.wide.ensures) in
+    let m = mark_part h.parts h.frames h.count c.loop-i.i (c.requires.0.below c.loop-i.i low) _ c.loop-i.owners c.mark.new.owners c.wide-in-loop-i.result (c.loop-i.i + 1) c.mark.result (part_is h.frames c.loop-i.i) pages refl c.loop-i.invariant.1 c.mark.ensures.twice c.mark.ensures.marks in
+    (sym (any_yes (twice_in h.parts h.frames) h.count c.loop-i.i low (sym m.0 ∙ sym c.is_some.ensures ∙ c.if-is_some.true)), λ z. one_way true refl z)
 
 pub loop-i-preserved : goal.loop-i-preserved
-loop-i-preserved c = let a = c.args in let l = c.loop-i in
-    let m = mark_part a.parts a.frames.now a.n l.i (c.requires.2 l.i c.loop-i-test.true).1 _ _ _ _ _ _ (part_is a.frames.now l.i) (c.wide-pages.ensures ∙ c.pages_at.ensures) l.invariant.2 l.invariant.1 c.mark-found.ensures.0 c.mark-found.ensures.2 in
-    (any_more (twice_in a.parts a.frames.now) l.i l.invariant.0 (sym m.0 ∙ c.if-found.false), m.1 c.if-found.false, omega arith, omega arith)
-
-pub returns : goal.returns
-returns c = let l = c.loop-i in
-    let q = le_antisymm c.loop-i-test.false l.invariant.3 in
-    (sym (rw q l.invariant.0), λ e. rw q l.invariant.1)
+loop-i-preserved c =
+    let h = c.args.h.now in
+    let l : c.loop-i.i < c.wide.result = omega (arith, length-take-le c.wide.result h.parts) in
+    let pages = pages_here h.parts c.wide.result c.loop-i.i l c.wide-in-loop-i.result c.wide-in-loop-i.ensures in
+    let low : c.loop-i.i < h.count = omega (arith, c.wide.ensures) in
+    let m = mark_part h.parts h.frames h.count c.loop-i.i (c.requires.0.below c.loop-i.i low) _ c.loop-i.owners c.mark.new.owners c.wide-in-loop-i.result (c.loop-i.i + 1) c.mark.result (part_is h.frames c.loop-i.i) pages refl c.loop-i.invariant.1 c.mark.ensures.twice c.mark.ensures.marks in
+    let none = sym c.is_some.ensures ∙ c.if-is_some.false in
+    (any_more (twice_in h.parts h.frames) c.loop-i.i c.loop-i.invariant.0 (sym m.0 ∙ none), m.1 none)

@@ -6,7 +6,4 @@ use Rattle.damage.specs.Marks.{owners_of, twice_in}
 use Rattle.damage.proofs.mark_all.Given as goal
 
 abbrev pub invariant-loop-i : goal.invariant-loop-i
-invariant-loop-i l = (any (twice_in l.parts l.frames) l.i ≡ false) × (l.owners ≡ owners_of l.parts l.frames l.i) × (l.tag ≡ l.i + 1) × (l.i ≤ l.n)
-
-abbrev pub decreases-loop-i : goal.decreases-loop-i
-decreases-loop-i l = l.n - l.i
+invariant-loop-i l = (any (twice_in l.h.parts l.h.frames) l.i ≡ false) × (l.owners ≡ owners_of l.h.parts l.h.frames l.i)

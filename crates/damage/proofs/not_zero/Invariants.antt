@@ -6,8 +6,5 @@ use Rattle.house.specs.Damage.{not_zero}
 use Rattle.damage.proofs.not_zero.Given as goal
 
 -- the gathered bits are 0 exactly where all places so far are
-abbrev pub invariant-loop-k : goal.invariant-loop-k
-invariant-loop-k l = (not (eqb l.bits 0) ≡ not_zero l.l l.base l.k) × (l.k ≤ l.size)
-
-abbrev pub decreases-loop-k : goal.decreases-loop-k
-decreases-loop-k l = l.size - l.k
+abbrev pub invariant-loop-x : goal.invariant-loop-x
+invariant-loop-x l = not (eqb l.bits 0) ≡ not_zero l.places 0 l.x-index

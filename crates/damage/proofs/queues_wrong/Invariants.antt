@@ -6,7 +6,4 @@ use Rattle.damage.specs.Marks.{queue_at}
 use Rattle.damage.proofs.queues_wrong.Given as goal
 
 abbrev pub invariant-loop-j : goal.invariant-loop-j
-invariant-loop-j l = (any (queue_at l.count l.tickets l.waiting) l.j ≡ false) × (l.j ≤ 8)
-
-abbrev pub decreases-loop-j : goal.decreases-loop-j
-decreases-loop-j l = 8 - l.j
+invariant-loop-j l = any (queue_at l.h.count l.h.tickets l.h.waiting) l.j ≡ false

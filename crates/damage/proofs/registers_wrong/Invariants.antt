@@ -6,7 +6,4 @@ use Rattle.damage.specs.Marks.{registers_at}
 use Rattle.damage.proofs.registers_wrong.Given as goal
 
 abbrev pub invariant-loop-i : goal.invariant-loop-i
-invariant-loop-i l = (any (registers_at l.parts l.regs) l.i ≡ false) × (l.i ≤ l.n)
-
-abbrev pub decreases-loop-i : goal.decreases-loop-i
-decreases-loop-i l = l.n - l.i
+invariant-loop-i l = any (registers_at l.h.parts l.h.regs) l.i ≡ false

@@ -10,6 +10,3 @@ use Rattle.damage.proofs.shadow_wrong.Given as goal
 -- whole groups are looked through
 abbrev pub invariant-loop-base : goal.invariant-loop-base
 invariant-loop-base l = (any (λ x. entry_marked l.owners l.tag (get_or l.shadow x 0)) l.base ≡ false) × (l.base ≤ entries) × (l.base % 32 ≡ 0)
-
-abbrev pub decreases-loop-base : goal.decreases-loop-base
-decreases-loop-base l = entries - l.base

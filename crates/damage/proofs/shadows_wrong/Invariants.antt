@@ -6,7 +6,4 @@ use Rattle.damage.specs.Marks.{shadow_marked}
 use Rattle.damage.proofs.shadows_wrong.Given as goal
 
 abbrev pub invariant-loop-i : goal.invariant-loop-i
-invariant-loop-i l = (any (shadow_marked l.owners l.shadows) l.i ≡ false) × (l.tag ≡ l.i + 1) × (l.i ≤ l.n)
-
-abbrev pub decreases-loop-i : goal.decreases-loop-i
-decreases-loop-i l = l.n - l.i
+invariant-loop-i l = any (shadow_marked l.owners l.h.shadows) l.i ≡ false

@@ -8,7 +8,4 @@ use Rattle.damage.specs.Marks.{room_wrong}
 use Rattle.damage.proofs.unused_wrong.Given as goal
 
 abbrev pub invariant-loop-i : goal.invariant-loop-i
-invariant-loop-i l = (any (λ j. room_wrong l.count j (get_or l.running j false) (get_or l.parts j no_partition) l.regs l.frames l.shadows) l.i ≡ false) × (l.i ≤ 8)
-
-abbrev pub decreases-loop-i : goal.decreases-loop-i
-decreases-loop-i l = 8 - l.i
+invariant-loop-i l = any (λ j. room_wrong l.h.count j (get_or l.h.running j false) (get_or l.h.parts j no_partition) l.h.regs l.h.frames l.h.shadows) l.i ≡ false

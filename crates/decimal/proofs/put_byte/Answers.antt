@@ -4,5 +4,5 @@ use Rattle.decimal.proofs.put_byte.Goals as goal
 pub returns-then-at-out : goal.returns-then-at-out
 returns-then-at-out c = byte_in _ _ _ c.if-at-out.true
 
-pub returns : goal.returns
-returns c = byte_out _ _ _ c.if-at-out.false
+pub returns-else-at-out : goal.returns-else-at-out
+returns-else-at-out c = byte_out _ _ _ c.if-at-out.false

@@ -4,7 +4,7 @@ use Rattle.drill.proofs.Commands.{played_within}
 use Rattle.drill.proofs.call_turn.Goals as goal
 
 pub flushed-used-requires : goal.flushed-used-requires
-flushed-used-requires c = let n : length c.args.text.now ≡ 524288 = search (rules, c.flushed-arg-2-1, c.flushed-arg-1) in omega (arith, n, c.requires.fact_1.used)
+flushed-used-requires c = let n : length c.args.text.now ≡ 524288 = search rules in omega (arith, n, c.requires.fact_1.used)
 
 pub play-p-requires : goal.play-p-requires
 play-p-requires c = record { stands = c.requires.fact_1.stands; right = c.requires.fact_2; lent = c.requires.fact_1.lent }

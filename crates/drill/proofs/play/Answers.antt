@@ -9,14 +9,8 @@ loop-init c = let z = c.first-reached.ensures in (record { stands = subst (λ (b
 pub finish-requires : goal.finish-requires
 finish-requires c = omega (arith, c.loop.invariant.0.used)
 
-pub shape_of-input-then-c-eq0 : goal.shape_of-input-then-c-eq0
-shape_of-input-then-c-eq0 c = omega (arith, c.loop.invariant.1, c.first-reached.auto)
-
-pub shape_of-memory-then-c-eq0 : goal.shape_of-memory-then-c-eq0
-shape_of-memory-then-c-eq0 c = omega (arith, c.loop.invariant.2, c.first-reached.auto)
-
 pub turn-s-requires : goal.turn-s-requires
-turn-s-requires c = let v = c.loop.invariant in let g = subst (λ (x : ℕ). Goes c.loop.s (length c.first-reached.new.input) x) (sym v.2) v.0 in record { fact_1 = subst (λ (x : ℕ). Goes c.loop.s x (length c.loop.memory)) (sym v.1) g; fact_2 = omega (arith, c.if-c-eq0.false) }
+turn-s-requires c = let v = c.loop.invariant in let g = subst (λ (x : ℕ). Goes c.loop.s (length c.first-reached.new.input) x) (sym v.2) v.0 in record { fact_1 = subst (λ (x : ℕ). Goes c.loop.s x (length c.loop.memory)) (sym v.1) g; fact_2 = c.in-Some.is }
 
 pub loop-preserved : goal.loop-preserved
 loop-preserved c = let v = c.loop.invariant in let k = c.turn-s.auto in let g = subst (λ (x : ℕ). Goes c.turn-s.result x (length c.loop.memory)) v.1 c.turn-s.ensures in (subst (λ (x : ℕ). Goes c.turn-s.result (length c.first-reached.new.input) x) v.2 g, omega (arith, v.1, k), omega (arith, v.2, k))

@@ -3,7 +3,7 @@ use Rattle.decimal.proofs.Texts.{within}
 use Rattle.drill.proofs.save_turn.Goals as goal
 
 pub flushed-used-requires : goal.flushed-used-requires
-flushed-used-requires c = let n : length c.args.text.now ≡ 524288 = search (rules, c.flushed-arg-2-1, c.flushed-arg-1) in omega (arith, n, c.requires.fact_1.used)
+flushed-used-requires c = let n : length c.args.text.now ≡ 524288 = search rules in omega (arith, n, c.requires.fact_1.used)
 
 pub play-p-requires : goal.play-p-requires
 play-p-requires c = record { fact_1 = record { stands = c.requires.fact_1.stands; right = c.requires.fact_2; lent = c.requires.fact_1.lent }; fact_2 = c.requires.fact_3 }

@@ -13,11 +13,11 @@ pub execute-requires : goal.execute-requires
 execute-requires c = record { fact_1 = c.requires.fact_1; fact_2 = rw c.read_instruction.ensures (instruction_formed _) }
 
 -- src/lib.rt:36:1
-pub returns-in-Fault : goal.returns-in-Fault
+pub returns-in-Err : goal.returns-in-Err
 unfolding fetched executed after_read
-returns-in-Fault c = simp (eq-eqb _ _ c.if-dpc-ne0.false, ← c.load.ensures, c.in-Fault.is)
+returns-in-Err c = simp (eq-eqb _ _ c.if-dpc-ne0.false, ← c.load.ensures, c.in-Err.is)
 
 -- src/lib.rt:36:1
-pub returns-in-Word : goal.returns-in-Word
+pub returns-in-Ok : goal.returns-in-Ok
 unfolding fetched executed after_read
-returns-in-Word c = simp (eq-eqb _ _ c.if-dpc-ne0.false, ← c.load.ensures, c.in-Word.is, c.execute.ensures, c.read_instruction.ensures)
+returns-in-Ok c = simp (eq-eqb _ _ c.if-dpc-ne0.false, ← c.load.ensures, c.in-Ok.is, c.execute.ensures, c.read_instruction.ensures)

@@ -2,7 +2,6 @@ use mathlib.Core.Path.{refl, sym, ap, ◌∙◌}
 use native.Mathlib.Omega.{arith}
 use lib.ListN.{length}
 use Rattle.list.proofs.Pieces.{lines_in, told}
-use borrow.Author.Rules.{rules}
 use Rattle.list.proofs.list_piece.Goals as goal
 
 pub slice_bounds-out-end : goal.slice_bounds-out-end
@@ -11,8 +10,5 @@ slice_bounds-out-end c = (lines_in _ _ _ _ _ refl c.requires.fact_1 c.put_words-
 pub slice_bounds-show-end : goal.slice_bounds-show-end
 slice_bounds-show-end c = let p = lines_in _ _ _ _ _ refl c.requires.fact_1 c.put_words-p.ensures.end_after in p.0 ∙ ap length (sym p.1)
 
-pub show-written-requires : goal.show-written-requires
-show-written-requires c = told c.args.r c.args.piece.now _ c.requires.fact_2 (λ i. omega (arith, c.shared_slice_known-1.given i)) (lines_in _ _ _ _ _ refl c.requires.fact_1 c.put_words-p.ensures.end_after).1
-
-pub returns : goal.returns
-returns c = record { rest_value = c.put_words-p.ensures.rest_value; bytes = λ i. omega (arith, c.shared_slice_known-1.given i) }
+pub show-requires : goal.show-requires
+show-requires c = told c.args.r c.args.piece.now _ c.requires.fact_2 (λ i. omega (arith, c.type_inv.piece i)) (lines_in _ _ _ _ _ refl c.requires.fact_1 c.put_words-p.ensures.end_after).1

@@ -5,4 +5,4 @@ pub returns-then-not-has_room : goal.returns-then-not-has_room
 returns-then-not-has_room c = list_not c.args.words.now c.args.out.now c.has_room.ensures c.if-not-has_room.true
 
 pub returns : goal.returns
-returns c = list_done c.args.words.now c.args.out.now c.has_room.ensures c.if-not-has_room.false c.write_lines-end.ensures
+returns c = list_done c.args.words.now c.args.out.now c.has_room.ensures c.if-not-has_room.false c.write_lines.ensures

@@ -2,7 +2,6 @@ use mathlib.Core.Path.{refl, sym, subst}
 use Rattle.report.proofs.Texts.{put_there}
 use Rattle.night_run.specs.Ran.{no_frames, either_file, Told}
 use Rattle.look.specs.Look.{printed}
-use borrow.Author.Rules.{rules}
 use Rattle.look.proofs.look.Goals as goal
 
 pub text_for-x-requires : goal.text_for-x-requires

@@ -1,9 +1,8 @@
 use Rattle.std.proofs.Common.{ℕ, get_or, ap, ◌∙◌, arith}
-use Rattle.dlx.specs.Words.{plus}
 use Rattle.plain.proofs.jump_linked.Goals as goal
 
 pub bounds-regs-rs1 : goal.bounds-regs-rs1
 bounds-regs-rs1 c = omega (arith, c.requires, c.first-rs1.ensures)
 
 pub returns : goal.returns
-returns c = let e = c.to.ensures in (e.0, c.link.ensures, ap (λ (j : ℕ). plus j c.args.page) e.1 ∙ c.wrapping_sub_u32.ensures.value ∙ ap (λ (j : ℕ). get_or c.args.regs.now j 0) c.first-rs1.ensures)
+returns c = (c.link.ensures, c.wrapping_sub_u32.ensures.value ∙ ap (λ (j : ℕ). get_or c.args.regs.now j 0) c.first-rs1.ensures)

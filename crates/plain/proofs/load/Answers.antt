@@ -4,8 +4,7 @@ use Rattle.plain.proofs.Laws.{seen_inside, load_does, fits_left}
 use Rattle.processor.proofs.Opcodes.{or_left}
 use Rattle.dlx.specs.Fields.{loading, storing}
 use Rattle.addresses.proofs.Entries.{placed_listed}
-use Rattle.std.proofs.Common.{sym, refl, ◌∙◌, true≢false, arith, eq-eqb}
-use mathlib.Core.Bool.{false≢true}
+use Rattle.std.proofs.Common.{sym, refl, arith, eq-eqb}
 use Rattle.plain.proofs.load.Goals as goal
 
 -- src/lib.rt:136:9
@@ -14,7 +13,7 @@ fits-requires c = or_left (loading c.args.o) (storing c.args.o) c.requires.fact_
 
 -- src/lib.rt:137:9
 pub returns-then-not-fits : goal.returns-then-not-fits
-returns-then-not-fits c = (λ e. absurd (false≢true e), λ _. refl)
+returns-then-not-fits c = refl
 
 -- src/lib.rt:139:9
 pub seen-e-requires : goal.seen-e-requires
@@ -22,7 +21,7 @@ seen-e-requires c = record { fact_1 = placed_listed c.requires.fact_2; fact_2 = 
 
 -- src/lib.rt:141:9
 pub returns-then-e-ne1 : goal.returns-then-e-ne1
-returns-then-e-ne1 c = (λ e. absurd (false≢true e), λ _. refl)
+returns-then-e-ne1 c = refl
 
 -- src/lib.rt:143:13
 pub bounds-words-wide : goal.bounds-words-wide
@@ -36,4 +35,4 @@ bring-requires c = record { fact_1 = c.requires.fact_4; fact_2 = fits_left _ _ _
 -- src/lib.rt:118:1
 pub returns : goal.returns
 returns c = let e = c.put.ensures in
-    (λ _ page t. load_does _ _ c.args.p t page c.args.y c.args.regs.now c.args.words.now _ c.args.o c.args.x c.args.imm _ _ c.wrapping_add_u32-a.ensures.value (sym (fits_left c.args.o _ _ c.fits.ensures (ap not c.if-not-fits.false))) c.seen-e.ensures (eq-eqb _ _ c.if-e-ne1.false) _ _ _ _ _ (simp (c.wide-2.ensures, c.wide.ensures)) c.bring.ensures e.1 e.2, λ q. absurd (true≢false (sym e.0 ∙ q)))
+    λ page t. load_does _ _ c.args.p t page c.args.y c.args.regs.now c.args.words.now _ c.args.o c.args.x c.args.imm _ _ c.wrapping_add_u32-a.ensures.value (sym (fits_left c.args.o _ _ c.fits.ensures (ap not c.if-not-fits.false))) c.seen-e.ensures (eq-eqb _ _ c.if-e-ne1.false) _ _ _ _ _ (simp (c.wide-2.ensures, c.wide.ensures)) c.bring.ensures e.0 e.1

@@ -7,17 +7,11 @@ use Rattle.quick.proofs.in_page.Goals as goal
 pub held-held-requires : goal.held-held-requires
 held-held-requires c = placed_listed c.requires.fact_2
 
-pub loop-rest-init : goal.loop-rest-init
-loop-rest-init c = (goes_none _ _ _ _ _ _ _ _ _ _ c.wrapping_sub_u32-x.ensures.value c.wrapping_sub_u32-y.ensures.value, refl, refl)
-
-pub shape_of-regs-then-away : goal.shape_of-regs-then-away
-shape_of-regs-then-away c = omega (arith, c.loop-rest.invariant.1)
-
-pub shape_of-words-then-away : goal.shape_of-words-then-away
-shape_of-words-then-away c = omega (arith, c.loop-rest.invariant.2)
+pub loop-left-init : goal.loop-left-init
+loop-left-init c = (goes_none _ _ _ _ _ _ _ _ _ _ c.wrapping_sub_u32-x.ensures.value c.wrapping_sub_u32-y.ensures.value, refl, refl)
 
 pub returns-then-away : goal.returns-then-away
-returns-then-away c = (goes_quit _ _ _ _ _ _ _ _ _ _ _ _ _ _ _ _ _ _ c.quit.ensures c.loop-rest.invariant.0, c.loop-rest.invariant.1, c.loop-rest.invariant.2, found_quit _ _ _ _ c.args.k c.args.p _ _ _ _ _ _ _ _ _ _ c.quit.ensures (found_none _ _ _ _ c.args.k c.args.p _ _ _))
+returns-then-away c = (goes_quit _ _ _ _ _ _ _ _ _ _ _ _ _ _ _ _ _ _ (c.quit.ensures.0, c.quit.ensures.1, c.quit.ensures.2 ∙ omega arith, c.quit.ensures.3) c.loop-left.invariant.0, c.loop-left.invariant.1, c.loop-left.invariant.2, found_quit _ _ _ _ c.args.k c.args.p _ _ _ _ _ _ _ _ _ _ c.quit.ensures (found_none _ _ _ _ c.args.k c.args.p _ _ _))
 
 pub overflow_add-base : goal.overflow_add-base
 overflow_add-base c = let i = cached_inside _ _ _ _ _ c.args.t c.args.words.now _ c.requires.fact_2 c.requires.fact_3 c.requires.fact_4 in omega (arith, i, c.requires.fact_2.small)
@@ -32,37 +26,19 @@ pub slice_bounds-fetch-start : goal.slice_bounds-fetch-start
 slice_bounds-fetch-start c = omega arith
 
 pub slice_bounds-fetch-end : goal.slice_bounds-fetch-end
-slice_bounds-fetch-end c = let i = cached_inside _ _ _ _ _ c.args.t c.args.words.now _ c.requires.fact_2 c.requires.fact_3 c.requires.fact_4 in omega (arith, i, c.loop-rest.invariant.2)
+slice_bounds-fetch-end c = let i = cached_inside _ _ _ _ _ c.args.t c.args.words.now _ c.requires.fact_2 c.requires.fact_3 c.requires.fact_4 in omega (arith, i, c.loop-left.invariant.2)
 
 pub fetch-w-requires : goal.fetch-w-requires
-fetch-w-requires c = let i = cached_inside _ _ _ _ _ c.args.t c.args.words.now _ c.requires.fact_2 c.requires.fact_3 c.requires.fact_4 in record { fact_1 = page_long c.loop-rest.words c.args.base (omega (arith, i, c.loop-rest.invariant.2)); fact_2 = (not_away _ (sym c.away.ensures ∙ c.if-away.false)).1 }
+fetch-w-requires c = let i = cached_inside _ _ _ _ _ c.args.t c.args.words.now _ c.requires.fact_2 c.requires.fact_3 c.requires.fact_4 in record { fact_1 = page_long c.loop-left.words c.args.base (omega (arith, i, c.loop-left.invariant.2)); fact_2 = (not_away _ (sym c.away.ensures ∙ c.if-away.false)).1 }
 
 pub act-requires : goal.act-requires
-act-requires c = let i = c.loop-rest.invariant in record { fact_1 = i.1 ∙ c.requires.fact_1; fact_2 = subst (λ z. Placed c.args.frames.now c.args.pages z) (sym i.2) c.requires.fact_2; fact_3 = c.requires.fact_3; fact_4 = c.requires.fact_5; fact_5 = c.held-held.ensures }
+act-requires c = let i = c.loop-left.invariant in record { fact_1 = i.1 ∙ c.requires.fact_1; fact_2 = subst (λ z. Placed c.args.frames.now c.args.pages z) (sym i.2) c.requires.fact_2; fact_3 = c.requires.fact_3; fact_4 = c.requires.fact_5; fact_5 = c.held-held.ensures }
 
-pub shape_of-regs-then-not-act : goal.shape_of-regs-then-not-act
-shape_of-regs-then-not-act c = omega (arith, c.loop-rest.invariant.1)
+pub returns-in_default : goal.returns-in_default
+returns-in_default c = let f = rw c.in_default.is at c.act.ensures in rw (f.0, f.1) (goes_quit _ _ _ _ _ _ _ _ _ _ _ _ _ _ _ _ _ _ (c.quit-in_default.ensures.0, c.quit-in_default.ensures.1, c.quit-in_default.ensures.2 ∙ omega arith, c.quit-in_default.ensures.3) c.loop-left.invariant.0, c.loop-left.invariant.1, c.loop-left.invariant.2, found_quit _ _ _ _ c.args.k c.args.p _ _ _ _ _ _ _ _ _ _ c.quit-in_default.ensures (λ _ latest k. cached_fetch _ _ _ _ _ _ c.args.p (omega arith) c.requires.fact_4 _ c.loop-left.y _ _ _ latest k (sym c.away.ensures ∙ c.if-away.false) (page_word c.loop-left.words c.args.base _ _ (not_away _ (sym c.away.ensures ∙ c.if-away.false)).1 c.fetch-w.ensures)))
 
-pub shape_of-words-then-not-act : goal.shape_of-words-then-not-act
-shape_of-words-then-not-act c = omega (arith, c.loop-rest.invariant.2)
-
-pub returns-then-not-act : goal.returns-then-not-act
-returns-then-not-act c = let f = c.act.ensures.1 c.if-not-act.true in rw (f.0, f.1) (goes_quit _ _ _ _ _ _ _ _ _ _ _ _ _ _ _ _ _ _ c.quit-then-not-act.ensures c.loop-rest.invariant.0, c.loop-rest.invariant.1, c.loop-rest.invariant.2, found_quit _ _ _ _ c.args.k c.args.p _ _ _ _ _ _ _ _ _ _ c.quit-then-not-act.ensures (λ _ latest k. cached_fetch _ _ _ _ _ _ c.args.p (omega arith) c.requires.fact_4 _ c.loop-rest.y _ _ _ latest k (sym c.away.ensures ∙ c.if-away.false) (page_word c.loop-rest.words c.args.base _ _ (not_away _ (sym c.away.ensures ∙ c.if-away.false)).1 c.fetch-w.ensures)))
-
-pub overflow_sub-rest : goal.overflow_sub-rest
-overflow_sub-rest c = omega (arith, c.loop-rest-test.true)
-
-pub loop-rest-smaller : goal.loop-rest-smaller
-loop-rest-smaller c = omega (arith, c.loop-rest-test.true)
-
-pub loop-rest-preserved : goal.loop-rest-preserved
-loop-rest-preserved c = let i = c.loop-rest.invariant in let f = c.act.ensures.0 c.if-not-act.false in (goes_on _ _ _ _ _ _ _ (omega arith) c.requires.fact_4 _ _ _ _ _ _ _ _ _ _ _ _ c.loop-rest-test.true (sym c.away.ensures ∙ c.if-away.false) (page_word c.loop-rest.words c.args.base _ _ (not_away _ (sym c.away.ensures ∙ c.if-away.false)).1 c.fetch-w.ensures) f i.0, omega (arith, i.1), omega (arith, i.2))
-
-pub shape_of-regs : goal.shape_of-regs
-shape_of-regs c = omega (arith, c.loop-rest.invariant.1)
-
-pub shape_of-words : goal.shape_of-words
-shape_of-words c = omega (arith, c.loop-rest.invariant.2)
+pub loop-left-preserved : goal.loop-left-preserved
+loop-left-preserved c = let i = c.loop-left.invariant in let f = rw c.in-Some.is at c.act.ensures in (goes_on _ _ _ _ _ _ _ (omega arith) c.requires.fact_4 _ _ _ _ _ _ _ _ _ _ _ _ c.loop-left-test.true (sym c.away.ensures ∙ c.if-away.false) (page_word c.loop-left.words c.args.base _ _ (not_away _ (sym c.away.ensures ∙ c.if-away.false)).1 c.fetch-w.ensures) f i.0, omega (arith, i.1), omega (arith, i.2))
 
 pub returns : goal.returns
-returns c = (goes_quit _ _ _ _ _ _ _ _ _ _ _ _ _ _ _ _ _ _ c.quit-2.ensures c.loop-rest.invariant.0, c.loop-rest.invariant.1, c.loop-rest.invariant.2, found_quit _ _ _ _ c.args.k c.args.p _ _ _ _ _ _ _ _ _ _ c.quit-2.ensures (found_none _ _ _ _ c.args.k c.args.p _ _ _))
+returns c = (goes_quit _ _ _ _ _ _ _ _ _ _ _ _ _ _ _ _ _ _ (c.quit-2.ensures.0, c.quit-2.ensures.1, c.quit-2.ensures.2 ∙ omega arith, c.quit-2.ensures.3) c.loop-left.invariant.0, c.loop-left.invariant.1, c.loop-left.invariant.2, found_quit _ _ _ _ c.args.k c.args.p _ _ _ _ _ _ _ _ _ _ c.quit-2.ensures (found_none _ _ _ _ c.args.k c.args.p _ _ _))

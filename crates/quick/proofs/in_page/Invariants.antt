@@ -4,11 +4,8 @@ use Rattle.dlx.specs.Words.{plus}
 use Rattle.std.proofs.Common.{◌≡◌, length}
 use Rattle.quick.proofs.in_page.Given as goal
 
-abbrev pub invariant-loop-rest : goal.invariant-loop-rest
-invariant-loop-rest l =
-    Goes l.frames l.pages l.t l.shadow l.k l.rest l.p l.initial.regs l.initial.words (pair_of l.p (plus l.x l.page) (plus l.y l.page)) l.regs l.words
+abbrev pub invariant-loop-left : goal.invariant-loop-left
+invariant-loop-left l =
+    Goes l.frames l.pages l.t l.shadow l.k l.left l.p l.initial.regs l.initial.words (pair_of l.p (plus l.x l.page) (plus l.y l.page)) l.regs l.words
     × (length l.regs ≡ length l.initial.regs)
     × (length l.words ≡ length l.initial.words)
-
-abbrev pub decreases-loop-rest : goal.decreases-loop-rest
-decreases-loop-rest l = l.rest

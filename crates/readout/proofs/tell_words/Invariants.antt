@@ -1,4 +1,4 @@
-use Prim.Native.Nat.{◌≤◌, ◌-◌}
+use Rattle.std.proofs.Common.{◌≤◌, ◌-◌}
 use Rattle.readout.proofs.tell_words.Given as goal
 
 abbrev pub invariant-loop-t : goal.invariant-loop-t

@@ -1,13 +1,7 @@
-use mathlib.Core.Path.{◌≡◌}
-use mathlib.Core.Bool.{false}
-use Prim.Native.Nat.{◌-◌, ◌≤◌}
-use Rattle.addresses.specs.Walk.{entries}
+use Rattle.std.proofs.Common.{◌≡◌, false}
 use Rattle.house.specs.Lists.{any}
 use Rattle.staleness.specs.Audit.{stale_in}
 use Rattle.staleness.proofs.first_page.Given as goal
 
 abbrev pub invariant-loop-px : goal.invariant-loop-px
-invariant-loop-px l = (any (stale_in l.frames l.pages l.t l.words l.shadow) l.px ≡ false) × (l.px ≤ entries)
-
-abbrev pub decreases-loop-px : goal.decreases-loop-px
-decreases-loop-px l = entries - l.px
+invariant-loop-px l = any (stale_in l.frames l.pages l.t l.words l.shadow) l.px ≡ false

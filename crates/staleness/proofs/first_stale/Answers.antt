@@ -1,9 +1,4 @@
-use mathlib.Core.Path.{refl, sym, ap, ◌∙◌}
-use mathlib.Core.Bool.{true}
-use Prim.Native.Nat.{zero-le}
-use native.Mathlib.Nat.{le_antisymm}
-use native.Mathlib.Omega.{arith}
-use borrow.Author.Tests.{le-ltb}
+use Rattle.std.proofs.Common.{◌≡◌, true, refl, sym, ap, ◌∙◌, arith, le-ltb}
 use Rattle.addresses.specs.Walk.{entries}
 use Rattle.house.specs.Lists.{any}
 use Rattle.house.specs.Turns.{world}
@@ -14,19 +9,16 @@ use Rattle.staleness.proofs.first_stale.Goals as goal
 
 pub loop-i-init : goal.loop-i-init
 unfolding any
-loop-i-init c = (refl, zero-le)
+loop-i-init c = refl
 
-pub first_of-page-requires : goal.first_of-page-requires
-first_of-page-requires c = let p = c.requires in record { fact_1 = omega (arith, p.few, c.loop-i-test.true); fact_2 = p.each c.loop-i.i c.loop-i-test.true }
-
-pub returns-then-page-lt-LIMIT : goal.returns-then-page-lt-LIMIT
-returns-then-page-lt-LIMIT c = let a = c.args in let l = c.loop-i in let w = world a.h a.memory.now in let e = c.first_of-page.ensures in
-    ap (finding 0 true l.i) e ∙ sym (first_found w l.i l.invariant.0 c.loop-i-test.true (omega (arith, e, c.if-page-lt-LIMIT.true)))
+pub returns-in-Some : goal.returns-in-Some
+returns-in-Some c = let a = c.args in let l = c.loop-i in let e = c.in-Some.ensures in
+    ap (finding 0 true l.i) (sym e.1) ∙ sym (first_found (world a.h a.memory.now) l.i l.invariant c.loop-i-test.true (omega (arith, e.0, e.1)))
 
 pub loop-i-preserved : goal.loop-i-preserved
-loop-i-preserved c = let a = c.args in let l = c.loop-i in let w = world a.h a.memory.now in
-    (any_more (has_stale w) l.i l.invariant.0 (le-ltb (first_page w l.i) entries (omega (arith, c.first_of-page.ensures, c.if-page-lt-LIMIT.false))), omega arith)
+loop-i-preserved c = let w = world c.args.h c.args.memory.now in let l = c.loop-i in
+    any_more (has_stale w) l.i l.invariant (le-ltb (first_page w l.i) entries (omega (arith, c.in_default.ensures)))
 
 pub returns : goal.returns
-returns c = let a = c.args in let l = c.loop-i in
-    sym (none_found (world a.h a.memory.now) (rw (le_antisymm l.invariant.1 c.loop-i-test.false) at l.invariant.0))
+returns c = let a = c.args in let l = c.loop-i in let e : l.i ≡ a.h.count = omega arith in
+    sym (none_found (world a.h a.memory.now) (rw e at l.invariant))

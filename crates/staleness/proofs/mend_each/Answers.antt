@@ -1,8 +1,4 @@
-use mathlib.Core.Path.{refl, ap, ◌∙◌}
-use Prim.Native.Nat.{ℕ, zero-le}
-use native.Mathlib.Nat.{le_antisymm}
-use native.Mathlib.Numerals.{add-one}
-use native.Mathlib.Omega.{arith}
+use Rattle.std.proofs.Common.{◌≡◌, ℕ, refl, ap, ◌∙◌, add-one, arith}
 use Rattle.house.specs.Turns.{World, world}
 use Rattle.staleness.specs.Audit.{mended_one, mended_to, mended}
 use Rattle.staleness.proofs.Mending.{mended_placed}
@@ -10,17 +6,16 @@ use Rattle.staleness.proofs.mend_each.Goals as goal
 
 pub loop-i-init : goal.loop-i-init
 unfolding mended_to
-loop-i-init c = (refl, zero-le)
+loop-i-init c = refl
 
-pub mend_of-r-requires : goal.mend_of-r-requires
-mend_of-r-requires c = let p = c.requires in let a = c.args in let l = c.loop-i in record { fact_1 = omega (arith, p.few, c.loop-i-test.true); fact_2 = mended_placed l.i l.i _ (world a.h a.memory.now) l.r a.memory.now l.invariant.0 (p.each l.i c.loop-i-test.true) }
+pub mend_of-r-requires-clause-fact_2 : goal.mend_of-r-requires-clause-fact_2
+mend_of-r-requires-clause-fact_2 c = let a = c.args in let l = c.loop-i in mended_placed l.i l.i _ (world a.h a.memory.now) l.r a.memory.now l.invariant (c.requires.each l.i c.loop-i-test.true)
 
 pub loop-i-preserved : goal.loop-i-preserved
 unfolding mended_to
-loop-i-preserved c = let l = c.loop-i in
-    (c.mend_of-r.ensures ∙ ap (λ (x : World). mended_one x l.i) l.invariant.0 ∙ rw (add-one l.i) refl, omega arith)
+loop-i-preserved c = let l = c.loop-i in c.mend_of-r.ensures ∙ ap (λ (x : World). mended_one x l.i) l.invariant ∙ rw (add-one l.i) refl
 
 pub returns : goal.returns
 unfolding mended
-returns c = let a = c.args in let l = c.loop-i in
-    l.invariant.0 ∙ ap (λ (k : ℕ). mended_to k (world a.h a.memory.now)) (le_antisymm l.invariant.1 c.loop-i-test.false)
+returns c = let a = c.args in let l = c.loop-i in let e : l.i ≡ a.h.count = omega arith in
+    l.invariant ∙ ap (λ (k : ℕ). mended_to k (world a.h a.memory.now)) e

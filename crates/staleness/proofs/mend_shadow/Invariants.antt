@@ -1,13 +1,8 @@
+use Rattle.std.proofs.Common.{◌≡◌, get_or}
+use Rattle.addresses.specs.Walk.{entries}
 use Rattle.staleness.proofs.SoFar.{so_far}
 use Rattle.staleness.specs.Audit.{kept_in}
-use mathlib.Core.Path.{◌≡◌}
-use Prim.Native.Nat.{◌-◌, ◌≤◌}
-use lib.ListN.{length, get_or}
-use Rattle.addresses.specs.Walk.{entries}
 use Rattle.staleness.proofs.mend_shadow.Given as goal
 
 abbrev pub invariant-loop-px : goal.invariant-loop-px
-invariant-loop-px l = (l.shadow ≡ so_far (kept_in l.frames l.pages l.t l.words l.initial.shadow) (λ k. get_or l.initial.shadow k 0) entries l.px) × (length l.shadow ≡ entries) × (l.px ≤ entries)
-
-abbrev pub decreases-loop-px : goal.decreases-loop-px
-decreases-loop-px l = entries - l.px
+invariant-loop-px l = l.shadow ≡ so_far (kept_in l.frames l.pages l.t l.words l.initial.shadow) (λ k. get_or l.initial.shadow k 0) entries l.px

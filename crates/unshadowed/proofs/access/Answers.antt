@@ -1,4 +1,4 @@
-use Rattle.std.proofs.Common.{ℕ, List, ap, eq-eqb, ne_eqb}
+use Rattle.std.proofs.Common.{ℕ, List, ap}
 use Rattle.dlx.specs.Machine.{accessed, loaded, stored, after_read, after_write, request_of}
 use Rattle.tickets.specs.Queues.{Queues, desk}
 use Rattle.unshadowed.proofs.Parts.{load_is}
@@ -9,13 +9,13 @@ pub bring-requires : goal.bring-requires
 bring-requires c = let n = rw c.in-Load.is at c.requires.fact_4 in record { fact_1 = n.1; fact_2 = n.2 }
 
 -- src/lib.rt:166:17
-pub store-n-requires : goal.store-n-requires
-store-n-requires c = let n = rw c.in-Store.is at c.requires.fact_4 in record { fact_1 = c.requires.fact_2; fact_2 = n.0; fact_3 = n.1 }
+pub store-requires : goal.store-requires
+store-requires c = let n = rw c.in-Store.is at c.requires.fact_4 in record { fact_1 = c.requires.fact_2; fact_2 = n.0; fact_3 = n.1 }
 
 -- src/lib.rt:168:17
-pub returns-then-n-eq0 : goal.returns-then-n-eq0
+pub returns-in-Ok-store : goal.returns-in-Ok-store
 unfolding accessed stored loaded after_read after_write request_of desk
-returns-then-n-eq0 c = λ _. simp (c.in-Store.is, ← c.store-n.ensures, eq-eqb _ _ c.if-n-eq0.true, c.wrapping_add_u32-next.ensures.value)
+returns-in-Ok-store c = λ _. simp (c.in-Store.is, ← c.store.ensures, c.in-Ok-store.is, c.wrapping_add_u32-next.ensures.value)
 
 -- src/lib.rt:174:17
 pub send-reply-requires : goal.send-reply-requires
@@ -31,18 +31,18 @@ unfolding accessed stored loaded after_read after_write request_of desk
 returns-in-Done c = λ _. simp c.in-Done.is
 
 -- src/lib.rt:138:1
-pub returns-in-Fault : goal.returns-in-Fault
+pub returns-in-Err : goal.returns-in-Err
 unfolding accessed stored loaded after_read after_write request_of desk
-returns-in-Fault c = λ _. simp (c.in-Load.is, ← c.load.ensures, c.in-Fault.is)
+returns-in-Err c = λ _. simp (c.in-Load.is, ← c.load.ensures, c.in-Err.is)
 
 -- src/lib.rt:138:1
-pub returns-in-Word : goal.returns-in-Word
-returns-in-Word c = load_is _ _ c.args.count c.args.i c.args.p _ _ _ _ _ _ _ _ _ _ _ _ c.in-Load.is c.load.ensures c.in-Word.is c.bring.ensures c.wrapping_add_u32-next.ensures.value
+pub returns-in-Ok : goal.returns-in-Ok
+returns-in-Ok c = load_is _ _ c.args.count c.args.i c.args.p _ _ _ _ _ _ _ _ _ _ _ _ c.in-Load.is c.load.ensures c.in-Ok.is c.bring.ensures c.wrapping_add_u32-next.ensures.value
 
 -- src/lib.rt:138:1
-pub returns-else-n-eq0 : goal.returns-else-n-eq0
+pub returns-in-Err-store : goal.returns-in-Err-store
 unfolding accessed stored loaded after_read after_write request_of desk
-returns-else-n-eq0 c = λ _. simp (c.in-Store.is, ← c.store-n.ensures, ne_eqb _ _ c.if-n-eq0.false)
+returns-in-Err-store c = λ _. simp (c.in-Store.is, ← c.store.ensures, c.in-Err-store.is)
 
 -- src/lib.rt:138:1
 pub returns-in-Send : goal.returns-in-Send

@@ -1,18 +1,13 @@
 use Rattle.unshadowed.specs.Memory.{unshadowed, unshadowed_memory}
 use Rattle.tickets.specs.Queues.{queues, desk, Seated}
 use Rattle.dlx.specs.Machine.{core, stretch_from}
-use Rattle.std.proofs.Common.{◌≡◌, ◌-◌, ◌≤◌, length}
+use Rattle.std.proofs.Common.{◌≡◌, ◌-◌, length}
 use Rattle.unshadowed.proofs.stretch.Given as goal
 
-abbrev pub invariant-loop-rest : goal.invariant-loop-rest
-invariant-loop-rest l =
-    (stretch_from (unshadowed_memory l.frames l.pages) (desk l.count l.i) l.rest (l.n - l.rest) (core l.processor l.regs l.latest l.timer, unshadowed l.table l.words) (queues l.tickets l.waiting) ≡ stretch_from (unshadowed_memory l.frames l.pages) (desk l.count l.i) l.n 0 (core l.initial.processor l.initial.regs l.initial.latest l.initial.timer, unshadowed l.initial.table l.initial.words) (queues l.initial.tickets l.initial.waiting))
-    × (l.rest ≤ l.n)
+abbrev pub invariant-loop-made : goal.invariant-loop-made
+invariant-loop-made l =
+    (stretch_from (unshadowed_memory l.frames l.pages) (desk l.count l.i) (l.n - l.made) l.made (core l.processor l.regs l.latest l.timer, unshadowed l.table l.words) (queues l.tickets l.waiting) ≡ stretch_from (unshadowed_memory l.frames l.pages) (desk l.count l.i) l.n 0 (core l.initial.processor l.initial.regs l.initial.latest l.initial.timer, unshadowed l.initial.table l.initial.words) (queues l.initial.tickets l.initial.waiting))
     × (length l.regs ≡ length l.initial.regs)
     × (length l.words ≡ length l.initial.words)
     × Seated l.count l.i (queues l.tickets l.waiting)
     × Seated l.count l.i (queues l.initial.tickets l.initial.waiting)
-
-abbrev pub decreases-loop-rest : goal.decreases-loop-rest
-decreases-loop-rest l =
-    l.rest

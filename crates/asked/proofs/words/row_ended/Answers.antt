@@ -1,11 +1,10 @@
-use borrow.Author.Tests.{not-true, not-false}
 use Rattle.asked.specs.Words.{row_ended}
 use Rattle.asked.proofs.words.row_ended.Goals as goal
 
--- src/words.rt:35:9
-pub returns-then-not-r : goal.returns-then-not-r
-returns-then-not-r c = unfold row_ended in simp (not-true c.args.r.begun c.if-not-r.true)
+pub returns-in_err-number : goal.returns-in_err-number
+unfolding row_ended
+returns-in_err-number c = simp (c.in_err-number.was, c.from_residual.ensures)
 
--- src/words.rt:31:1
 pub returns : goal.returns
-returns c = unfold row_ended in simp (not-false c.args.r.begun c.if-not-r.false, c.wrapping_add_u32.ensures.value, c.put_at.ensures)
+unfolding row_ended
+returns c = simp (c.in_ok-number.was, c.put_at.ensures)

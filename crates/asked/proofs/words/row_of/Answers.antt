@@ -1,25 +1,36 @@
-use Rattle.std.proofs.Common.{sym, refl, ◌∙◌, zero-le, arith, rules}
-use borrow.Author.Tests.{not-true, not-false}
-use Rattle.asked.specs.Words.{rowed}
-use Rattle.asked.proofs.Rows.{fed_on, fed_done, row_empty, row_whole}
+use Rattle.std.proofs.Common.{◌≡◌, None, Some, sym, ◌∙◌, rules}
+use borrow.Author.Tests.{eqb-true, eqb-false}
+use Rattle.asked.specs.Words.{rowed, row_of}
+use Rattle.asked.proofs.Rows.{fed_on, fed_done, fed_wrong, row_empty, row_whole, row_wrong, count_is, frames_are}
 use Rattle.asked.proofs.words.row_of.Goals as goal
 
--- src/words.rt:85:9
-pub returns-then-word-eq0 : goal.returns-then-word-eq0
-returns-then-word-eq0 c = row_empty c.args.at c.args.frames.now c.args.word.now c.if-word-eq0.true
+pub returns-then-is_empty : goal.returns-then-is_empty
+returns-then-is_empty c =
+    let e = row_empty c.args.at c.args.frames.now c.args.word.now (eqb-true _ 0 (sym c.is_empty.ensures ∙ c.if-is_empty.true)) in
+    record { value = count_is e; frames_after = frames_are e }
 
--- src/words.rt:88:5
-pub loop-i-init : goal.loop-i-init
-loop-i-init c = (refl, refl, zero-le)
+pub returns-in_err-r : goal.returns-in_err-r
+returns-in_err-r c =
+    let l = c.loop-b in
+    let f = fed_on c.args.at l.r l.frames c.args.word.now l.b-index c.loop-b-test.true l.invariant.0 c.in_err-r.ensures in
+    let e = row_wrong c.args.at c.args.frames.now c.args.word.now c.row_took.new.frames (eqb-false _ 0 (sym c.is_empty.ensures ∙ c.if-is_empty.false)) (sym (fed_wrong c.args.at c.row_took.new.frames _) ∙ f) in
+    record { value = c.from_residual.ensures ∙ count_is e; frames_after = frames_are e }
 
--- src/words.rt:88:5
-pub loop-i-preserved : goal.loop-i-preserved
-loop-i-preserved c = (fed_on c.args.at (rowed c.loop-i.r c.loop-i.frames) c.args.word.now c.loop-i.i (omega arith) c.loop-i.invariant.0 c.row_took-r.ensures, search rules, omega arith)
+pub loop-b-preserved : goal.loop-b-preserved
+loop-b-preserved c = let l = c.loop-b in (fed_on c.args.at l.r l.frames c.args.word.now l.b-index c.loop-b-test.true l.invariant.0 c.in_ok-r.ensures, search rules)
 
--- src/words.rt:93:9
-pub returns-then-not-r : goal.returns-then-not-r
-returns-then-not-r c = let g = rowed c.loop-i.r c.loop-i.frames in let e = fed_done c.args.at g c.args.word.now c.loop-i.i c.loop-i-test.false c.loop-i.invariant.0 in sym (row_whole c.args.at c.args.frames.now c.args.word.now g c.if-word-eq0.false e ∙ simp (not-true c.loop-i.r.right c.if-not-r.true))
+pub returns-in_err-row_ended : goal.returns-in_err-row_ended
+returns-in_err-row_ended c =
+    let l = c.loop-b in
+    let f = fed_done c.args.at (rowed (Some l.r) l.frames) c.args.word.now l.b-index c.loop-b-test.false l.invariant.0 in
+    let w = row_whole c.args.at c.args.frames.now c.args.word.now l.r l.frames (eqb-false _ 0 (sym c.is_empty.ensures ∙ c.if-is_empty.false)) f in
+    let e : rowed None c.row_ended.new.frames ≡ row_of c.args.at c.args.frames.now c.args.word.now = c.in_err-row_ended.ensures ∙ w in
+    record { value = c.from_residual-in_err-row_ended.ensures ∙ count_is e; frames_after = frames_are e }
 
--- src/words.rt:75:1
 pub returns : goal.returns
-returns c = let g = rowed c.loop-i.r c.loop-i.frames in let e = fed_done c.args.at g c.args.word.now c.loop-i.i c.loop-i-test.false c.loop-i.invariant.0 in c.row_ended.ensures ∙ sym (row_whole c.args.at c.args.frames.now c.args.word.now g c.if-word-eq0.false e ∙ simp (not-false c.loop-i.r.right c.if-not-r.false))
+returns c =
+    let l = c.loop-b in
+    let f = fed_done c.args.at (rowed (Some l.r) l.frames) c.args.word.now l.b-index c.loop-b-test.false l.invariant.0 in
+    let w = row_whole c.args.at c.args.frames.now c.args.word.now l.r l.frames (eqb-false _ 0 (sym c.is_empty.ensures ∙ c.if-is_empty.false)) f in
+    let e : rowed (Some c.in_ok-row_ended.field-0) c.row_ended.new.frames ≡ row_of c.args.at c.args.frames.now c.args.word.now = c.in_ok-row_ended.ensures ∙ w in
+    record { value = count_is e; frames_after = frames_are e }

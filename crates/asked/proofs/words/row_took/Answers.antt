@@ -1,16 +1,19 @@
+use Rattle.std.proofs.Common.{None, Some, eq-eqb, ◌∙◌, arith}
 use Rattle.asked.specs.Words.{row_took}
-use Rattle.std.proofs.Common.{eq-eqb, ne_eqb}
-use borrow.Author.Tests.{not-true, not-false}
+use Rattle.asked.proofs.Rows.{row_digit}
 use Rattle.asked.proofs.words.row_took.Goals as goal
 
--- src/words.rt:56:9
-pub returns-then-not-r : goal.returns-then-not-r
-returns-then-not-r c = unfold row_took in simp (not-true c.args.r.right c.if-not-r.true)
-
--- src/words.rt:59:9
 pub returns-then-b-eq44 : goal.returns-then-b-eq44
-returns-then-b-eq44 c = unfold row_took in simp (not-false c.args.r.right c.if-not-r.false, eq-eqb _ _ c.if-b-eq44.true, c.row_ended.ensures)
+unfolding row_took
+returns-then-b-eq44 c = simp (eq-eqb _ _ c.if-b-eq44.true, c.row_ended.ensures)
 
--- src/words.rt:52:1
+pub returns-in_err-number : goal.returns-in_err-number
+returns-in_err-number c =
+    rw c.from_residual.ensures (row_digit c.args.at c.args.r c.args.frames.now c.args.b c.from-so_far.result None c.if-b-eq44.false (c.from-so_far.ensures ∙ c.unwrap_or.ensures) (c.in_err-number.ensures {u = tt}).value)
+
+pub overflow_cast-number : goal.overflow_cast-number
+overflow_cast-number c = omega (arith, (c.in_ok-number.ensures {u = tt}).value_le_most)
+
 pub returns : goal.returns
-returns c = unfold row_took in simp (not-false c.args.r.right c.if-not-r.false, ne_eqb _ _ c.if-b-eq44.false, c.with_digit-n.ensures)
+returns c =
+    row_digit c.args.at c.args.r c.args.frames.now c.args.b c.from-so_far.result (Some c.in_ok-number.field-0) c.if-b-eq44.false (c.from-so_far.ensures ∙ c.unwrap_or.ensures) (c.in_ok-number.ensures {u = tt}).value

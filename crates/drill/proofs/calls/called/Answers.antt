@@ -1,37 +1,38 @@
-use Rattle.std.proofs.Common.{◌≡◌, length, arith, rules, ne_eqb}
+use Rattle.std.proofs.Common.{◌≡◌, length, arith, rules}
 use Rattle.drill.specs.Player.{called_of}
+use Rattle.drill_script.proofs.Ops.{is_no}
 use Rattle.drill.proofs.calls.called.Goals as goal
 
 pub booted-requires : goal.booted-requires
 booted-requires c =
-    let n : length c.args.pages.now ≡ 16 = search rules in record { fact_1 = c.requires.fact_1 c.in-1.is; fact_2 = omega (arith, n); fact_3 = c.requires.fact_2 }
+    let n : length c.args.pages.now ≡ 16 = search rules in record { fact_1 = c.requires.fact_1 c.in-Boot.is; fact_2 = omega (arith, n); fact_3 = c.requires.fact_2 }
 
-pub returns-in-1 : goal.returns-in-1
+pub returns-in-Boot : goal.returns-in-Boot
 unfolding called_of
-returns-in-1 c = simp c.in-1.is c.booted.ensures
+returns-in-Boot c = simp c.in-Boot.is c.booted.ensures
 
-pub returns-in-2 : goal.returns-in-2
+pub returns-in-Run : goal.returns-in-Run
 unfolding called_of
-returns-in-2 c = simp c.in-2.is c.run.ensures
+returns-in-Run c = simp c.in-Run.is c.run.ensures
 
-pub returns-in-3 : goal.returns-in-3
+pub returns-in-Start : goal.returns-in-Start
 unfolding called_of
-returns-in-3 c = simp c.in-3.is (c.start.ensures _)
+returns-in-Start c = simp c.in-Start.is (c.start.ensures _)
 
-pub returns-in-4 : goal.returns-in-4
+pub returns-in-Stop : goal.returns-in-Stop
 unfolding called_of
-returns-in-4 c = simp c.in-4.is (c.stop.ensures _)
+returns-in-Stop c = simp c.in-Stop.is (c.stop.ensures _)
 
-pub returns-in-13 : goal.returns-in-13
+pub returns-in-Mend : goal.returns-in-Mend
 unfolding called_of
-returns-in-13 c = simp c.in-13.is c.mend.ensures
+returns-in-Mend c = simp c.in-Mend.is c.mend.ensures
 
-pub returns-in-17 : goal.returns-in-17
+pub returns-in-Unshadowed : goal.returns-in-Unshadowed
 unfolding called_of
-returns-in-17 c = simp c.in-17.is c.run-in-17.ensures
+returns-in-Unshadowed c = simp c.in-Unshadowed.is c.run-in-Unshadowed.ensures
 
 pub returns-in_default : goal.returns-in_default
 unfolding called_of
 returns-in_default c =
-    let r = c.in_default.in_default-own.rest in
-    simp (ne_eqb _ _ r.1, ne_eqb _ _ r.0.1, ne_eqb _ _ r.0.0.1, ne_eqb _ _ r.0.0.0.1, ne_eqb _ _ r.0.0.0.0.1, ne_eqb _ _ r.0.0.0.0.0.1) (c.empty.ensures _)
+    let n = c.in_default in
+    simp (is_no _ _ n.not-Boot, is_no _ _ n.not-Run, is_no _ _ n.not-Start, is_no _ _ n.not-Stop, is_no _ _ n.not-Mend, is_no _ _ n.not-Unshadowed) (c.empty.ensures _)

@@ -4,4 +4,4 @@ use Rattle.drill.proofs.told.call.Goals as goal
 
 pub returns : goal.returns
 unfolding told_of
-returns c = c.call-called.ensures then c.house-housed.ensures then c.partitions-parted.ensures then c.queues-queued.ensures then c.memory.ensures
+returns c = (rw c.number.ensures at c.call-called.ensures) then c.house-housed.ensures then c.partitions-parted.ensures then c.queues-queued.ensures then c.memory.ensures

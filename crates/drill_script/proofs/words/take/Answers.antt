@@ -1,4 +1,4 @@
-use Rattle.std.proofs.Common.{refl, arith}
+use Rattle.std.proofs.Common.{arith}
 use Rattle.drill_script.proofs.Filling.{by_rule}
 use Rattle.drill_script.proofs.words.take.Goals as goal
 

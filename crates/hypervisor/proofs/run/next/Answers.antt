@@ -1,29 +1,23 @@
 use Rattle.house.proofs.Turns.Kept.{following_below, next_done, next_found, next_on}
-use Rattle.std.proofs.Common.{◌∙◌, zero-le, arith}
+use Rattle.std.proofs.Common.{◌∙◌, arith}
 use native.Mathlib.Nat.{sub-zero}
 use Rattle.hypervisor.proofs.run.next.Goals as goal
 
-pub loop-tried-init : goal.loop-tried-init
-loop-tried-init c = (rw sub-zero, c.requires.fact_2, zero-le)
+pub loop-init : goal.loop-init
+loop-init c = (rw sub-zero, c.requires.fact_2)
 
 pub following-at-requires : goal.following-at-requires
-following-at-requires c = c.loop-tried.invariant.1
+following-at-requires c = c.loop.invariant.1
 
 pub bounds-running-wide : goal.bounds-running-wide
-bounds-running-wide c = omega (arith, following_below _ _ c.loop-tried.invariant.1, c.following-at.ensures, c.wide.ensures, c.requires.fact_1)
+bounds-running-wide c = omega (arith, following_below _ _ c.loop.invariant.1, c.following-at.ensures, c.wide.ensures, c.requires.fact_1)
 
 pub returns-then-running-wide : goal.returns-then-running-wide
-returns-then-running-wide c = c.following-at.ensures ∙ next_found _ _ _ _ c.loop-tried-test.true (simp (c.wide.ensures, c.following-at.ensures) at c.if-running-wide.true) ∙ c.loop-tried.invariant.0
+returns-then-running-wide c = c.following-at.ensures ∙ next_found _ _ _ _ (omega arith) (simp (c.wide.ensures, c.following-at.ensures) at c.if-running-wide.true) ∙ c.loop.invariant.0
 
-pub overflow_add-tried : goal.overflow_add-tried
-overflow_add-tried c = omega (arith, c.loop-tried-test.true)
-
-pub loop-tried-smaller : goal.loop-tried-smaller
-loop-tried-smaller c = omega (arith, c.loop-tried-test.true)
-
-pub loop-tried-preserved : goal.loop-tried-preserved
-loop-tried-preserved c = let f = c.following-at.ensures in
-    (rw f (next_on _ _ _ _ c.loop-tried-test.true (simp (c.wide.ensures, f) at c.if-running-wide.false) ∙ c.loop-tried.invariant.0), rw f (following_below _ _ c.loop-tried.invariant.1), omega (arith, c.loop-tried-test.true))
+pub loop-preserved : goal.loop-preserved
+loop-preserved c = let f = c.following-at.ensures in
+    (rw f (next_on _ _ _ _ (omega arith) (simp (c.wide.ensures, f) at c.if-running-wide.false) ∙ c.loop.invariant.0), rw f (following_below _ _ c.loop.invariant.1))
 
 pub returns : goal.returns
-returns c = next_done _ _ _ _ c.loop-tried-test.false ∙ c.loop-tried.invariant.0
+returns c = next_done _ _ _ _ (omega arith) ∙ c.loop.invariant.0

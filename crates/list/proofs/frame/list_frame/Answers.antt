@@ -3,7 +3,6 @@ use lib.Seq.{length-take-le}
 use Rattle.night_run.specs.Ran.{no_frames, either_held}
 use Rattle.night_run.proofs.Files.{told_answer}
 use Rattle.list.specs.Frame.{frame_text}
-use borrow.Author.Rules.{rules}
 use Rattle.list.proofs.frame.list_frame.Goals as goal
 
 pub hold_file-x-requires : goal.hold_file-x-requires

@@ -2,7 +2,6 @@ use mathlib.Core.Path.{sym, subst}
 use Rattle.report.proofs.Texts.{put_there}
 use Rattle.night_run.specs.Ran.{either_held, Told}
 use Rattle.list.specs.Frame.{frame_text}
-use borrow.Author.Rules.{rules}
 use Rattle.list.proofs.frame.tell.Goals as goal
 
 pub show-requires : goal.show-requires

@@ -1,6 +1,5 @@
 use mathlib.Core.Path.{refl}
 use Rattle.list.specs.Words.{further}
-use borrow.Author.Rules.{rules}
 use Rattle.list.proofs.words.further.Goals as goal
 
 pub returns : goal.returns

@@ -1,5 +1,4 @@
 use Rattle.list.proofs.Pieces.{completes_not, completes}
-use borrow.Author.Rules.{rules}
 use Rattle.list.proofs.words.put_completed.Goals as goal
 
 pub returns-then-r-ne3 : goal.returns-then-r-ne3

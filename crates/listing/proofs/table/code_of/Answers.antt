@@ -3,9 +3,9 @@ use Rattle.decimal.specs.Texts.{ascii}
 use Rattle.lines.specs.Table.{named}
 use Rattle.listing.proofs.table.code_of.Goals as goal
 
-pub returns-then-row-lt45 : goal.returns-then-row-lt45
+pub returns-then-row-lt-UNNAMED : goal.returns-then-row-lt-UNNAMED
 unfolding named ascii
-returns-then-row-lt45 c = code_in c.args.row c.if-row-lt45.true
+returns-then-row-lt-UNNAMED c = code_in c.args.row c.if-row-lt-UNNAMED.true
 
 pub returns : goal.returns
-returns c = code_out c.args.row c.if-row-lt45.false
+returns c = code_out c.args.row c.if-row-lt-UNNAMED.false

@@ -3,7 +3,6 @@ use borrow.Author.Tests.{ne_eqb}
 use Rattle.decimal.specs.Texts.{ascii}
 use Rattle.decimal.proofs.Texts.{puts}
 use Rattle.look.specs.Look.{cause_of}
-use borrow.Author.Rules.{rules}
 use Rattle.look.proofs.lines.put_cause.Goals as goal
 
 pub returns-in-1 : goal.returns-in-1

@@ -3,7 +3,6 @@ use borrow.Author.Tests.{eq-eqb, ne_eqb}
 use Rattle.decimal.specs.Texts.{ascii}
 use Rattle.decimal.proofs.Texts.{exactly, roomy, ◌then◌}
 use Rattle.look.specs.Look.{interrupt_of}
-use borrow.Author.Rules.{rules}
 use Rattle.look.proofs.lines.put_interrupt.Goals as goal
 
 pub returns-then-eca-eq0 : goal.returns-then-eca-eq0

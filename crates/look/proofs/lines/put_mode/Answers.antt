@@ -3,7 +3,6 @@ use borrow.Author.Tests.{eq-eqb, ne_eqb}
 use Rattle.decimal.specs.Texts.{ascii}
 use Rattle.decimal.proofs.Texts.{puts}
 use Rattle.look.specs.Look.{mode_of}
-use borrow.Author.Rules.{rules}
 use Rattle.look.proofs.lines.put_mode.Goals as goal
 
 pub returns-then-mode-eq0 : goal.returns-then-mode-eq0

@@ -1,7 +1,6 @@
 use native.Mathlib.Omega.{arith}
 use Rattle.decimal.proofs.Texts.{exactly, decimal_puts, ◌then◌}
 use Rattle.look.specs.Look.{named}
-use borrow.Author.Rules.{rules}
 use Rattle.look.proofs.lines.put_named.Goals as goal
 
 pub returns : goal.returns

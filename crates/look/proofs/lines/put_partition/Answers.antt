@@ -1,7 +1,6 @@
 use Rattle.decimal.specs.Texts.{ascii}
 use Rattle.decimal.proofs.Texts.{exactly, ◌then◌}
 use Rattle.look.specs.Look.{block_of}
-use borrow.Author.Rules.{rules}
 use Rattle.look.proofs.lines.put_partition.Goals as goal
 
 pub put_registers-sixth-requires : goal.put_registers-sixth-requires

@@ -3,7 +3,6 @@ use borrow.Author.Tests.{eq-eqb, ne_eqb}
 use Rattle.decimal.specs.Texts.{ascii}
 use Rattle.decimal.proofs.Texts.{roomy, ◌then◌}
 use Rattle.look.specs.Look.{register_of}
-use borrow.Author.Rules.{rules}
 use Rattle.look.proofs.lines.put_register.Goals as goal
 
 pub returns-then-j-eq0 : goal.returns-then-j-eq0

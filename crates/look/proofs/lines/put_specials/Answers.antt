@@ -1,7 +1,6 @@
 use Rattle.decimal.specs.Texts.{ascii}
 use Rattle.decimal.proofs.Texts.{◌then◌}
 use Rattle.look.specs.Look.{specials_of}
-use borrow.Author.Rules.{rules}
 use Rattle.look.proofs.lines.put_specials.Goals as goal
 
 pub returns : goal.returns

@@ -2,7 +2,6 @@ use native.Mathlib.Omega.{arith}
 use Rattle.decimal.specs.Texts.{ascii}
 use Rattle.decimal.proofs.Texts.{puts}
 use Rattle.look.specs.Look.{state_of}
-use borrow.Author.Rules.{rules}
 use Rattle.look.proofs.lines.put_state.Goals as goal
 
 pub returns-then-running : goal.returns-then-running

@@ -1,7 +1,6 @@
 use Rattle.decimal.specs.Texts.{ascii}
 use Rattle.decimal.proofs.Texts.{exactly, ◌then◌}
 use Rattle.look.specs.Look.{turn_of}
-use borrow.Author.Rules.{rules}
 use Rattle.look.proofs.lines.put_turn.Goals as goal
 
 pub returns : goal.returns

@@ -1,7 +1,6 @@
-use native.Mathlib.Omega.{arith}
+use Rattle.std.proofs.Common.{◌+◌, arith}
 use Rattle.night_run.proofs.Choices.{two_at}
 use Rattle.night_run.proofs.choice.pair.Goals as goal
 
--- src/choice.rt:16:1
 pub returns : goal.returns
-returns c = record { value = rw (c.broad-a.ensures.value, c.broad-b.ensures.value) (two_at _ _ c.requires); upper_bound = omega (arith, c.broad-a.ensures.upper_bound, c.broad-b.ensures.upper_bound) }
+returns c = record { value = rw (c.from.ensures, c.from-2.ensures) (two_at _ _ c.requires); upper_bound = omega (arith, c.from.ensures, c.from-2.ensures, c.type_inv.head c.args.at, c.type_inv.head (c.args.at + 1)) }

@@ -5,12 +5,12 @@ use Rattle.noon.proofs.Steps.{next_laid}
 use Rattle.noon.proofs.images.lay_bytes.Goals as goal
 
 -- src/images.rt:49:9
-pub fault_of-fault-requires : goal.fault_of-fault-requires
-fault_of-fault-requires c = let p = c.requires in record { fact_1 = p.fact_2; fact_2 = omega (arith, p.fact_3); fact_3 = p.fact_4; fact_4 = p.fact_5 }
+pub fault_of-requires : goal.fault_of-requires
+fault_of-requires c = let p = c.requires in record { fact_1 = p.fact_2; fact_2 = omega (arith, p.fact_3); fact_3 = p.fact_4; fact_4 = p.fact_5 }
 
 -- src/images.rt:52:9
-pub returns-then-fault-ne0 : goal.returns-then-fault-ne0
-returns-then-fault-ne0 c = λ e. absurd (false≢true e)
+pub returns-in-Some : goal.returns-in-Some
+returns-in-Some c = λ e. absurd (false≢true e)
 
 -- src/images.rt:35:1
 pub returns : goal.returns

@@ -1,16 +1,16 @@
-use native.Mathlib.Omega.{arith}
+use Rattle.std.proofs.Common.{arith}
 use Rattle.decimal.proofs.Texts.{roomy}
-use Rattle.readout.specs.Printed.{word_text}
+use Rattle.readout.specs.Printed.{text_in}
 use Rattle.readout.proofs.words.put_one.Goals as goal
 
-pub returns-then-want : goal.returns-then-want
-unfolding word_text
-returns-then-want c = rw c.if-want.true (roomy 12 c.put_raw.ensures (omega arith))
+pub returns-in-Raw : goal.returns-in-Raw
+unfolding text_in
+returns-in-Raw c = rw (c.in-Raw.is, text_in) (roomy 12 c.put_raw.ensures (omega arith))
 
-pub returns-then-want-2 : goal.returns-then-want-2
-unfolding word_text
-returns-then-want-2 c = rw (c.if-want.false, c.if-want-2.true) c.put_with_sign.ensures
+pub returns-in-Signed : goal.returns-in-Signed
+unfolding text_in
+returns-in-Signed c = rw (c.in-Signed.is, text_in) c.put_with_sign.ensures
 
-pub returns : goal.returns
-unfolding word_text
-returns c = rw (c.if-want.false, c.if-want-2.false) (roomy 12 c.put_word.ensures (omega arith))
+pub returns-in-Unsigned : goal.returns-in-Unsigned
+unfolding text_in
+returns-in-Unsigned c = rw (c.in-Unsigned.is, text_in) (roomy 12 c.put_word.ensures (omega arith))

@@ -1,6 +1,13 @@
-use Rattle.restore.proofs.Standing.{rested}
+use Rattle.std.proofs.Common.{refl, arith, rules, ne_eqb}
+use Rattle.restore.proofs.Standing.{copied}
 use Rattle.restore.proofs.bytes.take_rest.Goals as goal
 
--- src/bytes.rt:123:1
-pub returns : goal.returns
-returns c = let a = c.args in rested a.r a.size a.piece.now a.from a.held.now _ _ _ _ _ c.wide-at.ensures c.wide-to.ensures c.least-n.ensures c.copy.ensures c.holding-reader.ensures
+pub returns-else-end-to : goal.returns-else-end-to
+returns-else-end-to c = record {
+  more = c.min-n.result;
+  most = search rules;
+  reader = search rules;
+  ends = search (rules, ne_eqb _ _ c.if-end-to.false);
+  goes = refl;
+  put = copied c.args.held.now c.args.piece.now _ _ _ _ _ _ c.wide-at.ensures c.copy_from_slice.ensures.after (omega arith) (omega arith);
+}

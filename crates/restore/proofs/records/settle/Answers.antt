@@ -1,22 +1,41 @@
-use Rattle.restore.proofs.Whole.{held_sized}
-use Rattle.std.proofs.Common.{ℕ, arith, rules}
-use lib.ListN.{length-replicate}
+use Rattle.std.proofs.Common.{sym, ◌∙◌, arith, length-take-le}
 use Rattle.restore.specs.Standing.{progress_at}
-use Rattle.restore.proofs.Settled.{room_held, may_held, settled_held}
+use Rattle.restore.proofs.Settled.{known, room_held, may_held, settled_held}
+use Rattle.restore.proofs.Whole.{held_sized}
 use Rattle.restore.proofs.records.settle.Goals as goal
 
--- src/records.rt:307:5
+pub unwrap-kind-requires : goal.unwrap-kind-requires
+unwrap-kind-requires c = known c.of.result (progress_at c.args.r c.args.house c.args.memory.now) c.args.held.now c.pair.result c.requires.fact_1 c.requires.fact_2 c.pair.ensures.value c.of.ensures
+
 pub words_of-requires : goal.words_of-requires
-words_of-requires c = let q = room_held (progress_at c.args.r c.args.house c.args.memory.now) c.args.held.now c.requires.fact_1 c.requires.fact_2 _ _ _ c.word-size.ensures c.pair-kind.ensures.value c.wide-n.ensures in record { fact_1 = omega (arith, q, c.requires.fact_1); fact_2 = omega (arith, q, length-replicate {A = ℕ} 1025 0) }
+words_of-requires c =
+    let k = rw c.unwrap-kind.ensures at c.of.ensures ∙ c.pair.ensures.value in
+    let q = room_held (progress_at c.args.r c.args.house c.args.memory.now) c.args.held.now c.requires.fact_1 c.requires.fact_2 _ _ _ c.word-size.ensures k c.wide-n.ensures in
+    record { fact_1 = omega (arith, q, c.requires.fact_1); fact_2 = omega (arith, q) }
 
--- src/records.rt:308:37
-pub slice_bounds-settle_front-end : goal.slice_bounds-settle_front-end
-slice_bounds-settle_front-end c = search (rules, c.words-2-1)
+pub slice_bounds-words-end : goal.slice_bounds-words-end
+slice_bounds-words-end c =
+    let k = rw c.unwrap-kind.ensures at c.of.ensures ∙ c.pair.ensures.value in
+    let q = room_held (progress_at c.args.r c.args.house c.args.memory.now) c.args.held.now c.requires.fact_1 c.requires.fact_2 _ _ _ c.word-size.ensures k c.wide-n.ensures in
+    omega (arith, q, c.words_of.auto.words)
 
--- src/records.rt:308:5
-pub settle_front-requires : goal.settle_front-requires
-settle_front-requires c = let q = room_held (progress_at c.args.r c.args.house c.args.memory.now) c.args.held.now c.requires.fact_1 c.requires.fact_2 _ _ _ c.word-size.ensures c.pair-kind.ensures.value c.wide-n.ensures in record { fact_1 = search (rules, q, c.words-2-1); fact_2 = may_held (progress_at c.args.r c.args.house c.args.memory.now) c.args.held.now c.requires.fact_1 c.requires.fact_2 _ _ _ c.word-size.ensures c.pair-kind.ensures.value c.wide-n.ensures; fact_3 = c.requires.fact_3 }
+pub slice_bounds-settle_record-end : goal.slice_bounds-settle_record-end
+slice_bounds-settle_record-end c =
+    let k = rw c.unwrap-kind.ensures at c.of.ensures ∙ c.pair.ensures.value in
+    let q = room_held (progress_at c.args.r c.args.house c.args.memory.now) c.args.held.now c.requires.fact_1 c.requires.fact_2 _ _ _ c.word-size.ensures k c.wide-n.ensures in
+    sym (length-take-le c.wide-n.result c.words_of.new.words (omega (arith, q, c.words_of.auto.words)))
 
--- src/records.rt:298:1
+pub settle_record-requires : goal.settle_record-requires
+settle_record-requires c =
+    let p = progress_at c.args.r c.args.house c.args.memory.now in
+    let k = rw c.unwrap-kind.ensures at c.of.ensures ∙ c.pair.ensures.value in
+    let q = room_held p c.args.held.now c.requires.fact_1 c.requires.fact_2 _ _ _ c.word-size.ensures k c.wide-n.ensures in
+    let e = length-take-le c.wide-n.result c.words_of.new.words (omega (arith, q, c.words_of.auto.words)) in
+    record { fact_1 = rw e (may_held p c.args.held.now c.requires.fact_1 c.requires.fact_2 _ _ _ c.word-size.ensures k c.wide-n.ensures); fact_2 = c.requires.fact_3 }
+
 pub returns : goal.returns
-returns c = let e = settled_held (progress_at c.args.r c.args.house c.args.memory.now) c.args.held.now c.requires.fact_1 c.requires.fact_2 _ _ _ c.word-size.ensures c.pair-kind.ensures.value c.wide-n.ensures _ _ c.settle_front.ensures.memory_after c.words_of.ensures in record { memory_after = e; held_value = c.settle_front.ensures.held_value; sized = held_sized (progress_at c.args.r c.args.house c.args.memory.now) _ c.args.held.now c.requires.fact_2 c.requires.fact_3 e }
+returns c =
+    let p = progress_at c.args.r c.args.house c.args.memory.now in
+    let k = rw c.unwrap-kind.ensures at c.of.ensures ∙ c.pair.ensures.value in
+    let e = settled_held p c.args.held.now c.requires.fact_1 c.requires.fact_2 _ _ _ c.word-size.ensures k c.wide-n.ensures _ _ c.settle_record.ensures.memory_after c.words_of.ensures in
+    record { memory_after = e; held_value = c.settle_record.ensures.held_value; sized = held_sized p _ c.args.held.now c.requires.fact_2 c.requires.fact_3 e }
