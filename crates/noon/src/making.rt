@@ -1,6 +1,7 @@
 // The house file made: refused as the night would, or written and told.
-ghost use Rattle.std.specs.Prelude.{◌≡◌, List, ℕ, ◌≤◌, length};
+ghost use Rattle.std.specs.Prelude.{◌≡◌, List, ℕ, ◌≤◌, length, OnOk};
 ghost use Rattle.house.specs.Boot.{verdict};
+ghost use Rattle.house.specs.Refusals.{refusal as verdict_of_refusal, verdict_of};
 ghost use Rattle.housefile.specs.Records.{file, right};
 ghost use Rattle.night_run.specs.Ran.{ran_of};
 ghost use Rattle.contents.specs.Contents.{contents_file, Listed};
@@ -14,34 +15,22 @@ use boot::boot;
 use command::{put_out, wrong};
 use contents::{MOST, put_contents};
 use dlx::words::wide;
-use hypervisor::calls::run_refusal;
+use house::Refusal;
+use hypervisor::calls::check_run;
 use report::refused;
 use written::{begin, end, put};
 
 // ---- what the night would refuse
 
-#[derive(Clone, Copy)]
-pub struct Refusal {
-    pub number: u32,
-    pub detail: u64,
-}
-
-// The night's refusal of a file that says this, whatever its memory holds; 0 and 0 where it runs.
-fn night_refuses(q: u32, run: u32, pages: &[u32], frames: &[u32]) -> Refusal
+// Does the night refuse a file that says this, whatever its memory holds?
+fn check_night(q: u32, run: u32, pages: &[u32], frames: &[u32]) -> Result<(), Refusal>
     requires { 1 ≤ length pages.now }
-    ensures by_index { (m : List ℕ) → length m ≡ 16384 → verdict result.number result.detail ≡ night_refusal (ran_of (right (file q run pages.now frames.now m))) }
-    ensures listed { result.number ≡ 0 → Listed pages.now frames.now }
+    ensures by_index { (m : List ℕ) → length m ≡ 16384 → verdict_of 0 result ≡ night_refusal (ran_of (right (file q run pages.now frames.now m))) }
+    ensures listed { OnOk result (Listed pages.now frames.now) }
 {
     let memory = [0u32; 16384];
-    let b = boot(pages, q, frames, &memory);
-    if b.number != 0 {
-        return Refusal {
-            number: b.number,
-            detail: b.detail,
-        };
-    }
-    let number = run_refusal(b.house, 16384, run);
-    Refusal { number, detail: 0 }
+    let booted = boot(pages, q, frames, &memory)?;
+    check_run(booted.house, 16384, run)
 }
 
 // Prints a refusal: the one that the night would.
@@ -51,11 +40,11 @@ fn show(rt: &HostRuntime, q: u32, run: u32, pages: &[u32], frames: &[u32], text:
     put_out(rt, text);
 }
 
-fn tell_refusal(rt: &HostRuntime, r: Refusal, q: u32, run: u32, pages: &[u32], frames: &[u32])
-    requires { (m : List ℕ) → length m ≡ 16384 → verdict r.number r.detail ≡ night_refusal (ran_of (right (file q run pages.now frames.now m))) }
+fn tell_refusal(rt: &HostRuntime, refusal: Refusal, q: u32, run: u32, pages: &[u32], frames: &[u32])
+    requires { (m : List ℕ) → length m ≡ 16384 → verdict_of_refusal refusal ≡ night_refusal (ran_of (right (file q run pages.now frames.now m))) }
 {
     let mut out = [0u8; 1024];
-    let n = refused(r.number, r.detail, &mut out);
+    let n = refused(refusal, &mut out);
     show(rt, q, run, pages, frames, &out[..n]);
 }
 
@@ -136,9 +125,8 @@ fn make_listed(
     requires fact_3 { length table.now ≡ 192 }
     requires fact_4 { Given pages.now frames.now table.now images }
 {
-    let r = night_refuses(q, run, pages, frames);
-    if r.number != 0 {
-        tell_refusal(rt, r, q, run, pages, frames);
+    if let Err(refusal) = check_night(q, run, pages, frames) {
+        tell_refusal(rt, refusal, q, run, pages, frames);
         return;
     }
     let mut counts = [0u32; 64];
