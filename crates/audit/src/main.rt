@@ -122,8 +122,8 @@ fn show(rt: &HostRuntime, t: Taken, text: &[u8])
 
 // Prints the text for the answer, and names the first stale entry.
 fn tell(rt: &HostRuntime, t: Taken, number: u32, detail: u64, house: House, memory: &[u32])
-    requires fact_1 { Told either_file printed t (printed (answered (verdict number detail) (world house memory.now))) }
-    requires fact_2 { Told either_file named t (named (answered (verdict number detail) (world house memory.now))) }
+    requires told { Told either_file printed t (printed (answered (verdict number detail) (world house memory.now))) }
+    requires named_told { Told either_file named t (named (answered (verdict number detail) (world house memory.now))) }
 {
     let mut out = [0u8; 1024];
     let n = text_of(number, detail, house, memory, &mut out);

@@ -150,8 +150,8 @@ fn lay(pages: &[u32], frames: &[u32]) -> [u32; 2048]
 
 // The house that boot makes.
 fn booted(pages: &[u32], q: u32, frames: &[u32], words: usize) -> House
-    requires fact_1 { Fitting pages.now frames.now }
-    requires fact_2 { words ≤ 1048576 }
+    requires fitting { Fitting pages.now frames.now }
+    requires words_bound { words ≤ 1048576 }
     ensures { result ≡ booted_house pages.now q frames.now words }
 {
     House {

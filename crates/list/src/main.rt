@@ -25,8 +25,8 @@ fn show(rt: &HostRuntime, r: Rest, piece: &[u8], text: &[u8]) -> bool
 
 // What a piece leaves, where its lines could be written.
 fn list_piece(rt: &HostRuntime, r: Rest, piece: &[u8]) -> Option<Rest>
-    requires fact_1 { length piece.now ≤ 4096 }
-    requires fact_2 { Behind r }
+    requires piece_length { length piece.now ≤ 4096 }
+    requires behind { Behind r }
     ensures rest_value { IfSome result (λ rest. rest ≡ rest_behind r piece.now) }
     ensures bytes { Bytes piece.now }
 {

@@ -75,8 +75,8 @@ fn show_refusal(rt: &HostRuntime, t: Taken, w: Want, text: &[u8])
 
 // Prints a refusal, or says it.
 fn tell_refusal(rt: &HostRuntime, t: Taken, w: Want, number: u32, detail: u64)
-    requires fact_1 { Told either_file (printed w) t (refused_out w (verdict number detail)) }
-    requires fact_2 { Told either_file (refusal_of w) t (refused_text number detail) }
+    requires told { Told either_file (printed w) t (refused_out w (verdict number detail)) }
+    requires refusal_told { Told either_file (refusal_of w) t (refused_text number detail) }
 {
     if w.form.is_raw() {
         say(rt, t, w, number, detail);
@@ -142,10 +142,10 @@ fn show_words(
     n: usize,
     count: usize,
 ) -> Option<Shown>
-    requires fact_1 { s.words + n ≤ count }
-    requires fact_2 { n ≤ 4096 }
-    requires fact_3 { count ≤ 262144 }
-    requires fact_4 { Told either_file (printed w) t (words_text w words.now count) }
+    requires n_bound { s.words + n ≤ count }
+    requires piece_bound { n ≤ 4096 }
+    requires count_bound { count ≤ 262144 }
+    requires told { Told either_file (printed w) t (words_text w words.now count) }
     ensures { IfSome result (λ x. x.words ≡ s.words + n) }
 {
     let mut out = [0u8; ROOM];
@@ -161,8 +161,8 @@ fn tell_words(
     words: &[u32; WORDS],
     count: usize,
 ) -> Option<Shown>
-    requires fact_1 { count ≤ 262144 }
-    requires fact_2 { Told either_file (printed w) t (words_text w words.now count) }
+    requires count_bound { count ≤ 262144 }
+    requires told { Told either_file (printed w) t (words_text w words.now count) }
     ensures { IfSome result (λ s. s.words ≡ count) }
 {
     let mut s = Shown::none();
@@ -183,8 +183,8 @@ fn tell_read(
     memory: &[u32],
     words: &mut [u32; WORDS],
 )
-    requires fact_1 { Told either_file (printed w) t (read_text w (world house memory.now) words.old) }
-    requires fact_2 { Told either_file (refusal_of w) t (read_refusal w (world house memory.now) words.old) }
+    requires told { Told either_file (printed w) t (read_text w (world house memory.now) words.old) }
+    requires refusal_told { Told either_file (refusal_of w) t (read_refusal w (world house memory.now) words.old) }
 {
     let a = read_out(house, memory, w.partition, w.address, w.count, words);
     if a.number == 12 {
@@ -201,8 +201,8 @@ fn tell_read(
 
 // Prints the text for an answer.
 fn tell(rt: &HostRuntime, t: Taken, w: Want, number: u32, detail: u64, house: House, memory: &[u32])
-    requires fact_1 { Told either_file (printed w) t (printed w (answered (verdict number detail) (world house memory.now))) }
-    requires fact_2 { Told either_file (refusal_of w) t (refusal_of w (answered (verdict number detail) (world house memory.now))) }
+    requires told { Told either_file (printed w) t (printed w (answered (verdict number detail) (world house memory.now))) }
+    requires refusal_told { Told either_file (refusal_of w) t (refusal_of w (answered (verdict number detail) (world house memory.now))) }
 {
     if number != 0 {
         tell_refusal(rt, t, w, number, detail);

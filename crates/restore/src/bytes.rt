@@ -91,10 +91,10 @@ pub(crate) fn wrong(r: Reader) -> Reader
 
 // Behind a head that is right: the bytes from one on, as many as the record wants and the piece has.
 fn take_rest(r: Reader, size: u32, piece: &[u8], from: usize, held: &mut [u8]) -> Steps
-    requires fact_1 { r.held < 6 + size }
-    requires fact_2 { size ≤ 4100 }
-    requires fact_3 { length held.old ≡ 4106 }
-    requires fact_4 { from ≤ length piece.now }
+    requires held_bound { r.held < 6 + size }
+    requires size_bound { size ≤ 4100 }
+    requires held_length { length held.old ≡ 4106 }
+    requires piece_room { from ≤ length piece.now }
     ensures { Rested r size piece.now from held.old (reader_of result.step) (is_whole result.step) result.next held.new }
 {
     let at = wide(r.held);
@@ -121,9 +121,9 @@ pub(crate) fn take_some(
     count: u32,
     words: u32,
 ) -> Steps
-    requires fact_1 { r.held ≤ 4105 }
-    requires fact_2 { length held.old ≡ 4106 }
-    requires fact_3 { from < length piece.now }
+    requires held_bound { r.held ≤ 4105 }
+    requires held_length { length held.old ≡ 4106 }
+    requires piece_room { from < length piece.now }
     ensures piece_after { (h : House) (m : List ℕ) → h.count ≡ count → h.words ≡ words → fed (stepped (reader_of result.step) (is_whole result.step) h held.new m) (drop result.next piece.now) ≡ fed (reading_at r h held.old m) (drop from piece.now) }
     ensures stepped_to { SteppedTo (reader_of result.step) (is_whole result.step) count words held.new × (from < result.next) × (result.next ≤ length piece.now) }
     ensures kept { Kept r (reader_of result.step) }

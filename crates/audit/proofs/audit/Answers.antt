@@ -16,4 +16,4 @@ pub slice_bounds-tell-end : goal.slice_bounds-tell-end
 slice_bounds-tell-end c = sym (length-take-le _ _ c.read_file-x.ensures.words_in_bounds)
 
 pub tell-requires : goal.tell-requires
-tell-requires c = record { fact_1 = told_answer either_file printed c.read_file-x.result _ c.read_file-x.ensures.handed (sym c.failed.ensures ∙ c.if-failed.false); fact_2 = told_answer either_file named c.read_file-x.result _ c.read_file-x.ensures.handed (sym c.failed.ensures ∙ c.if-failed.false) }
+tell-requires c = record { told = told_answer either_file printed c.read_file-x.result _ c.read_file-x.ensures.handed (sym c.failed.ensures ∙ c.if-failed.false); named_told = told_answer either_file named c.read_file-x.result _ c.read_file-x.ensures.handed (sym c.failed.ensures ∙ c.if-failed.false) }

@@ -5,7 +5,7 @@ use Rattle.night_run.specs.Ran.{either_file, Told}
 use Rattle.audit.proofs.tell.Goals as goal
 
 pub show-requires : goal.show-requires
-show-requires c = subst (Told either_file printed c.args.t) (sym (put_there _ _ _ _ c.text_of-n.ensures.out_after)) c.requires.fact_1
+show-requires c = subst (Told either_file printed c.args.t) (sym (put_there _ _ _ _ c.text_of-n.ensures.out_after)) c.requires.told
 
 pub name_first-requires : goal.name_first-requires
-name_first-requires c = c.requires.fact_2
+name_first-requires c = c.requires.named_told

@@ -5,7 +5,7 @@ use Rattle.readout.proofs.Texts.{text_refused, text_told, text_done, text_read}
 use Rattle.readout.proofs.tell.Goals as goal
 
 pub tell_refusal-requires : goal.tell_refusal-requires
-tell_refusal-requires c = let a = c.args in record { fact_1 = subst (Told either_file (printed a.w) a.t) (sym (text_refused a.w _ _ _ c.if-number-ne0.true)) c.requires.fact_1; fact_2 = subst (Told either_file (refusal_of a.w) a.t) (sym (text_told a.w _ _ _ c.if-number-ne0.true)) c.requires.fact_2 }
+tell_refusal-requires c = let a = c.args in record { told = subst (Told either_file (printed a.w) a.t) (sym (text_refused a.w _ _ _ c.if-number-ne0.true)) c.requires.told; refusal_told = subst (Told either_file (refusal_of a.w) a.t) (sym (text_told a.w _ _ _ c.if-number-ne0.true)) c.requires.refusal_told }
 
 pub tell_read-requires : goal.tell_read-requires
-tell_read-requires c = let a = c.args in record { fact_1 = subst (Told either_file (printed a.w) a.t) (sym (text_done a.w _ _ _ c.if-number-ne0.false)) c.requires.fact_1; fact_2 = subst (Told either_file (refusal_of a.w) a.t) (sym (text_read a.w _ _ _ c.if-number-ne0.false)) c.requires.fact_2 }
+tell_read-requires c = let a = c.args in record { told = subst (Told either_file (printed a.w) a.t) (sym (text_done a.w _ _ _ c.if-number-ne0.false)) c.requires.told; refusal_told = subst (Told either_file (refusal_of a.w) a.t) (sym (text_read a.w _ _ _ c.if-number-ne0.false)) c.requires.refusal_told }
