@@ -11,6 +11,7 @@ ghost use Rattle.housefile.specs.Reader.{no_record, no_reader, read, further, sp
 use dlx::words::wide;
 
 // The record at hand: how many of its bytes have come, its body length, its kind, the frame number in front of a kind 3, and the last four bytes.
+// Kinds are numbers here, not an enum: a file may hold any, and `feed` answers for a reader with any.
 #[derive(Clone, Copy)]
 pub struct Record {
     pub bytes: u32,
