@@ -5,8 +5,8 @@ ghost use Rattle.housefile.specs.Records.{number, words_of, size, kind};
 ghost use Rattle.save.specs.Reading.{may_come, fed};
 ghost use Rattle.restore.specs.Standing.{held_to, wrong_at, progress_at, reading_at, reader_of, is_whole, stepped, SteppedTo, Rested, Kept};
 
+use crate::Reader;
 use crate::records::Kind;
-use crate::{Reader, Stage};
 use dlx::words::wide;
 
 // A reader whose record at hand is whole, and still to be settled, or is not.
@@ -48,7 +48,7 @@ fn may_come(r: Reader, count: u32, words: u32, kind: u32, size: u32) -> bool
     let Some(kind) = Kind::of(kind) else {
         return false;
     };
-    if r.stage == Stage::Start {
+    if !r.opened {
         return kind == Kind::Turn && size == 16;
     }
     match kind {
@@ -135,7 +135,7 @@ pub(crate) fn take_some(
             next,
         };
     }
-    if r.stage == Stage::Ended {
+    if r.ended {
         return Steps {
             step: Step::Open(wrong(r)),
             next,
