@@ -7,7 +7,7 @@ mod reading;
 mod saving;
 mod told;
 
-ghost use Rattle.std.specs.Prelude.{◌≡◌, ◌<◌, ◌≤◌, length};
+ghost use Rattle.std.specs.Prelude.{◌≡◌, ◌≤◌, length};
 ghost use Rattle.drill.specs.Goes.{Goes};
 
 use command::{asks_help, fail, wrong};

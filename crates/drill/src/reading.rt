@@ -1,5 +1,5 @@
 // Where the script is read, and the commands of the memory on the way.
-ghost use Rattle.std.specs.Prelude.{◌≡◌, ◌+◌, ◌-◌, ◌≤◌, length};
+ghost use Rattle.std.specs.Prelude.{◌≡◌, ◌≤◌, length};
 ghost use Rattle.drill.specs.Fit.{Stands};
 ghost use Rattle.drill.specs.Player.{lent_of, changed_of};
 
