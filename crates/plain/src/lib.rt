@@ -41,6 +41,7 @@ pub fn seen(frames: &[u32], shadow: &[u32], pages: u32, user: bool, a: u32) -> u
 }
 
 // The frame that holds the table, or a number that is no frame's.
+// Not an Option: each store is compared with it, and a step on words costs 33.0 instructions with one, and not 32.5 (docs/SPEED.md).
 pub fn held(frames: &[u32], pages: u32, t: Table) -> u32
     requires { Listed frames.now pages }
     ensures { result ≡ held_of frames.now pages t }
