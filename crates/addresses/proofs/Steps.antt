@@ -4,12 +4,11 @@ use mathlib.Core.List.{List}
 use Prim.Native.Nat.{ℕ}
 use lib.ListN.{length}
 use Rattle.dlx.specs.Fields.{aligned, placed}
-use Rattle.dlx.specs.Machine.{Core, fetched, accessed, retabled, step}
+use Rattle.dlx.specs.Machine.{Reply, Core, fetched, accessed, retabled, step}
 use Rattle.dlx.specs.declared.execute.Change.{Change}
 use Rattle.dlx.specs.declared.execute.Change.TheVariants.{Plain, Special, Retable, Cause, Return}
 use Rattle.dlx.specs.declared.execute.Effect.{Effect}
 use Rattle.dlx.specs.declared.execute.Effect.TheVariants.{Done, Load, Store, Send, Take}
-use Rattle.dlx.specs.declared.execute.Reply.{Reply}
 use Rattle.dlx.proofs.Kept.{either}
 use Rattle.addresses.specs.Memory.{Host, host_memory}
 use Rattle.addresses.specs.Premises.{Shadowed}

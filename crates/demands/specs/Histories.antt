@@ -2,8 +2,7 @@
 use Rattle.std.specs.Prelude.{◌≡◌, Bool, true, not, ◌&&◌, List, [], ◌∷◌, ◌++◌, ℕ, zero, suc, ◌+◌, ◌*◌, ◌/◌, ◌%◌, eqb, ltb, length, get_or, replicate}
 use Rattle.dlx.specs.Choice.{when◌then◌else◌}
 use Rattle.dlx.specs.Processor.{fresh_processor, no_timer}
-use Rattle.dlx.specs.Machine.{Core, core, Request, asked, reply}
-use Rattle.dlx.specs.declared.execute.Reply.{Reply}
+use Rattle.dlx.specs.Machine.{Reply, Core, core, Request, asked, reply}
 use Rattle.addresses.specs.Memory.{Lone, lone, lone_memory, host_word}
 use Rattle.house.specs.Lists.{list_from}
 use Rattle.house.specs.House.{partition, pages_of, runs, registers_of, frames_of, queues_of}

@@ -5,11 +5,10 @@ use Prim.{Unit, tt}
 use Prim.Native.Nat.{ℕ, zero, suc, ◌<◌}
 use native.Mathlib.Omega.{arith}
 use lib.ListN.{length, get_or, length-append, get_or-append}
-use Rattle.dlx.specs.Machine.{Ops, Core, accessed, fetched, settled, retabled, step, steps, Request, nothing, sends, takes, request_of, asked, reply}
+use Rattle.dlx.specs.Machine.{Reply, Ops, Core, accessed, fetched, settled, retabled, step, steps, Request, nothing, sends, takes, request_of, asked, reply}
 use Rattle.dlx.specs.declared.execute.Change.{Change}
 use Rattle.dlx.specs.declared.execute.Effect.{Effect}
 use Rattle.dlx.specs.declared.execute.Effect.TheVariants.{Done, Load, Store, Send, Take}
-use Rattle.dlx.specs.declared.execute.Reply.{Reply}
 
 -- nothing is asked, which a send and a take are not
 abbrev Silent : Request → Type 0

@@ -20,7 +20,7 @@ use Rattle.dlx.specs.Interrupts.{unmasked, level_of, interrupted, returned, save
 use Rattle.dlx.specs.Timer.{ticked, raised}
 use Rattle.dlx.specs.Instructions.{instruction_of, register_type, part_type, Formed}
 use Rattle.dlx.specs.Execute.{reg, written, value_of, overflows_of, operated, reached, loads, stores, in_system, moved_to, trap_of, effect_of}
-use Rattle.dlx.specs.Machine.{Ops, Core, executed, failing, after_read, after_write, fetched, loaded, stored, accessed, received, left, handled, changed, settled, retabled, step, Request, nothing, sends, takes, request_of, asked}
+use Rattle.dlx.specs.Machine.{Reply, Ops, Core, executed, failing, after_read, after_write, fetched, loaded, stored, accessed, received, left, handled, changed, settled, retabled, step, Request, nothing, sends, takes, request_of, asked}
 use Rattle.dlx.specs.declared.partition.Table.{Table}
 use Rattle.dlx.specs.declared.partition.Processor.{Processor}
 use Rattle.dlx.specs.declared.partition.Timer.{Timer}
@@ -32,7 +32,6 @@ use Rattle.dlx.specs.declared.execute.Change.{Change}
 use Rattle.dlx.specs.declared.execute.Change.TheVariants.{Plain, Special, Retable, Cause, Return}
 use Rattle.dlx.specs.declared.execute.Effect.{Effect}
 use Rattle.dlx.specs.declared.execute.Effect.TheVariants.{Done, Load, Store, Send, Take}
-use Rattle.dlx.specs.declared.execute.Reply.{Reply}
 use Rattle.dlx.proofs.Fields.{field_lt, either_width, placed_word}
 
 -- a word

@@ -5,13 +5,12 @@ use Prim.Native.Nat.{ℕ, zero, suc}
 use Rattle.dlx.specs.Choice.{when◌then◌else◌}
 use Rattle.dlx.specs.Fields.{aligned, placed}
 use Rattle.dlx.specs.Processor.{user}
-use Rattle.dlx.specs.Machine.{Ops, Core, fetched, accessed, settled, retabled, step, steps, request_of, asked}
+use Rattle.dlx.specs.Machine.{Reply, Ops, Core, fetched, accessed, settled, retabled, step, steps, request_of, asked}
 use Rattle.dlx.specs.declared.partition.Table.{Table}
 use Rattle.dlx.specs.declared.execute.Change.{Change}
 use Rattle.dlx.specs.declared.execute.Change.TheVariants.{Plain, Special, Retable, Cause, Return}
 use Rattle.dlx.specs.declared.execute.Effect.{Effect}
 use Rattle.dlx.specs.declared.execute.Effect.TheVariants.{Done, Load, Store, Send, Take}
-use Rattle.dlx.specs.declared.execute.Reply.{Reply}
 
 module _ {S S' : Type 0} (R : S → S' → Type 0) where
   -- the same answer, and related memories

@@ -13,7 +13,7 @@ use Rattle.dlx.specs.Instructions.{instruction_of, Formed}
 use Rattle.dlx.specs.Processor.{user}
 use Rattle.dlx.specs.Interrupts.{unmasked}
 use Rattle.dlx.specs.Execute.{written, overflows_of, operated, reached, loads, stores, in_system, moved_to, trap_of, effect_of}
-use Rattle.dlx.specs.Machine.{Ops, Core, executed, after_read, after_write, fetched, loaded, stored, accessed, received, left, handled, changed, settled, step, Places, Asks}
+use Rattle.dlx.specs.Machine.{Reply, Ops, Core, executed, after_read, after_write, fetched, loaded, stored, accessed, received, left, handled, changed, settled, step, Places, Asks}
 use Rattle.dlx.specs.declared.partition.Table.{Table}
 use Rattle.dlx.specs.declared.partition.Processor.{Processor}
 use Rattle.dlx.specs.declared.partition.Timer.{Timer}
@@ -24,7 +24,6 @@ use Rattle.dlx.specs.declared.execute.Change.{Change}
 use Rattle.dlx.specs.declared.execute.Change.TheVariants.{Plain, Special, Retable, Cause, Return}
 use Rattle.dlx.specs.declared.execute.Effect.{Effect}
 use Rattle.dlx.specs.declared.execute.Effect.TheVariants.{Done, Load, Store, Send, Take}
-use Rattle.dlx.specs.declared.execute.Reply.{Reply}
 use Rattle.dlx.proofs.Kept.{either, instruction_formed}
 
 operated_places : (op : Operation) (d x y sr next : ℕ) → d < 32 → Asks (operated op d x y sr next)

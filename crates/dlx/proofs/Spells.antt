@@ -13,14 +13,13 @@ use Rattle.dlx.specs.Choice.{when◌then◌else◌}
 use Rattle.dlx.specs.Fields.{aligned, placed}
 use Rattle.dlx.specs.Processor.{user}
 use Rattle.dlx.specs.Timer.{ticked, raised}
-use Rattle.dlx.specs.Machine.{Ops, Core, Outcome, outcome, after_read, after_write, fetched, accessed, left, changed, settled, retabled, step, request_of, asked, Desk, Stretch, stretch_from, Places}
+use Rattle.dlx.specs.Machine.{Reply, Ops, Core, Outcome, outcome, after_read, after_write, fetched, accessed, left, changed, settled, retabled, step, request_of, asked, Desk, Stretch, stretch_from, Places}
 use Rattle.dlx.specs.Spells.{sunk, timed, plainly, passed, ended, Spell, spell, passed_at, spell_from, leg_at}
 use Rattle.dlx.specs.declared.partition.Timer.{Timer}
 use Rattle.dlx.specs.declared.execute.Change.{Change}
 use Rattle.dlx.specs.declared.execute.Change.TheVariants.{Plain, Special, Retable, Cause, Return}
 use Rattle.dlx.specs.declared.execute.Effect.{Effect}
 use Rattle.dlx.specs.declared.execute.Effect.TheVariants.{Done, Load, Store, Send, Take}
-use Rattle.dlx.specs.declared.execute.Reply.{Reply}
 use Rattle.dlx.proofs.Kept.{either}
 use Rattle.dlx.proofs.Places.{fetched_places, accessed_places, written_count, fetched_count, accessed_count}
 

@@ -6,8 +6,7 @@ use Rattle.dlx.specs.Choice.{when◌then◌else◌}
 use Rattle.dlx.specs.Processor.{fresh_processor, no_timer, fresh_of, with_special}
 use Rattle.dlx.specs.Interrupts.{level_of}
 use Rattle.dlx.specs.Execute.{reg}
-use Rattle.dlx.specs.Machine.{Ops, Core, core, Outcome, Request, nothing, sends, takes, asked, reply, Desk, step, steps, Stretch, stretch_from}
-use Rattle.dlx.specs.declared.execute.Reply.{Reply}
+use Rattle.dlx.specs.Machine.{Reply, Ops, Core, core, Outcome, Request, nothing, sends, takes, asked, reply, Desk, step, steps, Stretch, stretch_from}
 use Rattle.dlx.specs.declared.partition.Table.{Table}
 use Rattle.dlx.specs.declared.partition.Processor.{Processor}
 use Rattle.dlx.specs.declared.partition.Timer.{Timer}

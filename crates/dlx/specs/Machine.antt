@@ -15,7 +15,6 @@ use Rattle.dlx.specs.declared.execute.Change.{Change}
 use Rattle.dlx.specs.declared.execute.Change.TheVariants.{Plain, Special, Retable, Cause, Return}
 use Rattle.dlx.specs.declared.execute.Effect.{Effect}
 use Rattle.dlx.specs.declared.execute.Effect.TheVariants.{Done, Load, Store, Send, Take}
-use Rattle.dlx.specs.declared.execute.Reply.{Reply}
 
 -- ---- the memory
 
@@ -27,6 +26,13 @@ pub record Ops (S : Type 0) : Type 0 where
   pub read : S → Bool → ℕ → Result ℕ ℕ × S
   pub write : S → Bool → ℕ → (ℕ → ℕ) → Result (Unit {0}) ℕ × S
   pub retable : S → Table → S
+
+-- ---- what the house answers to a ticket sent or taken
+
+-- the code, 0 done, 1 full, 2 no such partition, 3 none waiting, as the guest sees it; and the ticket taken
+pub record Reply : Type 0 where
+  pub code : ℕ
+  pub ticket : ℕ
 
 -- ---- what a guest is beside its memory, and what a step makes of it
 

@@ -27,13 +27,6 @@ pub enum Effect {
     Take,
 }
 
-// What the house answers to a ticket sent or taken: 0 done, 1 full, 2 no such partition, 3 none waiting; and the ticket taken.
-#[derive(Clone, Copy)]
-pub struct Reply {
-    pub code: u32,
-    pub ticket: u32,
-}
-
 // A step's processor and timer, and whether the guest calls the hypervisor: a trap taken in system mode.
 #[derive(Clone, Copy)]
 pub struct Settled {

@@ -132,8 +132,8 @@ fn access(
             }
         }
         Effect::Send(v, to) => {
-            let reply = tickets::send(count, tickets, waiting, v, to);
-            Change::Plain(3, reply.code, next)
+            let code = receipt::send(count, tickets, waiting, v, to);
+            Change::Plain(3, code, next)
         }
         Effect::Take => {
             let code = receipt::receive(regs, i, tickets, waiting);

@@ -1,8 +1,7 @@
 -- The two engines compared, as statements about the definitions that the run calls' contracts cite. proofs/Promises.antt proves each.
 use Rattle.std.specs.Prelude.{◌≡◌, Bool, List, [], ◌∷◌, ◌++◌, ℕ, zero, suc, ◌+◌, ◌%◌, ◌^◌, ◌<◌, eqb, length, get_or}
 use Rattle.dlx.specs.Choice.{when◌then◌else◌}
-use Rattle.dlx.specs.Machine.{steps, reply}
-use Rattle.dlx.specs.declared.execute.Reply.{Reply}
+use Rattle.dlx.specs.Machine.{Reply, steps, reply}
 use Rattle.addresses.specs.Memory.{lone_memory}
 use Rattle.house.specs.Lists.{list_from}
 use Rattle.house.specs.House.{fresh_shadows, with_shadows, partition}

@@ -1,9 +1,8 @@
 -- Turns, and the host step.
 use Rattle.std.specs.Prelude.{Bool, false, ◌||◌, List, ℕ, zero, suc, ◌+◌, ◌-◌, ◌*◌, ◌%◌, ◌^◌, eqb, ltb, leb, get_or, set}
 use Rattle.dlx.specs.Choice.{when◌then◌else◌}
-use Rattle.dlx.specs.Machine.{Ops, Core, core, Outcome, Request, asked, step, Stretch}
+use Rattle.dlx.specs.Machine.{Reply, Ops, Core, core, Outcome, Request, asked, step, Stretch}
 use Rattle.dlx.specs.Processor.{with_processor, with_table, with_timer, with_counter, with_fault}
-use Rattle.dlx.specs.declared.execute.Reply.{Reply}
 use Rattle.dlx.specs.declared.partition.Partition.{Partition}
 use Rattle.dlx.specs.declared.partition.Table.{Table}
 use Rattle.addresses.specs.Walk.{entries}

@@ -8,8 +8,7 @@ use borrow.Author.Tests.{eqb-false, leb-false, ltb-true, ltb-false, eq-eqb, ne_e
 use lib.Dec.{eqb, ltb, leb}
 use lib.ListN.{length, get_or, set, take, drop, length-set, length-drop, length-append, get_or-append}
 use lib.Seq.{length-take-le, take-append-le, get_or-set_same, get_or-set_other, take-set-le, drop-set-lt, take-set-lt, drop-set-add, take-suc-set, get_or-drop, get_or-append-add, drop-append_seam}
-use Rattle.dlx.specs.Machine.{Request, nothing, sends, takes}
-use Rattle.dlx.specs.declared.execute.Reply.{Reply}
+use Rattle.dlx.specs.Machine.{Reply, Request, nothing, sends, takes}
 use Rattle.dlx.proofs.Kept.{either, get_or_set_elim, KeptReply, KeptRequest}
 use Rattle.dlx.proofs.Tests.{by_test, by_eq}
 use Rattle.dlx.specs.Parts.{inner}

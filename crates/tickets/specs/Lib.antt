@@ -1,2 +1,3 @@
 pub mod Queues
+pub mod Answers
 pub mod Examples

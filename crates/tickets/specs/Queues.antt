@@ -1,8 +1,7 @@
 -- Tickets: each partition has a queue of 32 places, the oldest in the first, unused places 0. Partition j's places stand at 32 * j.
 use Rattle.std.specs.Prelude.{◌≡◌, ◌&&◌, List, [], ◌∷◌, ◌++◌, ℕ, ◌+◌, ◌-◌, ◌*◌, ◌<◌, ◌≤◌, leb, eqb, length, get_or, set, take, drop}
 use Rattle.dlx.specs.Choice.{when◌then◌else◌}
-use Rattle.dlx.specs.Machine.{Request, nothing, sends, takes, reply, Desk}
-use Rattle.dlx.specs.declared.execute.Reply.{Reply}
+use Rattle.dlx.specs.Machine.{Reply, Request, nothing, sends, takes, reply, Desk}
 use Rattle.dlx.specs.Parts.{inner, outer}
 
 pub record Queues : Type 0 where

@@ -3,9 +3,28 @@
 
 ghost use Rattle.std.specs.Prelude.{◌≡◌, [], ◌∷◌, ◌++◌, ◌<◌, ◌≤◌, length, drop};
 ghost use Rattle.tickets.specs.Queues.{queues, sending, taking, Queued};
+ghost use Rattle.tickets.specs.Answers.{code_of, sent_reply, taken_reply};
 
-use dlx::execute::Reply;
 use dlx::words::wide;
+
+// Why a ticket is not sent.
+#[derive(Clone, Copy, PartialEq, Eq, Debug)]
+pub enum Unsent {
+    Full,
+    NoSuchPartition,
+}
+
+impl Unsent {
+    // The code that the guest sees.
+    pub fn code(self) -> u32
+        ensures { result ≡ code_of self }
+    {
+        match self {
+            Unsent::Full => 1,
+            Unsent::NoSuchPartition => 2,
+        }
+    }
+}
 
 // The places of a queue, each one on; the last becomes 0.
 fn shift(places: &mut [u32])
@@ -17,39 +36,45 @@ fn shift(places: &mut [u32])
 }
 
 // v sent to one of so many partitions.
-pub fn send(count: u32, tickets: &mut [u32], waiting: &mut [u32], v: u32, to: u32) -> Reply
+pub fn send(
+    count: u32,
+    tickets: &mut [u32],
+    waiting: &mut [u32],
+    v: u32,
+    to: u32,
+) -> Result<(), Unsent>
     requires queued { Queued (queues tickets.old waiting.old) }
     requires count_bound { count ≤ 8 }
-    ensures { (result, queues tickets.new waiting.new) ≡ sending count (queues tickets.old waiting.old) v to }
+    ensures { (sent_reply result, queues tickets.new waiting.new) ≡ sending count (queues tickets.old waiting.old) v to }
 {
     if to >= count {
-        return Reply { code: 2, ticket: 0 };
+        return Err(Unsent::NoSuchPartition);
     }
     let j = wide(to);
     let n = waiting[j];
     if n >= 32 {
-        return Reply { code: 1, ticket: 0 };
+        return Err(Unsent::Full);
     }
     tickets[j * 32 + wide(n)] = v;
     waiting[j] = n + 1;
-    Reply { code: 0, ticket: 0 }
+    Ok(())
 }
 
-// The oldest ticket taken by partition i.
-pub fn take(tickets: &mut [u32], waiting: &mut [u32], i: u32) -> Reply
+// The oldest ticket taken by partition i, if one waits.
+pub fn take(tickets: &mut [u32], waiting: &mut [u32], i: u32) -> Option<u32>
     requires queued { Queued (queues tickets.old waiting.old) }
     requires i_bound { i < 8 }
-    ensures { (result, queues tickets.new waiting.new) ≡ taking (queues tickets.old waiting.old) i }
+    ensures { (taken_reply result, queues tickets.new waiting.new) ≡ taking (queues tickets.old waiting.old) i }
 {
     let j = wide(i);
     let n = waiting[j];
     if n == 0 {
-        return Reply { code: 3, ticket: 0 };
+        return None;
     }
     let a = j * 32;
     let b = a + 32;
     let ticket = tickets[a];
     shift(&mut tickets[a..b]);
     waiting[j] = n - 1;
-    Reply { code: 0, ticket }
+    Some(ticket)
 }

@@ -8,9 +8,8 @@ use borrow.Author.Tests.{eq-eqb, ne_eqb}
 use lib.Dec.{eqb}
 use lib.ListN.{length, get_or, length-append}
 use Rattle.dlx.specs.Choice.{when◌then◌else◌}
-use Rattle.dlx.specs.Machine.{Core, step, steps}
+use Rattle.dlx.specs.Machine.{Reply, Core, step, steps}
 use Rattle.dlx.specs.declared.partition.Partition.{Partition}
-use Rattle.dlx.specs.declared.execute.Reply.{Reply}
 use Rattle.dlx.proofs.Feeds.{fed, steps_more}
 use Rattle.dlx.proofs.Kept.{either}
 use Rattle.addresses.specs.Memory.{Lone, lone_memory}

@@ -18,8 +18,7 @@ use Rattle.dlx.specs.Processor.{special_of, with_special, with_count}
 use Rattle.dlx.specs.Interrupts.{level_of, interrupted}
 use Rattle.dlx.specs.Timer.{ticked, raised}
 use Rattle.dlx.specs.Execute.{written, value_of, overflows_of, operated, reached, loads, stores, moved_to, trap_of, effect_of}
-use Rattle.dlx.specs.Machine.{executed, fetched, loaded, stored, accessed, received, after_read, after_write, left as left_by, handled, changed as changed_by, settled, retabled, step, steps, asked, request_of as effect_request, reply}
-use Rattle.dlx.specs.declared.execute.Reply.{Reply}
+use Rattle.dlx.specs.Machine.{Reply, executed, fetched, loaded, stored, accessed, received, after_read, after_write, left as left_by, handled, changed as changed_by, settled, retabled, step, steps, asked, request_of as effect_request, reply}
 use Rattle.addresses.specs.Entries.{entry_of, judged}
 use Rattle.addresses.specs.Walk.{entries, walked, direct}
 use Rattle.addresses.specs.Memory.{lone_memory, lone_found, lone_read, hosted, given, filled, looked, served, host_read, emptied, host_written, host_reads, host_writes, stale}

@@ -18,8 +18,8 @@ unfolding accessed stored loaded after_read after_write request_of desk
 returns-in-Ok-store c = λ _. simp (c.in-Store.is, ← c.store.ensures, c.in-Ok-store.is, c.wrapping_add_u32-next.ensures.value)
 
 -- src/lib.rt:126:17
-pub send-reply-requires : goal.send-reply-requires
-send-reply-requires c = record { queued = c.requires.seated.queued; count_bound = c.requires.seated.few }
+pub send-code-requires : goal.send-code-requires
+send-code-requires c = record { queued = c.requires.seated.queued; count_bound = c.requires.seated.few }
 
 -- src/lib.rt:130:17
 pub receive-code-requires : goal.receive-code-requires
@@ -47,7 +47,7 @@ returns-in-Err-store c = λ _. simp (c.in-Store.is, ← c.store.ensures, c.in-Er
 -- src/lib.rt:81:1
 pub returns-in-Send : goal.returns-in-Send
 unfolding accessed stored loaded after_read after_write request_of desk
-returns-in-Send c = λ _. simp (c.in-Send.is, ← c.send-reply.ensures, c.wrapping_add_u32-next.ensures.value)
+returns-in-Send c = λ _. simp (c.in-Send.is, ap (λ (g : ℕ × Queues). g.0) c.send-code.ensures, ap (λ (g : ℕ × Queues). g.1) c.send-code.ensures, c.wrapping_add_u32-next.ensures.value)
 
 -- src/lib.rt:81:1
 pub returns-in-Take : goal.returns-in-Take

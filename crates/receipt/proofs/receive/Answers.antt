@@ -1,18 +1,17 @@
 use Rattle.dlx.specs.Machine.{received}
 use native.Mathlib.Omega.{arith}
-use borrow.Author.Tests.{eq-eqb, ne_eqb}
 use Rattle.receipt.proofs.receive.Goals as goal
 
-pub take-reply-requires : goal.take-reply-requires
-take-reply-requires c = record { queued = c.requires.queued; i_bound = c.requires.i_bound }
+pub take-requires : goal.take-requires
+take-requires c = record { queued = c.requires.queued; i_bound = c.requires.i_bound }
 
 pub write-requires : goal.write-requires
 write-requires c = omega (arith, c.requires.regs_length)
 
-pub returns-then-reply-eq0 : goal.returns-then-reply-eq0
+pub returns-in-Some : goal.returns-in-Some
 unfolding received
-returns-then-reply-eq0 c = simp (← c.take-reply.ensures, eq-eqb _ _ c.if-reply-eq0.true, c.write.ensures)
+returns-in-Some c = simp (← c.take.ensures, c.in-Some.is, c.write.ensures)
 
-pub returns : goal.returns
+pub returns-in-None : goal.returns-in-None
 unfolding received
-returns c = simp (← c.take-reply.ensures, ne_eqb _ _ c.if-reply-eq0.false)
+returns-in-None c = simp (← c.take.ensures, c.in-None.is)
