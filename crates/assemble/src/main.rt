@@ -1,9 +1,8 @@
 // assemble FILE: reads lines, and writes the words that they are, raw, four bytes each, the lowest first; or nothing, and `refused: N D` on standard error.
 #![tactic(auto)]
 
-use command::{asks_help, fail, open, wrong};
-use files::{print, word};
-use texts::turn;
+use files::print;
+use texts::run;
 
 fn help(rt: &HostRuntime) {
     let _ = print(
@@ -16,29 +15,6 @@ fn help(rt: &HostRuntime) {
     );
 }
 
-// Opens the file and goes on.
-fn open_and_turn(rt: &HostRuntime, path: &[u8]) {
-    match open(rt, path) {
-        Ok(mut source) => turn(rt, false, &mut source, path),
-        Err(why) => fail(rt, path, why),
-    }
-}
-
 fn main(rt: HostRuntime) {
-    let mut path = files::buffer();
-    let length = word(&rt, 1, &mut path);
-    if asks_help(&path[..length]) {
-        help(&rt);
-        return;
-    }
-    let given = files::words(&rt);
-    if given < 2 {
-        wrong(&rt, b"FILE", b"fewer words");
-        return;
-    }
-    if given > 2 {
-        wrong(&rt, b"FILE", b"more words");
-        return;
-    }
-    open_and_turn(&rt, &path[..length]);
+    run(&rt, false, help);
 }

@@ -2,11 +2,10 @@
 use mathlib.Core.Path.{◌≡◌, refl, sym, ap, ◌∙◌}
 use mathlib.Core.Bool.{Bool, true, false}
 use mathlib.Core.List.{List, [], ◌∷◌, ◌++◌}
-use Prim.Native.Nat.{ℕ, ◌+◌, ◌*◌, ◌/◌, ◌%◌, ◌^◌, ◌<◌, ◌≤◌}
-use native.Mathlib.Nat.{div-le_self, mul-le-mul_right, mod-lt}
+use Prim.Native.Nat.{ℕ, ◌+◌, ◌*◌, ◌%◌, ◌^◌, ◌<◌, ◌≤◌}
+use native.Mathlib.Nat.{mul-le-mul_right, mod-lt}
 use native.Mathlib.Omega.{arith}
 use borrow.Author.Tests.{le-leb, lt-leb}
-use lib.Dec.{ltb}
 use lib.ListN.{length, take, drop, length-append}
 use lib.Seq.{take_at}
 use Rattle.std.specs.List.{fold}
@@ -18,7 +17,7 @@ use Rattle.lines.specs.declared.Style.TheVariants.{Absent, Number, Register, Sig
 use Rattle.lines.specs.declared.Kind.{Kind}
 use Rattle.lines.specs.declared.Operand.{Operand}
 use Rattle.lines.specs.Table.{operand_at, Row, named, unnamed, row_at}
-use Rattle.lines.specs.Lines.{written, field_of, operand_text, text_by, code_of, bare_of, placed, made, remade, within, fits, coded, place_of, line_of, scanned, scan_from, start, lettered, last_of, candidate_by, candidate, right}
+use Rattle.lines.specs.Lines.{written, field_of, operand_text, text_by, code_of, placed, made, fits, coded, place_of, line_of, scanned, scan_from, start, lettered, last_of, candidate_by, candidate, right}
 use Rattle.lines.specs.declared.Scan.{Scan}
 use Rattle.lines.proofs.Tables.{size_some, field_word}
 use Rattle.lines.proofs.Lines.{field_below, line_short}
@@ -26,16 +25,6 @@ use Rattle.lines.proofs.Lines.{field_below, line_short}
 -- ---- fields
 
 module _ (o : Operand) (k : Kind) (w : ℕ) (is : o ≡ operand_at k) where
-  pub from_is : w < 2 ^ 32 → (w / o.scale ≡ w / (operand_at k).scale) × (w / o.scale < 2 ^ 32)
-  from_is l = (ap (λ (x : Operand). w / x.scale) is, omega (arith, div-le_self w o.scale))
-
-  pub field_is : (f : ℕ) → f ≡ w / (operand_at k).scale → f % o.size ≡ field_of (operand_at k) w
-  field_is f e = rw (e, is)
-
-  pub within_is : (f : ℕ) → f ≡ field_of (operand_at k) w → ltb f o.limit ≡ within k w
-  unfolding within
-  within_is f e = rw (e, is)
-
   pub field_under : (v : ℕ) → v ≡ field_of (operand_at k) w → v < o.size
   field_under v e = rw (e, is) (field_below k w)
 
@@ -50,16 +39,6 @@ placed_is o k v is =
     le_of_lt l = omega arith
 
 -- ---- rows
-
-module _ (r : Row) (x y z : ℕ) {b p q s : ℕ} where
-  pub made_is : b ≡ bare_of r.code → p ≡ placed (operand_at r.first) x → q ≡ placed (operand_at r.second) y → s ≡ placed (operand_at r.third) z → (b + p + q + s) % 2 ^ 32 ≡ made r x y z
-  unfolding made
-  made_is e1 e2 e3 e4 = rw (e1, e2, e3, e4)
-
-module _ (r : Row) (w : ℕ) {x y z m : ℕ} where
-  pub remade_by : x ≡ w / (operand_at r.first).scale → y ≡ w / (operand_at r.second).scale → z ≡ w / (operand_at r.third).scale → m ≡ made r x y z → m ≡ remade r w
-  unfolding remade
-  remade_by e1 e2 e3 e = rw (e, e1, e2, e3)
 
 module _ (w : ℕ) {r : Row} {code : ℕ} (e : r ≡ row_at (coded code)) (q : code ≡ code_of w) where
   pub place_named : fits r w ≡ true → r ≡ row_at (place_of w)

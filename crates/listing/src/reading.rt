@@ -29,40 +29,27 @@ fn with_digit(s: Scan, b: u8) -> Scan
 }
 
 // With one byte more.
+#[tactic(auto, unfolding(lines::specs::Lines::scanned))]
 fn with_byte(s: Scan, b: u8) -> Scan
     ensures { result ≡ scanned s b }
 {
-    if b == 32 {
-        return Scan {
+    match b {
+        b' ' => Scan {
             first: s.second,
             second: s.third,
             third: 0,
             ..s
-        };
+        },
+        b'-' => Scan { minus: true, ..s },
+        b'0'..=b'9' => with_digit(s, b),
+        _ => with_letter(s, b),
     }
-    if b == 45 {
-        return Scan { minus: true, ..s };
-    }
-    if b < 48 {
-        return with_letter(s, b);
-    }
-    if b > 57 {
-        return with_letter(s, b);
-    }
-    with_digit(s, b)
 }
 
 fn scan_of(line: &[u8]) -> Scan
     ensures { result ≡ fold scanned start line.now }
 {
-    let start = Scan {
-        letters: 0,
-        minus: false,
-        first: 0,
-        second: 0,
-        third: 0,
-    };
-    line.iter().fold(start, |s, b| with_byte(s, *b))
+    line.iter().fold(Scan::default(), |s, b| with_byte(s, *b))
 }
 
 // The last number, with its sign.

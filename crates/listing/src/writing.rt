@@ -29,6 +29,7 @@ fn field(kind: Kind, w: u32) -> u64
     from_field(kind, w) % o.size
 }
 
+#[tactic(auto, unfolding(lines::specs::Lines::within))]
 fn within(kind: Kind, w: u32) -> bool
     ensures { result ≡ within kind w }
 {
@@ -46,6 +47,7 @@ fn placed(kind: Kind, v: u64) -> u64
 
 // ---- rows
 
+#[tactic(auto, unfolding(lines::specs::Lines::code_of))]
 fn code_in(w: u32) -> u32
     ensures { result ≡ code_of w }
 {
@@ -55,6 +57,7 @@ fn code_in(w: u32) -> u32
     w / 67108864 * 64
 }
 
+#[tactic(auto, unfolding(lines::specs::Lines::bare_of))]
 fn bare(code: u32) -> u64
     ensures { (result ≡ bare_of code) × (result < 2 ^ 53) }
 {
@@ -62,6 +65,7 @@ fn bare(code: u32) -> u64
 }
 
 // The word of a row with these operands.
+#[tactic(auto, unfolding(lines::specs::Lines::made))]
 pub(crate) fn made(row: Row, x: u64, y: u64, z: u64) -> u32
     ensures { result ≡ made (as_row row) x y z }
 {
@@ -69,6 +73,7 @@ pub(crate) fn made(row: Row, x: u64, y: u64, z: u64) -> u32
     (sum % 4294967296) as u32
 }
 
+#[tactic(auto, unfolding(lines::specs::Lines::remade))]
 fn remade(row: Row, w: u32) -> u32
     ensures { result ≡ remade (as_row row) w }
 {
@@ -78,6 +83,7 @@ fn remade(row: Row, w: u32) -> u32
     made(row, x, y, z)
 }
 
+#[tactic(auto, unfolding(lines::specs::Lines::fits))]
 fn fits(row: Row, w: u32) -> bool
     ensures { result ≡ fits (as_row row) w }
 {

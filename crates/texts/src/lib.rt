@@ -10,7 +10,7 @@ ghost use Rattle.decimal.specs.Raw.{raw};
 ghost use Rattle.decimal.specs.Texts.{text, put};
 ghost use Rattle.texts.specs.Reading.{no_words, held, Fits, Whole, Told};
 
-use command::{fail, put_out};
+use command::{asks_help, fail, open, put_out, wrong};
 use decimal::put_raw;
 use files::{Source, count, say, say_number};
 use reading::{At, fed, finished};
@@ -132,5 +132,31 @@ pub fn turn(rt: &HostRuntime, decimals: bool, source: &mut Source, name: &[u8]) 
     match read_text(decimals, source, &mut line, &mut words) {
         Some(at) => answer(rt, decimals, at, &line, &words),
         None => fail(rt, name, source.why()),
+    }
+}
+
+// The whole of a program that turns the FILE that it is given; `help` is its help text.
+pub fn run<H: Fn(&HostRuntime)>(rt: &HostRuntime, decimals: bool, help: H)
+    requires { H.pre help rt }
+{
+    let mut word = files::buffer();
+    let length = files::word(rt, 1, &mut word);
+    let path = &word[..length];
+    if asks_help(path) {
+        help(rt);
+        return;
+    }
+    let given = files::words(rt);
+    if given < 2 {
+        wrong(rt, b"FILE", b"fewer words");
+        return;
+    }
+    if given > 2 {
+        wrong(rt, b"FILE", b"more words");
+        return;
+    }
+    match open(rt, path) {
+        Ok(mut source) => turn(rt, decimals, &mut source, path),
+        Err(why) => fail(rt, path, why),
     }
 }
