@@ -63,3 +63,7 @@ unfolding took_word
 took_as a pages frames table word n b e w v i t =
     ap (λ (x : Awaits). took_next x v a (going (Some a) pages frames table) n word) (sym i)
     ∙ ap (λ (x : Bool). took_next a.awaits x a (going (Some a) pages frames table) n word) (sym t ∙ e)
+
+pub took_wrong : (a : Option Asked) (pages frames table word : List ℕ) (n : ℕ) → a ≡ None → going None pages frames table ≡ took_word (going a pages frames table) n word
+unfolding took_word
+took_wrong a pages frames table word n e = ap (λ (x : Option Asked). took_word (going x pages frames table) n word) (sym e)

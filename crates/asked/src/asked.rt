@@ -66,8 +66,8 @@ fn imaged(a: Asked, n: u32, word: &[u8], table: &mut [u32]) -> Option<Asked>
     })
 }
 
-// One word more, word n; none where it is wrong.
-pub fn took_word(
+// One word more, word n, where none was wrong yet.
+fn took_next(
     a: Asked,
     n: u32,
     word: &[u8],
@@ -102,4 +102,18 @@ pub fn took_word(
             }
         }
     }
+}
+
+// One word more, word n; none where it is wrong, or one before it was.
+pub fn took_word(
+    a: Option<Asked>,
+    n: u32,
+    word: &[u8],
+    pages: &mut [u32],
+    frames: &mut [u32],
+    table: &mut [u32],
+) -> Option<Asked>
+    ensures { going result pages.new frames.new table.new ≡ took_word (going a pages.old frames.old table.old) n word.now }
+{
+    took_next(a?, n, word, pages, frames, table)
 }

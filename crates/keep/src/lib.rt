@@ -22,14 +22,14 @@ fn put_part(
     requires { Part (world house memory.now) w.bytes piece.now }
     ensures { IfSome result (λ x. x.bytes ≡ w.bytes + length piece.now) }
 {
-    put(rt, w, path, piece)
+    put(rt, Some(w), path, piece)
 }
 
 // The file takes its name: all bytes of the file of this house and memory are written.
 fn close(rt: &HostRuntime, w: Writing, house: House, memory: &[u32], path: &[u8]) -> bool
     requires { Whole (world house memory.now) w }
 {
-    end(rt, w, path)
+    end(rt, Some(w), path)
 }
 
 // Writes the pieces, one after the other. Where one cannot be saved or written, why is told, and the file goes away.

@@ -65,13 +65,9 @@ fn put_file(
 ) -> bool
     requires { (Made q run pages.now frames.now table.now memory.now images) × (bytes.now ≡ contents_file (file q run pages.now frames.now memory.now)) }
 {
-    let Some(begun) = begin(rt, path) else {
-        return false;
-    };
-    match put(rt, begun, path, bytes) {
-        Some(w) => end(rt, w, path),
-        None => false,
-    }
+    let w = begin(rt, path);
+    let x = put(rt, w, path, bytes);
+    end(rt, x, path)
 }
 
 fn write_file(

@@ -45,7 +45,7 @@ fn ask_next(
             return None;
         }
     };
-    let next = took_word(a, i, &word[..n], pages, frames, table);
+    let next = took_word(Some(a), i, &word[..n], pages, frames, table);
     if next.is_none() {
         tell_word(rt, a, &word[..n]);
     }

@@ -2,7 +2,7 @@
 // file of that name stays as it was.
 #![tactic(auto)]
 
-ghost use Rattle.std.specs.Prelude.{◌≡◌, ◌+◌, ◌≤◌, IfSome, length, take};
+ghost use Rattle.std.specs.Prelude.{◌≡◌, ◌+◌, ◌≤◌, IfSome, IsSomeAnd, length, take};
 ghost use Rattle.files.specs.Counts.{IsPrefixLen};
 ghost use Rattle.written.specs.Names.{beside};
 
@@ -105,10 +105,10 @@ pub fn discard(rt: &HostRuntime, w: Writing, path: &[u8]) {
 }
 
 // Writes a piece behind the others. Where that cannot be, why is told, and the file goes away.
-pub fn put(rt: &HostRuntime, w: Writing, path: &[u8], piece: &[u8]) -> Option<Writing>
-    ensures { IfSome result (λ x. x.bytes ≡ w.bytes + length piece.now) }
+pub fn put(rt: &HostRuntime, w: Option<Writing>, path: &[u8], piece: &[u8]) -> Option<Writing>
+    ensures { IfSome result (λ x. IsSomeAnd w (λ before. x.bytes ≡ before.bytes + length piece.now)) }
 {
-    let mut w = w;
+    let mut w = w?;
     if let Some(bytes) = w.bytes.checked_add(piece.len() as u64) {
         if done(rt, path, w.file.write(piece)) {
             return Some(Writing {
@@ -168,7 +168,10 @@ fn named(rt: &HostRuntime, w: &Writing, path: &[u8], name: &[u8]) -> bool {
 }
 
 // Ends the writing: the file takes its name, or goes away where anything went wrong. Answers whether the new one is there and will last.
-pub fn end(rt: &HostRuntime, w: Writing, path: &[u8]) -> bool {
+pub fn end(rt: &HostRuntime, w: Option<Writing>, path: &[u8]) -> bool {
+    let Some(w) = w else {
+        return false;
+    };
     if path.len() > 4091 {
         return false;
     }
