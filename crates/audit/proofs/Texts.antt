@@ -1,43 +1,52 @@
 -- Which text an answer gives.
 use mathlib.Core.Path.{◌≡◌, refl, sym, ap, ◌∙◌}
-use mathlib.Core.Bool.{true}
+use mathlib.Core.Bool.{true, true≢false}
+use mathlib.Core.List.{List}
 use Prim.Native.Nat.{ℕ, ◌≤◌}
-use borrow.Author.Tests.{eq-eqb, ne_eqb}
+use borrow.Author.Tests.{eq-eqb}
+use lib.ListN.{replicate}
+use Rattle.dlx.proofs.Tests.{by_eq}
 use Rattle.house.specs.Boot.{verdict}
 use Rattle.house.specs.Turns.{World}
 use Rattle.house.specs.Calls.{answered}
+use Rattle.house.specs.Refusals.{refusal}
+use Rattle.house.specs.declared.refusal.Refusal.{Refusal}
+use Rattle.house.proofs.Refusals.{not_0}
 use Rattle.house.proofs.Damage.Undamaged.{count_within}
-use Rattle.dlx.proofs.Tests.{by_eq}
-use Rattle.report.specs.Report.{refused_text}
-use Rattle.staleness.specs.Audit.{audit_verdict, audit_call, counts_call}
-use Rattle.staleness.specs.declared.Counts.{Counts}
-use Rattle.staleness.specs.declared.Finding.{Finding}
-use Rattle.staleness.proofs.Verdicts.{audit_done, counts_refused}
+use Rattle.report.specs.Report.{refusal as refusal_text}
+use Rattle.staleness.specs.Audit.{audit_verdict, finding, audit_call, Counts, counts, counts_call}
+use Rattle.staleness.specs.declared.Stale.{Stale}
+use Rattle.staleness.proofs.Verdicts.{audit_done, counts_refused, counts_found, no_detail}
 use Rattle.audit.specs.Printed.{lines_to, audited, printed, first_line, first_text, named}
 
 -- ---- the text of an answer
 
-module _ (n d : ℕ) (w : World) where
-  pub text_refused : (n ≡ 0 → ⊥) → refused_text n d ≡ printed (answered (verdict n d) w)
-  unfolding printed
-  text_refused z = rw (ne_eqb n 0 z)
+pub text_refused : (r : Refusal) (w : World) → refusal_text (refusal r) ≡ printed (answered (refusal r) w)
+unfolding printed
+text_refused r w = rw (not_0 r) refl
 
-  module _ (z : n ≡ 0) (c : Counts) (e : c ≡ counts_call w) where
-    pub text_unaudited : (c.number ≡ 0 → ⊥) → refused_text c.number 0 ≡ printed (answered (verdict n d) w)
-    unfolding printed audited
-    text_unaudited y = rw (eq-eqb n 0 z, ← e, ne_eqb c.number 0 y)
+module _ (d : ℕ) (w : World) where
+  refused_number : (r : Refusal) → counts (refusal r).number (replicate 8 0) ≡ counts_call w → (refusal r).number ≡ (audit_verdict w 0).number
+  refused_number r e =
+      by_eq (audit_verdict w 0).number 0
+      (λ y. absurd (true≢false (sym (eq-eqb (refusal r).number 0 (ap (λ (x : Counts). x.number) (e ∙ counts_found w _ refl y))) ∙ not_0 r)))
+      (λ y. ap (λ (x : Counts). x.number) (e ∙ counts_refused w _ refl y))
 
-    pub text_audited : c.number ≡ 0 → lines_to c.each w.house.count ≡ printed (answered (verdict n d) w)
-    unfolding printed audited
-    text_audited y = rw (eq-eqb n 0 z, ← e, eq-eqb c.number 0 y)
+  pub text_unaudited : (r : Refusal) → counts (refusal r).number (replicate 8 0) ≡ counts_call w → refusal_text (refusal r) ≡ printed (answered (verdict 0 d) w)
+  unfolding printed audited
+  text_unaudited r e = rw (← e, not_0 r, no_detail w r (refused_number r e)) refl
 
-  pub named_first : n ≡ 0 → (f : Finding) → f ≡ audit_call w → f.stale ≡ true → first_line f.partition f.page ≡ named (answered (verdict n d) w)
+  pub text_audited : (each : List ℕ) → counts 0 each ≡ counts_call w → lines_to each w.house.count ≡ printed (answered (verdict 0 d) w)
+  unfolding printed audited
+  text_audited each e = rw (← e) refl
+
+  pub named_first : (entry : Stale) → finding 0 true entry.partition entry.page ≡ audit_call w → first_line entry.partition entry.page ≡ named (answered (verdict 0 d) w)
   unfolding named first_text
-  named_first z f e s = rw (eq-eqb n 0 z, ← e, s)
+  named_first entry e = rw (← e) refl
 
 -- an audit that is done counted the entries of at most 8 partitions
-pub few : (w : World) (c : Counts) → c ≡ counts_call w → c.number ≡ 0 → w.house.count ≤ 8
-few w c e z =
+pub few : (w : World) (each : List ℕ) → counts 0 each ≡ counts_call w → w.house.count ≤ 8
+few w each e =
     by_eq (audit_verdict w 0).number 0
     (λ y. (count_within w.house (audit_done w 0 y).whole).1)
-    (λ y. absurd (y (ap (λ (x : Counts). x.number) (sym (counts_refused w _ refl y)) ∙ ap (λ (x : Counts). x.number) (sym e) ∙ z)))
+    (λ y. absurd (y (ap (λ (x : Counts). x.number) (sym (counts_refused w _ refl y) ∙ sym e))))

@@ -5,9 +5,7 @@ use Rattle.dlx.specs.Choice.{when◌then◌else◌}
 use Rattle.decimal.specs.Texts.{ascii, joined}
 use Rattle.house.specs.Calls.{Answered}
 use Rattle.report.specs.Report.{field, line, refused_text, refusal}
-use Rattle.staleness.specs.Audit.{audit_call, counts_call}
-use Rattle.staleness.specs.declared.Counts.{Counts}
-use Rattle.staleness.specs.declared.Finding.{Finding}
+use Rattle.staleness.specs.Audit.{Finding, audit_call, Counts, counts_call}
 
 -- `P COUNT` of the first n partitions
 abbrev pub lines_to : List ℕ → ℕ → List ℕ

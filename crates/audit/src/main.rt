@@ -3,11 +3,10 @@
 // that was saved, and runs nothing.
 #![tactic(auto)]
 
-ghost use Rattle.std.specs.Prelude.{◌≡◌, List, [], ◌∷◌, ◌++◌, ℕ, ◌≤◌, length, drop};
+ghost use Rattle.std.specs.Prelude.{◌≡◌, [], ◌∷◌, ◌≤◌};
 ghost use Rattle.decimal.specs.Texts.{Puts};
-ghost use Rattle.house.specs.Boot.{verdict};
-ghost use Rattle.house.specs.Turns.{world};
-ghost use Rattle.house.specs.Calls.{answered};
+ghost use Rattle.house.specs.declared.House.{House};
+ghost use Rattle.house.specs.Refusals.{answer_of};
 ghost use Rattle.report.specs.Put.{Counts, put};
 ghost use Rattle.report.specs.Report.{line};
 ghost use Rattle.night_run.specs.Ran.{either_file, Told};
@@ -17,10 +16,10 @@ use command::{asks_help, fail, open, put_out, wrong};
 use decimal::put_text;
 use dlx::words::wide;
 use files::{Source, is_not_given, print, say, try_word};
-use house::House;
+use house::Answer;
 use night_run::{Taken, WORDS, read_file};
 use report::{put_word, refused};
-use staleness::stale_counts;
+use staleness::{Stale, stale_counts};
 use std::io;
 
 // A partition's line, at most 22 bytes.
@@ -46,46 +45,45 @@ fn put_counts(out: &mut [u8], at: usize, each: [u32; 8], n: u32) -> usize
 // The same as a whole text. Answers its length.
 fn lines(each: [u32; 8], n: u32, out: &mut [u8; 1024]) -> usize
     requires { n ≤ 8 }
-    ensures value { (result ≡ length (lines_to each n)) × (out.new ≡ lines_to each n ++ drop (length (lines_to each n)) out.old) }
+    ensures value { (result, out.new) ≡ put (lines_to each n) out.old }
     ensures counts { Counts result out.new }
 {
     put_counts(out, 0, each, n)
 }
 
 // Puts the text for an answer at the buffer's start, and answers its length.
-fn text_of(number: u32, detail: u64, house: House, memory: &[u32], out: &mut [u8; 1024]) -> usize
-    ensures out_after { (result, out.new) ≡ put (printed (answered (verdict number detail) (world house memory.now))) out.old }
+fn text_of(answer: Answer, memory: &[u32], out: &mut [u8; 1024]) -> usize
+    ensures out_after { (given : House) → (result, out.new) ≡ put (printed (answer_of given answer memory.now)) out.old }
     ensures counts { Counts result out.new }
 {
-    if number != 0 {
-        return refused(number, detail, out);
+    let done = match answer {
+        Ok(done) => done,
+        Err(refusal) => return refused(refusal, out),
+    };
+    match stale_counts(done.house, memory) {
+        Ok(each) => lines(each, done.house.count, out),
+        Err(refusal) => refused(refusal, out),
     }
-    let c = stale_counts(house, memory);
-    if c.number != 0 {
-        return refused(c.number, 0, out);
-    }
-    let each = c.each;
-    lines(each, house.count, out)
 }
 
 // ---- the first stale entry
 
 // Its line, at most 57 bytes.
-fn put_first(out: &mut [u8], at: usize, i: u32, px: u32) -> usize
-    ensures { Puts out.old at out.new result (first_line i px) 57 }
+fn put_first(out: &mut [u8], at: usize, entry: Stale) -> usize
+    ensures { Puts out.old at out.new result (first_line entry.partition entry.page) 57 }
 {
     let first = put_text(out, at, b"first stale entry: partition ");
-    let second = put_word(out, first, i, b',');
+    let second = put_word(out, first, entry.partition, b',');
     let third = put_text(out, second, b" page ");
-    put_word(out, third, px, b'\n')
+    put_word(out, third, entry.page, b'\n')
 }
 
 // The same as a whole text. Answers its length.
-fn first_line(i: u32, px: u32, out: &mut [u8; 1024]) -> usize
-    ensures value { (result ≡ length (first_line i px)) × (out.new ≡ first_line i px ++ drop (length (first_line i px)) out.old) }
+fn first_line(entry: Stale, out: &mut [u8; 1024]) -> usize
+    ensures value { (result, out.new) ≡ put (first_line entry.partition entry.page) out.old }
     ensures counts { Counts result out.new }
 {
-    put_first(out, 0, i, px)
+    put_first(out, 0, entry)
 }
 
 // Says a text on standard error: the one that names the first stale entry of the file that was read.
@@ -96,19 +94,17 @@ fn say_first(rt: &HostRuntime, t: Taken, text: &[u8])
 }
 
 // Names the first stale entry, where there is one.
-fn name_first(rt: &HostRuntime, t: Taken, number: u32, detail: u64, house: House, memory: &[u32])
-    requires { Told either_file named t (named (answered (verdict number detail) (world house memory.now))) }
+fn name_first(rt: &HostRuntime, t: Taken, answer: Answer, memory: &[u32])
+    requires { (given : House) × Told either_file named t (named (answer_of given answer memory.now)) }
 {
-    if number != 0 {
+    let Ok(done) = answer else {
         return;
+    };
+    if let Ok(Some(entry)) = staleness::audit(done.house, memory) {
+        let mut out = [0u8; 1024];
+        let n = first_line(entry, &mut out);
+        say_first(rt, t, &out[..n]);
     }
-    let f = staleness::audit(house, memory);
-    if !f.stale {
-        return;
-    }
-    let mut out = [0u8; 1024];
-    let n = first_line(f.partition, f.page, &mut out);
-    say_first(rt, t, &out[..n]);
 }
 
 // ---- what is printed
@@ -121,28 +117,26 @@ fn show(rt: &HostRuntime, t: Taken, text: &[u8])
 }
 
 // Prints the text for the answer, and names the first stale entry.
-fn tell(rt: &HostRuntime, t: Taken, number: u32, detail: u64, house: House, memory: &[u32])
-    requires fact_1 { Told either_file printed t (printed (answered (verdict number detail) (world house memory.now))) }
-    requires fact_2 { Told either_file named t (named (answered (verdict number detail) (world house memory.now))) }
+fn tell(rt: &HostRuntime, t: Taken, answer: Answer, memory: &[u32])
+    requires fact_1 { (given : House) × Told either_file printed t (printed (answer_of given answer memory.now)) }
+    requires fact_2 { (given : House) × Told either_file named t (named (answer_of given answer memory.now)) }
 {
     let mut out = [0u8; 1024];
-    let n = text_of(number, detail, house, memory, &mut out);
+    let n = text_of(answer, memory, &mut out);
     show(rt, t, &out[..n]);
-    name_first(rt, t, number, detail, house, memory);
+    name_first(rt, t, answer, memory);
 }
 
 // Reads the source, runs it where it is a house file, audits it, and prints. A read that fails prints nothing and says why.
 fn audit(rt: &HostRuntime, source: &mut Source, name: &[u8]) {
     let mut memory = [0u32; WORDS];
     let x = read_file(source, &mut memory);
-    let taken = x.taken;
-    if taken.failed() {
+    if x.taken.failed() {
         fail(rt, name, source.why());
         return;
     }
-    let house = x.house;
     let n = x.words;
-    tell(rt, taken, x.number, x.detail, house, &memory[..n]);
+    tell(rt, x.taken, x.answer(), &memory[..n]);
 }
 
 fn help(rt: &HostRuntime) {

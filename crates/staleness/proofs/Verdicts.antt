@@ -1,11 +1,13 @@
 -- What the audit's verdict says, and what the calls answer by it.
-use mathlib.Core.Path.{◌≡◌, refl, sym, ap}
+use mathlib.Core.Path.{◌≡◌, refl, sym, ap, ◌∙◌}
 use mathlib.Core.List.{List}
-use mathlib.Core.Bool.{false}
+use mathlib.Core.Bool.{Bool, false, not, ◌||◌, true≢false}
 use Prim.Native.Nat.{ℕ}
 use native.Mathlib.Omega.{arith}
 use borrow.Author.Tests.{eqb-true, not-false, ne_eqb, eq-eqb}
+use lib.Dec.{eqb}
 use lib.ListN.{length, replicate}
+use Rattle.dlx.proofs.Kept.{either}
 use Rattle.house.specs.Damage.{damaged}
 use Rattle.house.specs.Boot.{Verdict, verdict, first_of}
 use Rattle.house.specs.Turns.{World, world}
@@ -13,6 +15,7 @@ use Rattle.house.specs.Sound.{Shaped}
 use Rattle.house.specs.Refusals.{refusal}
 use Rattle.house.specs.declared.House.{House}
 use Rattle.house.specs.declared.refusal.Refusal.{Refusal}
+use Rattle.house.specs.declared.refusal.Refusal.TheVariants.{PartitionCount, PageCount, TurnLength, MemorySize, ListLength, FrameOutside, FrameTwice, FrameKept, Damaged, OtherMemory, NoSuchPartition, NothingRuns, BeyondPages, ShortOutput, TooManySteps, WrongHouseFile, WrongSavedFile}
 use Rattle.house.proofs.Refusals.{not_0, leaves_given, leaves_done}
 use Rattle.hypervisor.proofs.Refusals.{Told_house, shaped}
 use Rattle.house.proofs.Calls.Verdicts.{passed}
@@ -60,6 +63,42 @@ module _ (w : World) (n : ℕ) (e : n ≡ (audit_verdict w 0).number) where
   pub counts_found : n ≡ 0 → counts_call w ≡ counts 0 (stale_counts w)
   unfolding counts_call
   counts_found z = rw (sym e, z)
+
+-- ---- what refuses an audit has no detail
+
+abbrev detailed : ℕ → Bool
+detailed n = eqb n 2 || eqb n 6 || eqb n 7 || eqb n 15 || eqb n 16 || eqb n 17
+
+plain : (r : Refusal) → detailed (refusal r).number ≡ false → (refusal r).detail ≡ 0
+plain PartitionCount e = refl
+plain (PageCount _) e = absurd (true≢false e)
+plain TurnLength e = refl
+plain MemorySize e = refl
+plain ListLength e = refl
+plain (FrameOutside _) e = absurd (true≢false e)
+plain (FrameTwice _) e = absurd (true≢false e)
+plain (FrameKept _) e = absurd (true≢false e)
+plain Damaged e = refl
+plain OtherMemory e = refl
+plain NoSuchPartition e = refl
+plain NothingRuns e = refl
+plain BeyondPages e = refl
+plain ShortOutput e = refl
+plain TooManySteps e = refl
+plain (WrongHouseFile _) e = absurd (true≢false e)
+plain (WrongSavedFile _) e = absurd (true≢false e)
+
+not_detailed : (w : World) → detailed (audit_verdict w 0).number ≡ false
+unfolding audit_verdict first_of
+not_detailed w =
+    either P (damaged w.house) (λ _. refl) λ _.
+    either P (not (eqb (length w.memory) w.house.words)) (λ _. refl) (λ _. refl)
+  where
+    P : Verdict → Type 0
+    P v = detailed v.number ≡ false
+
+pub no_detail : (w : World) (r : Refusal) → (refusal r).number ≡ (audit_verdict w 0).number → (refusal r).detail ≡ 0
+no_detail w r e = plain r (ap detailed e ∙ not_detailed w)
 
 -- ---- what the calls' answers cite
 

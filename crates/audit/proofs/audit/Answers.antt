@@ -1,19 +1,24 @@
 use mathlib.Core.Path.{refl, sym, ◌∙◌}
-use Rattle.audit.specs.Printed.{printed, named}
+use lib.ListN.{take}
 use lib.Seq.{length-take-le}
 use Rattle.night_run.specs.Ran.{either_file, no_frames}
 use Rattle.night_run.proofs.Files.{told_answer}
+use Rattle.audit.specs.Printed.{printed, named}
 use Rattle.audit.proofs.audit.Goals as goal
 
 pub read_file-x-requires : goal.read_file-x-requires
 unfolding no_frames
 read_file-x-requires c = refl
 
-pub slice_bounds-memory-end : goal.slice_bounds-memory-end
-slice_bounds-memory-end c = c.read_file-x.ensures.words_in_bounds
-
 pub slice_bounds-tell-end : goal.slice_bounds-tell-end
 slice_bounds-tell-end c = sym (length-take-le _ _ c.read_file-x.ensures.words_in_bounds)
 
 pub tell-requires : goal.tell-requires
-tell-requires c = record { fact_1 = told_answer either_file printed c.read_file-x.result _ c.read_file-x.ensures.handed (sym c.failed.ensures ∙ c.if-failed.false); fact_2 = told_answer either_file named c.read_file-x.result _ c.read_file-x.ensures.handed (sym c.failed.ensures ∙ c.if-failed.false) }
+tell-requires c =
+    let x = c.read_file-x in
+    let f = sym c.failed.ensures ∙ c.if-failed.false in
+    let e = c.answer.ensures (take x.result.words x.new.memory) in
+    record {
+      fact_1 = (x.result.house, rw e (told_answer either_file printed x.result x.new.memory x.ensures.handed f));
+      fact_2 = (x.result.house, rw e (told_answer either_file named x.result x.new.memory x.ensures.handed f));
+    }

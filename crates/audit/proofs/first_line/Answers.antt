@@ -1,9 +1,7 @@
-use mathlib.Core.Path.{◌≡◌}
+use mathlib.Core.Path.{refl}
 use native.Mathlib.Omega.{arith}
-use lib.ListN.{length}
-use Rattle.report.proofs.Texts.{whole_is}
-use borrow.Author.Rules.{rules}
+use Rattle.report.proofs.Texts.{whole_is, put_as}
 use Rattle.audit.proofs.first_line.Goals as goal
 
 pub returns : goal.returns
-returns c = let n : length c.args.out.now ≡ 1024 = search (rules, c.put_first-arg-1) in let q = whole_is c.put_first.ensures (omega (arith, n)) in record { value = q.0; counts = q.1 }
+returns c = let q = whole_is c.put_first.ensures (omega (arith, c.told-out)) in record { value = put_as _ _ _ _ _ q.0.0 q.0.1 refl; counts = q.1 }

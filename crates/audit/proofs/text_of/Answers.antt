@@ -1,23 +1,21 @@
-use Rattle.report.proofs.Texts.{put_as}
+use Rattle.house.specs.Turns.{world}
 use Rattle.audit.proofs.Texts.{text_refused, text_unaudited, text_audited, few}
 use Rattle.audit.proofs.text_of.Goals as goal
 
-pub returns-then-number-ne0 : goal.returns-then-number-ne0
-returns-then-number-ne0 c = record { out_after = put_as _ _ _ _ _ c.refused.ensures.value.0 c.refused.ensures.value.1 (text_refused _ _ _ c.if-number-ne0.true); counts = c.refused.ensures.counts }
-
-pub returns-then-c-ne0 : goal.returns-then-c-ne0
-returns-then-c-ne0 c = record {
-  out_after = put_as _ _ _ _ _ c.refused-then-c-ne0.ensures.value.0 c.refused-then-c-ne0.ensures.value.1
-      (text_unaudited _ _ _ c.if-number-ne0.false _ c.stale_counts-c.ensures c.if-c-ne0.true);
-  counts = c.refused-then-c-ne0.ensures.counts;
-}
+pub returns-in-Err-clause-out_after : goal.returns-in-Err-clause-out_after
+returns-in-Err-clause-out_after c given = let a = c.args in
+    rw (c.in-Err.is, ← text_refused c.in-Err.refusal (world given a.memory.now)) c.refused.ensures.value
 
 pub lines-requires : goal.lines-requires
-lines-requires c = few _ _ c.stale_counts-c.ensures c.if-c-ne0.false
+lines-requires c = few _ c.in-Ok-stale_counts.each c.in-Ok-stale_counts.ensures
 
-pub returns : goal.returns
-returns c = record {
-  out_after = put_as _ _ _ _ _ c.lines.ensures.value.0 c.lines.ensures.value.1
-      (text_audited _ _ _ c.if-number-ne0.false _ c.stale_counts-c.ensures c.if-c-ne0.false);
-  counts = c.lines.ensures.counts;
-}
+pub returns-in-Ok-stale_counts-clause-out_after : goal.returns-in-Ok-stale_counts-clause-out_after
+returns-in-Ok-stale_counts-clause-out_after c given =
+    let d = c.in-Ok.done in
+    rw (c.in-Ok.is, ← text_audited d.detail (world d.house c.args.memory.now) c.in-Ok-stale_counts.each c.in-Ok-stale_counts.ensures) c.lines.ensures.value
+
+pub returns-in-Err-stale_counts-clause-out_after : goal.returns-in-Err-stale_counts-clause-out_after
+returns-in-Err-stale_counts-clause-out_after c given =
+    let d = c.in-Ok.done in
+    let r = c.in-Err-stale_counts.refusal in
+    rw (c.in-Ok.is, ← text_unaudited d.detail (world d.house c.args.memory.now) r c.in-Err-stale_counts.ensures) c.refused-in-Err-stale_counts.ensures.value
