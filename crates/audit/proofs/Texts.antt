@@ -16,7 +16,7 @@ use Rattle.house.proofs.Damage.Undamaged.{count_within}
 use Rattle.report.specs.Report.{refusal as refusal_text}
 use Rattle.staleness.specs.Audit.{audit_verdict, finding, audit_call, Counts, counts, counts_call}
 use Rattle.staleness.specs.declared.Stale.{Stale}
-use Rattle.staleness.proofs.Verdicts.{audit_done, counts_refused, counts_found, no_detail}
+use Rattle.staleness.proofs.Verdicts.{audit_done, counts_refused, counts_detail}
 use Rattle.audit.specs.Printed.{lines_to, audited, printed, first_line, first_text, named}
 
 -- ---- the text of an answer
@@ -26,15 +26,9 @@ unfolding printed
 text_refused r w = rw (not_0 r) refl
 
 module _ (d : ℕ) (w : World) where
-  refused_number : (r : Refusal) → counts (refusal r).number (replicate 8 0) ≡ counts_call w → (refusal r).number ≡ (audit_verdict w 0).number
-  refused_number r e =
-      by_eq (audit_verdict w 0).number 0
-      (λ y. absurd (true≢false (sym (eq-eqb (refusal r).number 0 (ap (λ (x : Counts). x.number) (e ∙ counts_found w _ refl y))) ∙ not_0 r)))
-      (λ y. ap (λ (x : Counts). x.number) (e ∙ counts_refused w _ refl y))
-
   pub text_unaudited : (r : Refusal) → counts (refusal r).number (replicate 8 0) ≡ counts_call w → refusal_text (refusal r) ≡ printed (answered (verdict 0 d) w)
   unfolding printed audited
-  text_unaudited r e = rw (← e, not_0 r, no_detail w r (refused_number r e)) refl
+  text_unaudited r e = rw (← e, not_0 r, counts_detail w r e) refl
 
   pub text_audited : (each : List ℕ) → counts 0 each ≡ counts_call w → lines_to each w.house.count ≡ printed (answered (verdict 0 d) w)
   unfolding printed audited

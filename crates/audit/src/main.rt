@@ -118,8 +118,8 @@ fn show(rt: &HostRuntime, t: Taken, text: &[u8])
 
 // Prints the text for the answer, and names the first stale entry.
 fn tell(rt: &HostRuntime, t: Taken, answer: Answer, memory: &[u32])
-    requires fact_1 { (given : House) × Told either_file printed t (printed (answer_of given answer memory.now)) }
-    requires fact_2 { (given : House) × Told either_file named t (named (answer_of given answer memory.now)) }
+    requires told { (given : House) × Told either_file printed t (printed (answer_of given answer memory.now)) }
+    requires named_told { (given : House) × Told either_file named t (named (answer_of given answer memory.now)) }
 {
     let mut out = [0u8; 1024];
     let n = text_of(answer, memory, &mut out);

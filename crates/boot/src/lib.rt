@@ -1,12 +1,12 @@
 // Boot: the refusals in their order, each search giving both the test and the detail; then the house, with every frame list at its place.
 #![tactic(auto)]
 
-ghost use Rattle.std.specs.Prelude.{◌≡◌, not, ℕ, ◌*◌, ◌+◌, ◌<◌, ◌≤◌, ltb, length, get_or};
+ghost use Rattle.std.specs.Prelude.{◌≡◌, ℕ, ◌<◌, ◌≤◌, ltb, length, get_or};
 ghost use Rattle.dlx.specs.Processor.{fresh_of};
 ghost use Rattle.house.specs.Lists.{between, list_from, first_from};
 ghost use Rattle.house.specs.House.{no_house, no_partition};
 ghost use Rattle.house.specs.Damage.{whole_frames};
-ghost use Rattle.house.specs.Boot.{sum, offset, laid, pages_wrong, frame_outside, frame_kept, stood_earlier, boot_verdict, booted_house};
+ghost use Rattle.house.specs.Boot.{sum, laid, pages_wrong, frame_outside, frame_kept, stood_earlier, boot_verdict, booted_house};
 ghost use Rattle.house.specs.Calls.{boot_call};
 ghost use Rattle.house.specs.Refusals.{verdict_of, answer_of};
 ghost use Rattle.boot.specs.Places.{filled, Few, Fitting};
@@ -150,8 +150,8 @@ fn lay(pages: &[u32], frames: &[u32]) -> [u32; 2048]
 
 // The house that boot makes.
 fn booted(pages: &[u32], q: u32, frames: &[u32], words: usize) -> House
-    requires fact_1 { Fitting pages.now frames.now }
-    requires fact_2 { words ≤ 1048576 }
+    requires fitting { Fitting pages.now frames.now }
+    requires words_bound { words ≤ 1048576 }
     ensures { result ≡ booted_house pages.now q frames.now words }
 {
     House {

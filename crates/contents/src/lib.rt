@@ -30,8 +30,8 @@ fn put_lists(out: &mut [u8], at: usize, pages: &[u32], frames: &[u32]) -> usize
 
 // Frame f.
 fn put_frame(out: &mut [u8], at: usize, memory: &[u32], f: u32) -> usize
-    requires fact_1 { f < 16 }
-    requires fact_2 { length memory.now ≡ 16384 }
+    requires f_bound { f < 16 }
+    requires memory_length { length memory.now ≡ 16384 }
     ensures { Puts out.old at out.new result (frame_record memory.now f) 4106 }
 {
     let b = wide(f) * 1024;
@@ -62,8 +62,8 @@ pub fn put_contents(
     memory: &[u32],
     out: &mut [u8; MOST],
 ) -> usize
-    requires fact_1 { Listed pages.now frames.now }
-    requires fact_2 { length memory.now ≡ 16384 }
+    requires listed { Listed pages.now frames.now }
+    requires memory_length { length memory.now ≡ 16384 }
     ensures out_after { take result out.new ≡ contents_file (file q run pages.now frames.now memory.now) }
     ensures upper_bound { result ≤ length out.new }
 {

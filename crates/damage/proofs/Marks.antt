@@ -227,32 +227,7 @@ shadows_by_marks count ps fr sh o w once e =
     entries
     (λ px m. entry_by_marks ps fr count i (w.below i l) once l (get_or (entries_at sh i) px 0))))
 
--- ---- the conditions in the order in which the code looks
-
-module _ (count q current left n : ℕ) (running : List Bool) (ps : List Partition) (rs fr sh : List ℕ) (w : n ≡ count) where
-  abbrev within_limits : Bool
-  within_limits = inside count q current left running ps rs fr sh
-
-  pub twice_found : any (twice_in ps fr) n ≡ true → true ≡ within_limits
-  twice_found a = simp (rw w at a)
-
-  module _ (once : any (twice_in ps fr) n ≡ false) where
-    pub turn_found : turn_outside count q current left running ≡ true → true ≡ within_limits
-    turn_found b = simp (rw w at once, b)
-
-    module _ (turn : turn_outside count q current left running ≡ false) where
-      pub registers_found : any (registers_at ps rs) n ≡ true → true ≡ within_limits
-      registers_found b = simp (rw w at once, turn, rw w at b)
-
-      module _ (registers : any (registers_at ps rs) n ≡ false) (good : Within count ps fr) (o : List ℕ) (marks : o ≡ owners_of ps fr n) where
-        by_marks : any (shadow_marked o sh) n ≡ any (shadow_outside ps fr sh) count
-        by_marks = rw w (shadows_by_marks count ps fr sh o good (rw w at once) (rw w at marks))
-
-        pub shadow_found : any (shadow_marked o sh) n ≡ true → true ≡ within_limits
-        shadow_found b = simp (rw w at once, turn, rw w at registers, sym by_marks ∙ b)
-
-        pub unused_found : (r : Bool) → any (shadow_marked o sh) n ≡ false → r ≡ any (λ i. room_wrong n i (get_or running i false) (get_or ps i no_partition) rs fr sh) 8 → r ≡ within_limits
-        unused_found r b e = simp (rw w at once, turn, rw w at registers, sym by_marks ∙ b) (rw w at e)
+-- ---- the whole check
 
 -- the definition's conditions, as the code groups them
 regrouped : (o f t r s u q : Bool) → (o || f || t || r || s || u || q) ≡ (o || (f || t || r || s || u) || q)
@@ -280,15 +255,6 @@ module _ (h : House) where
       (any (shadow_outside h.parts h.frames h.shadows) h.count)
       (any (λ i. room_wrong h.count i (get_or h.running i false) (get_or h.parts i no_partition) h.regs h.frames h.shadows) 8)
       queues
-
-  pub limits_found : limits ≡ true → true ≡ damaged h
-  limits_found a = sym (grouped ∙ rw a refl)
-
-  pub inside_found : limits ≡ false → parts_wrong ≡ true → true ≡ damaged h
-  inside_found a b = sym (grouped ∙ rw (a, b) refl)
-
-  pub queues_found : (r : Bool) → limits ≡ false → parts_wrong ≡ false → r ≡ queues → r ≡ damaged h
-  queues_found r a b e = e ∙ sym (grouped ∙ rw (a, b) refl)
 
 -- ---- a partition that isn't there
 
@@ -363,9 +329,9 @@ module _ (o : List ℕ) (tag : ℕ) where
   empty_right : (e : ℕ) → not (eqb e 0) ≡ false → entry_marked o tag e ≡ false
   empty_right e z = subst (λ (x : ℕ). entry_marked o tag x ≡ false) (sym (eqb-true e 0 (not-false _ z))) refl
 
-  -- no entry of an empty group is wrong
-  pub group_empty : (g : List ℕ) → not_zero g 0 (length g) ≡ false → any (λ k. entry_marked o tag (get_or g k 0)) (length g) ≡ false
-  group_empty g e =
+  -- no entry of an empty list is wrong
+  pub empty_list : (g : List ℕ) → not_zero g 0 (length g) ≡ false → any (λ k. entry_marked o tag (get_or g k 0)) (length g) ≡ false
+  empty_list g e =
       any_from (λ k. entry_marked o tag (get_or g k 0)) (length g)
       (λ k l.
       let z : k ≡ 0 + k = omega arith in
@@ -384,6 +350,12 @@ module _ (o : List ℕ) (tag : ℕ) (sh : List ℕ) where
       ∙ ap (λ (x : List ℕ). any (λ k. entry_marked o tag (get_or x k 0)) (length x)) is
       ∙ ap (any (λ k. entry_marked o tag (get_or (inner base 32 sh) k 0))) (inner_length sh base 32 h)
       ∙ any_same (λ k. entry_marked o tag (get_or (inner base 32 sh) k 0)) (λ k. wrong (base + k)) 32 (λ k l. ap (entry_marked o tag) (parts.part_at sh base 32 k l))
+
+  -- no entry of an empty group is wrong
+  pub group_empty : (base : ℕ) → not_zero sh base 32 ≡ false → group_marked o tag sh base ≡ false
+  group_empty base e =
+      any_from (λ k. wrong (base + k)) 32
+      (λ k l. empty_right o tag (get_or sh (base + k) 0) (any_none (λ j. not (eqb (get_or sh (base + j) 0) 0)) 32 e k l))
 
   pub group_found : (n base : ℕ) → base + 32 ≤ n → group_marked o tag sh base ≡ true → any wrong n ≡ true
   group_found n base l e =
@@ -411,8 +383,8 @@ module _ (l : List ℕ) (n : ℕ) where
   pub behind_none : length l ≤ n → any (behind l n) (length l) ≡ false
   behind_none h = any_from (behind l n) (length l) (λ j b. rw (lt-leb n j (omega (arith, h, b))))
 
-  behind_rest : n < length l → not_zero l n (length l - n) ≡ any (behind l n) (length l)
-  behind_rest h =
+  pub behind_gathered : n < length l → not_zero l n (length l - n) ≡ any (behind l n) (length l)
+  behind_gathered h =
       same_test (not_zero l n (length l - n)) (any (behind l n) (length l))
       (λ e.
       let r = any_at (λ k. not (eqb (get_or l (n + k) 0) 0)) (length l - n) e in
@@ -424,5 +396,6 @@ module _ (l : List ℕ) (n : ℕ) where
       any_yes (λ k. not (eqb (get_or l (n + k) 0) 0)) (length l - n) (r.0 - n) (omega (arith, m, r.1))
       (subst (λ (x : ℕ). not (eqb (get_or l x 0) 0) ≡ true) (sym d) (and_right (leb n r.0) (not (eqb (get_or l r.0 0) 0)) r.2)))
 
-  pub behind_gathered : n < length l → not_zero (mid_of n (length l - n) l) 0 (length (mid_of n (length l - n) l)) ≡ any (behind l n) (length l)
-  behind_gathered h = part_zero l n (length l - n) (omega (arith, h)) ∙ behind_rest h
+  -- as the code lends it
+  pub behind_lent : n < length l → not_zero (mid_of n (length l - n) l) 0 (length (mid_of n (length l - n) l)) ≡ any (behind l n) (length l)
+  behind_lent h = part_zero l n (length l - n) (omega (arith, h)) ∙ behind_gathered h

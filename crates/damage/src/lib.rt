@@ -1,12 +1,12 @@
 // The damage check. Each frame is marked with its owner once; then every second standing of a frame, and every shadow entry, is one look.
 #![tactic(auto)]
 
-ghost use Rattle.std.specs.Prelude.{◌≡◌, false, ℕ, ◌/◌, ◌<◌, ◌≤◌, length, get_or, replicate};
+ghost use Rattle.std.specs.Prelude.{◌≡◌, false, ◌/◌, ◌<◌, ◌≤◌, length, get_or, replicate};
 ghost use Rattle.addresses.specs.Walk.{entries};
 ghost use Rattle.house.specs.Lists.{any};
-ghost use Rattle.house.specs.House.{all_entries, no_partition};
+ghost use Rattle.house.specs.House.{no_partition};
 ghost use Rattle.house.specs.Damage.{damaged, partition_used, not_zero};
-ghost use Rattle.damage.specs.Marks.{Within, inside, pages_at, pages_outside, barred_at, frames_barred, outside, owners_of, twice_in, entry_marked, shadow_marked, turn_outside, processor_wrong, registers_at, behind, room_wrong, count_wrong, queue_outside, queue_at};
+ghost use Rattle.damage.specs.Marks.{Within, inside, pages_outside, barred_at, frames_barred, outside, owners_of, twice_in, entry_marked, shadow_marked, turn_outside, processor_wrong, registers_at, behind, room_wrong, count_wrong, queue_outside, queue_at};
 
 use addresses::ENTRIES;
 use dlx::partition::{Partition, Processor};
@@ -73,14 +73,8 @@ fn mark_all(h: &House, owners: &mut [u32; 1024]) -> bool
 {
     for (i, p) in h.parts[..wide(h.count)].iter().enumerate() {
         let base = i * 256;
-        if mark(
-            &h.frames[base..base + 256],
-            wide(p.pages),
-            i as u32 + 1,
-            owners,
-        )
-        .is_some()
-        {
+        let frames = &h.frames[base..base + 256];
+        if mark(frames, wide(p.pages), i as u32 + 1, owners).is_some() {
             return true;
         }
     }
@@ -234,7 +228,7 @@ fn unused_wrong(h: &House) -> bool
 fn count_wrong(count: u32, j: usize, n: u32) -> bool
     ensures { result ≡ count_wrong count j n }
 {
-    n > 32 || j >= wide(count) && n != 0
+    n > 32 || (j >= wide(count) && n != 0)
 }
 
 // The same, or anything but 0 behind the n tickets of queue j.

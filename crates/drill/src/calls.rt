@@ -36,9 +36,9 @@ pub struct Played {
 
 // A boot: page counts and frame numbers stand behind the command's four words, and are taken into two spaces.
 fn booted(c: Command, more: &[u8], memory: &[u32], pages: &mut [u32], frames: &mut [u32]) -> Answer
-    requires fact_1 { Boots c (length more.now) }
-    requires fact_2 { 16 ≤ length pages.old }
-    requires fact_3 { 4096 ≤ length frames.old }
+    requires boots { Boots c (length more.now) }
+    requires pages_room { 16 ≤ length pages.old }
+    requires frames_room { 4096 ≤ length frames.old }
     ensures { answer_of no_house result memory.now ≡ boot_of c more.now memory.now }
 {
     let n = wide(c.a);
@@ -57,8 +57,8 @@ fn called(
     pages: &mut [u32; 16],
     frames: &mut [u32],
 ) -> Answer
-    requires fact_1 { (c.op ≡ Op.Boot → Boots c (length more.now)) }
-    requires fact_2 { 4096 ≤ length frames.old }
+    requires boots { (c.op ≡ Op.Boot → Boots c (length more.now)) }
+    requires frames_room { 4096 ≤ length frames.old }
     ensures { answer_of (given_of c.op h) result memory.new ≡ called_of c more.now h memory.old }
 {
     match c.op {
@@ -81,8 +81,8 @@ fn given(h: House, op: Op) -> House
 
 // A read-out: the two halves of the count stand behind the command's four words.
 fn read_out(h: House, c: Command, more: &[u8], memory: &[u32], output: &mut [u32]) -> Answer
-    requires fact_1 { 8 ≤ length more.now }
-    requires fact_2 { length output.old ≤ 4096 }
+    requires more_room { 8 ≤ length more.now }
+    requires output_length { length output.old ≤ 4096 }
     ensures { read_left (answer_of h result memory.now) output.new ≡ read_out_of c more.now h memory.now (length output.old) }
 {
     let count = words::word(more, 0) as u64 + words::word(more, 4) as u64 * 0x1_0000_0000;
@@ -105,8 +105,8 @@ fn call(
     text: &mut [u8; ROOM],
     used: usize,
 ) -> AfterCall
-    requires fact_1 { (c.op ≡ Op.Boot → Boots c (length more.now)) }
-    requires fact_2 { 4096 ≤ length frames.old }
+    requires boots { (c.op ≡ Op.Boot → Boots c (length more.now)) }
+    requires frames_room { 4096 ≤ length frames.old }
     ensures { (world result.house memory.new ≡ (called_of c more.now h memory.old).world) × Puts text.old used text.new result.used (call_text_of c more.now h memory.old) most_told }
 {
     let given = given(h, c.op);
@@ -126,8 +126,8 @@ fn read(
     text: &mut [u8; ROOM],
     used: usize,
 ) -> usize
-    requires fact_1 { 8 ≤ length more.now }
-    requires fact_2 { length output.old ≤ 4096 }
+    requires more_room { 8 ≤ length more.now }
+    requires output_length { length output.old ≤ 4096 }
     ensures { Puts text.old used text.new result (read_text_of c more.now h memory.now (length output.old)) most_read }
 {
     let answer = read_out(h, c, more, memory, output);
@@ -144,7 +144,7 @@ fn audit(h: House, c: Command, memory: &[u32], text: &mut [u8; ROOM], used: usiz
             let called = told::call(text, used, c.op, 0, 0, h, memory);
             lines::stale(text, called, first.map(|s| (s.partition, s.page)))
         }
-        Err(refusal) => told::call(text, used, c.op, refusal.number(), 0, h, memory),
+        Err(refusal) => told::answer(text, used, c.op, h, Err(refusal), memory),
     }
 }
 
@@ -159,9 +159,9 @@ fn made(
     text: &mut [u8; ROOM],
     used: usize,
 ) -> AfterCall
-    requires fact_1 { (c.op ≡ Op.ReadOut → (c.c ≤ 4096) × (8 ≤ length more.now)) }
-    requires fact_2 { (c.op ≡ Op.Boot → Boots c (length more.now)) }
-    requires fact_3 { 4096 ≤ length many.old }
+    requires read_fits { (c.op ≡ Op.ReadOut → (c.c ≤ 4096) × (8 ≤ length more.now)) }
+    requires boots { (c.op ≡ Op.Boot → Boots c (length more.now)) }
+    requires many_room { 4096 ≤ length many.old }
     ensures { (world result.house memory.new ≡ made_of c more.now h memory.old) × Puts text.old used text.new result.used (made_text_of c more.now h memory.old) most_read }
 {
     match c.op {

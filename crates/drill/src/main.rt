@@ -7,7 +7,7 @@ mod reading;
 mod saving;
 mod told;
 
-ghost use Rattle.std.specs.Prelude.{◌≡◌, ◌<◌, ◌≤◌, length};
+ghost use Rattle.std.specs.Prelude.{◌≡◌, ◌≤◌, length};
 ghost use Rattle.drill.specs.Goes.{Goes};
 
 use command::{asks_help, fail, wrong};
@@ -45,9 +45,9 @@ fn save_turn(
     output: &mut [u8],
     text: &mut [u8; ROOM],
 ) -> State
-    requires fact_1 { Goes s (length input.old) (length memory.old) }
-    requires fact_2 { s.reading.command ≡ Some c }
-    requires fact_3 { 70000 ≤ length output.old }
+    requires goes { Goes s (length input.old) (length memory.old) }
+    requires at_hand { s.reading.command ≡ Some c }
+    requires output_room { 70000 ≤ length output.old }
     ensures { Goes result (length input.old) (length memory.old) }
 {
     let used = told::flushed(rt, text, s.used);
@@ -85,8 +85,8 @@ fn call_turn(
     many: &mut [u32; 4096],
     text: &mut [u8; ROOM],
 ) -> State
-    requires fact_1 { Goes s (length input.old) (length memory.old) }
-    requires fact_2 { s.reading.command ≡ Some c }
+    requires goes { Goes s (length input.old) (length memory.old) }
+    requires at_hand { s.reading.command ≡ Some c }
     ensures { Goes result (length input.old) (length memory.old) }
 {
     let used = told::flushed(rt, text, s.used);
@@ -115,8 +115,8 @@ fn turn(
     output: &mut [u8; MOST_OUTPUT],
     text: &mut [u8; ROOM],
 ) -> State
-    requires fact_1 { Goes s (length input.old) (length memory.old) }
-    requires fact_2 { s.reading.command ≡ Some c }
+    requires goes { Goes s (length input.old) (length memory.old) }
+    requires at_hand { s.reading.command ≡ Some c }
     ensures { Goes result (length input.old) (length memory.old) }
 {
     match c.op {

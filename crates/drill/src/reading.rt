@@ -1,5 +1,5 @@
 // Where the script is read, and the commands of the memory on the way.
-ghost use Rattle.std.specs.Prelude.{◌≡◌, ◌+◌, ◌-◌, ◌≤◌, length};
+ghost use Rattle.std.specs.Prelude.{◌≡◌, ◌≤◌, length};
 ghost use Rattle.drill.specs.Fit.{Stands};
 ghost use Rattle.drill.specs.Player.{lent_of, changed_of};
 
@@ -34,8 +34,8 @@ fn refill(source: &mut Source, input: &mut [u8], at: usize, end: usize) -> usize
 
 // What is at `at`.
 fn found(input: &[u8], at: usize, end: usize, offset: u64, lent: usize) -> Reading
-    requires fact_1 { at ≤ end }
-    requires fact_2 { end ≤ length input.now }
+    requires at_bound { at ≤ end }
+    requires input_room { end ≤ length input.now }
     ensures { Stands result (length input.now) lent }
 {
     let command = commands::read(&input[at..end]);
@@ -90,8 +90,8 @@ pub fn settle(
     before: Reading,
     lent: usize,
 ) -> Reading
-    requires fact_1 { Stands before (length input.old) before.lent }
-    requires fact_2 { lent ≤ length memory.old }
+    requires stands { Stands before (length input.old) before.lent }
+    requires memory_room { lent ≤ length memory.old }
     ensures { Stands result (length input.old) result.lent × (result.lent ≤ length memory.old) }
 {
     let mut r = next(source, input, before, lent);

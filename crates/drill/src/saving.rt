@@ -168,8 +168,8 @@ pub fn play(
     text: &mut [u8; ROOM],
     used: usize,
 ) -> Left
-    requires fact_1 { Plays r c (length input.now) (length memory.old) }
-    requires fact_2 { 70000 ≤ length output.old }
+    requires plays { Plays r c (length input.now) (length memory.old) }
+    requires output_room { 70000 ≤ length output.old }
     ensures { (keeps result.house memory.new (reading_at result.restoring.reader result.restoring.house held.new []) ≡ kept_of c (more_of r c input.now) r.lent (keeps h memory.old (reading_at s.reader s.house held.old []))) × Puts text.old used text.new result.used (saving_text_of c (more_of r c input.now) r.lent (keeps h memory.old (reading_at s.reader s.house held.old []))) most_read }
 {
     let lent = r.lent;

@@ -45,178 +45,151 @@ fn fill(words: &mut [u32; 69632], page: u32, at: u32, list: &[u32]) {
 }
 
 // The start, in page 0: it sets the table and goes to user mode.
-fn put_start(words: &mut [u32; 69632]) {
-    let list = [
-        0x2001_0001, // addi r1, r0, 1
-        0x0020_01D1, // movi2s PTO, r1
-        0x0020_0251, // movi2s EMODE, r1
-        0x2001_0041, // addi r1, r0, 65
-        0x0020_0211, // movi2s PTL, r1
-        0x2001_0004, // addi r1, r0, 4
-        0x0020_00D1, // movi2s EPC, r1
-        0xFC00_0000, // rfe
-    ];
-    fill(words, 0, 0, &list);
-}
+const START: [u32; 8] = [
+    0x2001_0001, // addi r1, r0, 1
+    0x0020_01D1, // movi2s PTO, r1
+    0x0020_0251, // movi2s EMODE, r1
+    0x2001_0041, // addi r1, r0, 65
+    0x0020_0211, // movi2s PTL, r1
+    0x2001_0004, // addi r1, r0, 4
+    0x0020_00D1, // movi2s EPC, r1
+    0xFC00_0000, // rfe
+];
 
 // The same behind a test for the handler: an interrupt enters at word 0, with a cause in ECA.
-fn put_start_handled(words: &mut [u32; 69632]) {
-    let list = [
-        0x0000_A090, // movs2i r20, ECA
-        0x1680_0058, // bnez r20, 88: to the handler
-        0x2001_0001, // addi r1, r0, 1: the delay slot, and the start
-        0x0020_01D1, // movi2s PTO, r1
-        0x0020_0251, // movi2s EMODE, r1
-        0x2001_0041, // addi r1, r0, 65
-        0x0020_0211, // movi2s PTL, r1
-        0x2001_0004, // addi r1, r0, 4
-        0x0020_00D1, // movi2s EPC, r1
-        0xFC00_0000, // rfe
-    ];
-    fill(words, 0, 0, &list);
-}
+const START_HANDLED: [u32; 10] = [
+    0x0000_A090, // movs2i r20, ECA
+    0x1680_0058, // bnez r20, 88: to the handler
+    0x2001_0001, // addi r1, r0, 1: the delay slot, and the start
+    0x0020_01D1, // movi2s PTO, r1
+    0x0020_0251, // movi2s EMODE, r1
+    0x2001_0041, // addi r1, r0, 65
+    0x0020_0211, // movi2s PTL, r1
+    0x2001_0004, // addi r1, r0, 4
+    0x0020_00D1, // movi2s EPC, r1
+    0xFC00_0000, // rfe
+];
 
 // And with the timer, which fires every 30 steps.
-fn put_start_timed(words: &mut [u32; 69632]) {
-    let list = [
-        0x0000_A090, // movs2i r20, ECA
-        0x1680_0058, // bnez r20, 88: to the handler
-        0x2001_0001, // addi r1, r0, 1: the delay slot, and the start
-        0x0020_01D1, // movi2s PTO, r1
-        0x0020_0251, // movi2s EMODE, r1
-        0x2001_0041, // addi r1, r0, 65
-        0x0020_0211, // movi2s PTL, r1
-        0x2001_0004, // addi r1, r0, 4
-        0x0020_00D1, // movi2s EPC, r1
-        0x2001_2000, // addi r1, r0, 8192
-        0x0020_0051, // movi2s ESR, r1
-        0x2001_001E, // addi r1, r0, 30
-        0x0020_02D1, // movi2s TLOAD, r1
-        0x0020_0291, // movi2s TCOUNT, r1
-        0xFC00_0000, // rfe
-    ];
-    fill(words, 0, 0, &list);
-}
+const START_TIMED: [u32; 15] = [
+    0x0000_A090, // movs2i r20, ECA
+    0x1680_0058, // bnez r20, 88: to the handler
+    0x2001_0001, // addi r1, r0, 1: the delay slot, and the start
+    0x0020_01D1, // movi2s PTO, r1
+    0x0020_0251, // movi2s EMODE, r1
+    0x2001_0041, // addi r1, r0, 65
+    0x0020_0211, // movi2s PTL, r1
+    0x2001_0004, // addi r1, r0, 4
+    0x0020_00D1, // movi2s EPC, r1
+    0x2001_2000, // addi r1, r0, 8192
+    0x0020_0051, // movi2s ESR, r1
+    0x2001_001E, // addi r1, r0, 30
+    0x0020_02D1, // movi2s TLOAD, r1
+    0x0020_0291, // movi2s TCOUNT, r1
+    0xFC00_0000, // rfe
+];
 
 // The handler, in page 0: it counts in a register and in a word of the page, and goes back.
-fn put_handler(words: &mut [u32; 69632]) {
-    let list = [
-        0x0000_A910, // movs2i r21, EDPC
-        0x22D6_0001, // addi r22, r22, 1
-        0x02F5_B826, // xor r23, r23, r21
-        0x8C18_0800, // lw r24, 2048(r0)
-        0x2318_0001, // addi r24, r24, 1
-        0xAC18_0800, // sw r24, 2048(r0)
-        0xFC00_0000, // rfe
-    ];
-    fill(words, 0, 24, &list);
-}
+const HANDLER: [u32; 7] = [
+    0x0000_A910, // movs2i r21, EDPC
+    0x22D6_0001, // addi r22, r22, 1
+    0x02F5_B826, // xor r23, r23, r21
+    0x8C18_0800, // lw r24, 2048(r0)
+    0x2318_0001, // addi r24, r24, 1
+    0xAC18_0800, // sw r24, 2048(r0)
+    0xFC00_0000, // rfe
+];
 
 // The loop of words, in page 2.
-fn put_words_loop(words: &mut [u32; 69632]) {
-    let list = [
-        0x20A5_0001, // addi r5, r5, 1
-        0x30A1_03FF, // andi r1, r5, 1023
-        0x0021_0820, // add r1, r1, r1
-        0x0021_0820, // add r1, r1, r1
-        0x2021_1000, // addi r1, r1, 4096: the first data page
-        0x2002_0040, // addi r2, r0, 64
-        0x8C23_0000, // lw r3, 0(r1): the inner loop's first
-        0x2063_0001, // addi r3, r3, 1
-        0xAC23_0000, // sw r3, 0(r1)
-        0x2021_1000, // addi r1, r1, 4096
-        0x2042_FFFF, // addi r2, r2, -1
-        0x1440_FFE8, // bnez r2, -24
-        0x2084_0001, // addi r4, r4, 1: its delay slot
-        0x0BFF_FFC8, // j -56
-        0x00E3_3826, // xor r7, r7, r3: its delay slot
-    ];
-    fill(words, 2, 0, &list);
-}
+const WORDS_LOOP: [u32; 15] = [
+    0x20A5_0001, // addi r5, r5, 1
+    0x30A1_03FF, // andi r1, r5, 1023
+    0x0021_0820, // add r1, r1, r1
+    0x0021_0820, // add r1, r1, r1
+    0x2021_1000, // addi r1, r1, 4096: the first data page
+    0x2002_0040, // addi r2, r0, 64
+    0x8C23_0000, // lw r3, 0(r1): the inner loop's first
+    0x2063_0001, // addi r3, r3, 1
+    0xAC23_0000, // sw r3, 0(r1)
+    0x2021_1000, // addi r1, r1, 4096
+    0x2042_FFFF, // addi r2, r2, -1
+    0x1440_FFE8, // bnez r2, -24
+    0x2084_0001, // addi r4, r4, 1: its delay slot
+    0x0BFF_FFC8, // j -56
+    0x00E3_3826, // xor r7, r7, r3: its delay slot
+];
 
 // The loop of bytes and half words.
-fn put_bytes_loop(words: &mut [u32; 69632]) {
-    let list = [
-        0x20A5_0002, // addi r5, r5, 2
-        0x30A1_0FFE, // andi r1, r5, 4094
-        0x2021_1000, // addi r1, r1, 4096: the first data page
-        0x2002_0040, // addi r2, r0, 64
-        0x9023_0000, // lbu r3, 0(r1): the inner loop's first
-        0x2063_0001, // addi r3, r3, 1
-        0xA023_0000, // sb r3, 0(r1)
-        0x8426_0000, // lh r6, 0(r1)
-        0x2021_1000, // addi r1, r1, 4096
-        0x2042_FFFF, // addi r2, r2, -1
-        0x1440_FFE4, // bnez r2, -28
-        0x2084_0001, // addi r4, r4, 1: its delay slot
-        0x0BFF_FFCC, // j -52
-        0x00E6_3826, // xor r7, r7, r6: its delay slot
-    ];
-    fill(words, 2, 0, &list);
-}
+const BYTES_LOOP: [u32; 14] = [
+    0x20A5_0002, // addi r5, r5, 2
+    0x30A1_0FFE, // andi r1, r5, 4094
+    0x2021_1000, // addi r1, r1, 4096: the first data page
+    0x2002_0040, // addi r2, r0, 64
+    0x9023_0000, // lbu r3, 0(r1): the inner loop's first
+    0x2063_0001, // addi r3, r3, 1
+    0xA023_0000, // sb r3, 0(r1)
+    0x8426_0000, // lh r6, 0(r1)
+    0x2021_1000, // addi r1, r1, 4096
+    0x2042_FFFF, // addi r2, r2, -1
+    0x1440_FFE4, // bnez r2, -28
+    0x2084_0001, // addi r4, r4, 1: its delay slot
+    0x0BFF_FFCC, // j -52
+    0x00E6_3826, // xor r7, r7, r6: its delay slot
+];
 
 // The loop of register work, with branches and calls.
-fn put_registers_loop(words: &mut [u32; 69632]) {
-    let list = [
-        0x20A5_0001, // addi r5, r5, 1
-        0x00C5_3026, // xor r6, r6, r5
-        0x00E6_3820, // add r7, r7, r6
-        0x30E8_00FF, // andi r8, r7, 255
-        0x7109_0080, // slsi r9, r8, 128
-        0x1520_000C, // bnez r9, 12: over the next two
-        0x214A_0003, // addi r10, r10, 3: its delay slot
-        0x00EA_5822, // sub r11, r7, r10
-        0x0165_6025, // or r12, r11, r5
-        0x018B_6829, // sgr r13, r12, r11
-        0x11A0_0008, // beqz r13, 8: over the next one
-        0x39CE_0055, // xori r14, r14, 85: its delay slot
-        0x01CC_7824, // and r15, r14, r12
-        0x3C10_1234, // lhgi r16, 4660
-        0x0C00_0010, // jal 16: calls the last three
-        0x3611_0011, // ori r17, r16, 17: its delay slot
-        0x2A52_0001, // subi r18, r18, 1
-        0x0BFF_FFB8, // j -72
-        0x0092_2020, // add r4, r4, r18: its delay slot
-        0x0225_9820, // add r19, r17, r5: called
-        0x5BE0_0000, // jr r31
-        0x0073_1826, // xor r3, r3, r19: its delay slot
-    ];
-    fill(words, 2, 0, &list);
-}
+const REGISTERS_LOOP: [u32; 22] = [
+    0x20A5_0001, // addi r5, r5, 1
+    0x00C5_3026, // xor r6, r6, r5
+    0x00E6_3820, // add r7, r7, r6
+    0x30E8_00FF, // andi r8, r7, 255
+    0x7109_0080, // slsi r9, r8, 128
+    0x1520_000C, // bnez r9, 12: over the next two
+    0x214A_0003, // addi r10, r10, 3: its delay slot
+    0x00EA_5822, // sub r11, r7, r10
+    0x0165_6025, // or r12, r11, r5
+    0x018B_6829, // sgr r13, r12, r11
+    0x11A0_0008, // beqz r13, 8: over the next one
+    0x39CE_0055, // xori r14, r14, 85: its delay slot
+    0x01CC_7824, // and r15, r14, r12
+    0x3C10_1234, // lhgi r16, 4660
+    0x0C00_0010, // jal 16: calls the last three
+    0x3611_0011, // ori r17, r16, 17: its delay slot
+    0x2A52_0001, // subi r18, r18, 1
+    0x0BFF_FFB8, // j -72
+    0x0092_2020, // add r4, r4, r18: its delay slot
+    0x0225_9820, // add r19, r17, r5: called
+    0x5BE0_0000, // jr r31
+    0x0073_1826, // xor r3, r3, r19: its delay slot
+];
 
 // The loop of traps: every tenth of its steps is one.
-fn put_traps_loop(words: &mut [u32; 69632]) {
-    let list = [
-        0x20A5_0004, // addi r5, r5, 4
-        0x30A1_0FFC, // andi r1, r5, 4092
-        0x2021_1000, // addi r1, r1, 4096: the first data page
-        0x8C23_0000, // lw r3, 0(r1)
-        0x2063_0001, // addi r3, r3, 1
-        0xAC23_0000, // sw r3, 0(r1)
-        0x00E3_3826, // xor r7, r7, r3
-        0xF800_0005, // trap 5
-        0x0BFF_FFDC, // j -36
-        0x2084_0001, // addi r4, r4, 1: its delay slot
-    ];
-    fill(words, 2, 0, &list);
-}
+const TRAPS_LOOP: [u32; 10] = [
+    0x20A5_0004, // addi r5, r5, 4
+    0x30A1_0FFC, // andi r1, r5, 4092
+    0x2021_1000, // addi r1, r1, 4096: the first data page
+    0x8C23_0000, // lw r3, 0(r1)
+    0x2063_0001, // addi r3, r3, 1
+    0xAC23_0000, // sw r3, 0(r1)
+    0x00E3_3826, // xor r7, r7, r3
+    0xF800_0005, // trap 5
+    0x0BFF_FFDC, // j -36
+    0x2084_0001, // addi r4, r4, 1: its delay slot
+];
 
 // The loop that the timer interrupts.
-fn put_timer_loop(words: &mut [u32; 69632]) {
-    let list = [
-        0x20A5_0004, // addi r5, r5, 4
-        0x30A1_0FFC, // andi r1, r5, 4092
-        0x2021_1000, // addi r1, r1, 4096: the first data page
-        0x8C23_0000, // lw r3, 0(r1)
-        0x2063_0001, // addi r3, r3, 1
-        0xAC23_0000, // sw r3, 0(r1)
-        0x00E3_3826, // xor r7, r7, r3
-        0x0107_4020, // add r8, r8, r7
-        0x0BFF_FFDC, // j -36
-        0x2084_0001, // addi r4, r4, 1: its delay slot
-    ];
-    fill(words, 2, 0, &list);
-}
+const TIMER_LOOP: [u32; 10] = [
+    0x20A5_0004, // addi r5, r5, 4
+    0x30A1_0FFC, // andi r1, r5, 4092
+    0x2021_1000, // addi r1, r1, 4096: the first data page
+    0x8C23_0000, // lw r3, 0(r1)
+    0x2063_0001, // addi r3, r3, 1
+    0xAC23_0000, // sw r3, 0(r1)
+    0x00E3_3826, // xor r7, r7, r3
+    0x0107_4020, // add r8, r8, r7
+    0x0BFF_FFDC, // j -36
+    0x2084_0001, // addi r4, r4, 1: its delay slot
+];
 
 // The guests.
 #[derive(Clone, Copy)]
@@ -244,26 +217,26 @@ fn guest_of(number: u32) -> Option<Guest> {
 fn put_guest(words: &mut [u32; 69632], guest: Guest) {
     match guest {
         Guest::Words => {
-            put_start(words);
-            put_words_loop(words);
+            fill(words, 0, 0, &START);
+            fill(words, 2, 0, &WORDS_LOOP);
         }
         Guest::Bytes => {
-            put_start(words);
-            put_bytes_loop(words);
+            fill(words, 0, 0, &START);
+            fill(words, 2, 0, &BYTES_LOOP);
         }
         Guest::Registers => {
-            put_start(words);
-            put_registers_loop(words);
+            fill(words, 0, 0, &START);
+            fill(words, 2, 0, &REGISTERS_LOOP);
         }
         Guest::Traps => {
-            put_start_handled(words);
-            put_handler(words);
-            put_traps_loop(words);
+            fill(words, 0, 0, &START_HANDLED);
+            fill(words, 0, 24, &HANDLER);
+            fill(words, 2, 0, &TRAPS_LOOP);
         }
         Guest::Timer => {
-            put_start_timed(words);
-            put_handler(words);
-            put_timer_loop(words);
+            fill(words, 0, 0, &START_TIMED);
+            fill(words, 0, 24, &HANDLER);
+            fill(words, 2, 0, &TIMER_LOOP);
         }
     }
 }

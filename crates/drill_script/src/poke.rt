@@ -1,5 +1,5 @@
 // Any value in any place of a house, by the place's index.
-ghost use Rattle.std.specs.Prelude.{◌≡◌, ◌<◌};
+ghost use Rattle.std.specs.Prelude.{◌≡◌};
 ghost use Rattle.drill_script.specs.Poke.{scalar_poked, own_poked, poked};
 
 use dlx::partition::Partition;

@@ -1,5 +1,5 @@
 // Words of a script's bytes, and words of the memory.
-ghost use Rattle.std.specs.Prelude.{◌≡◌, ◌+◌, ◌*◌, ◌<◌, ◌≤◌, min, length};
+ghost use Rattle.std.specs.Prelude.{◌≡◌, ◌+◌, ◌*◌, ◌≤◌, min, length};
 ghost use Rattle.house.specs.Lists.{list_from};
 ghost use Rattle.drill_script.specs.Words.{word_at, marked_of, filled_of};
 

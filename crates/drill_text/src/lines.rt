@@ -1,5 +1,5 @@
 // The lines that tell of the answer, the house's own numbers, the memory, the outputs of a read-out and a save, and what an audit found.
-ghost use Rattle.std.specs.Prelude.{◌≡◌, ◌+◌, ◌-◌, ◌*◌, ◌≤◌, [], ◌++◌, length, take, drop};
+ghost use Rattle.std.specs.Prelude.{◌≡◌, ◌+◌, ◌*◌, ◌≤◌, [], ◌++◌, length};
 ghost use Rattle.decimal.specs.Texts.{ascii, Puts};
 ghost use Rattle.drill_text.specs.Numbers.{number_of, numbers_of};
 ghost use Rattle.drill_text.specs.Lines.{row_of, flags_of, house_of, name_of, call_of, memory_of, output_of, written_of, stale_of};

@@ -116,9 +116,9 @@ fn arrays(
     frames: &[u32],
     entries: &[u32],
 ) -> usize
-    requires fact_1 { length registers.now ≡ 32 }
-    requires fact_2 { length frames.now ≡ 256 }
-    requires fact_3 { length entries.now ≡ shadow_length }
+    requires registers_length { length registers.now ≡ 32 }
+    requires frames_length { length frames.now ≡ 256 }
+    requires entries_length { length entries.now ≡ shadow_length }
     ensures { Puts text.old used text.new result (row_of (ascii "registers") registers.now ++ (row_of (ascii "frames") (take (listed_of frames.now) frames.now) ++ shadow_of entries.now)) (longest - 388) }
 {
     let n = listed(frames);
@@ -136,9 +136,9 @@ fn partition(
     frames: &[u32],
     entries: &[u32],
 ) -> usize
-    requires fact_1 { length registers.now ≡ 32 }
-    requires fact_2 { length frames.now ≡ 256 }
-    requires fact_3 { length entries.now ≡ shadow_length }
+    requires registers_length { length registers.now ≡ 32 }
+    requires frames_length { length frames.now ≡ 256 }
+    requires entries_length { length entries.now ≡ shadow_length }
     ensures { Puts text.old used text.new result (partition_of i p registers.now frames.now entries.now) longest }
 {
     if blank(p, registers, frames, entries) {
@@ -158,10 +158,10 @@ fn nth(
     frames: &[u32],
     shadows: &[u32],
 ) -> usize
-    requires fact_1 { i < 8 }
-    requires fact_2 { length registers.now ≡ 256 }
-    requires fact_3 { length frames.now ≡ 2048 }
-    requires fact_4 { length shadows.now ≡ all_entries }
+    requires i_bound { i < 8 }
+    requires registers_length { length registers.now ≡ 256 }
+    requires frames_length { length frames.now ≡ 2048 }
+    requires shadows_length { length shadows.now ≡ all_entries }
     ensures { Puts text.old used text.new result (partition_of i p (inner (i * 32) 32 registers.now) (inner (i * 256) 256 frames.now) (inner (i * shadow_length) shadow_length shadows.now)) longest }
 {
     let a = i * 32;
@@ -189,9 +189,9 @@ fn each(
     frames: &[u32],
     shadows: &[u32],
 ) -> usize
-    requires fact_1 { length registers.now ≡ 256 }
-    requires fact_2 { length frames.now ≡ 2048 }
-    requires fact_3 { length shadows.now ≡ all_entries }
+    requires registers_length { length registers.now ≡ 256 }
+    requires frames_length { length frames.now ≡ 2048 }
+    requires shadows_length { length shadows.now ≡ all_entries }
     ensures { Puts text.old used text.new result (joined (λ k. partition_of k (slice_index_or parts k no_partition) (inner (k * 32) 32 registers.now) (inner (k * 256) 256 frames.now) (inner (k * shadow_length) shadow_length shadows.now)) 8) (8 * longest) }
 {
     let mut end = used;

@@ -57,9 +57,9 @@ fn fetch(
     words: &[u32],
     latest: &mut u32,
 ) -> Effect
-    requires fact_1 { length regs.now ≡ 32 }
-    requires fact_2 { Placed frames.now pages (length words.now) }
-    requires fact_3 { Shadowed frames.now pages shadow.old }
+    requires regs_length { length regs.now ≡ 32 }
+    requires placed { Placed frames.now pages (length words.now) }
+    requires shadowed { Shadowed frames.now pages shadow.old }
     ensures { ((result, core p regs.now latest.new k), host t words.now shadow.new) ≡ fetched (host_memory frames.now pages) (core p regs.now latest.old k, host t words.now shadow.old) }
 {
     let dpc = p.dpc;
@@ -97,11 +97,11 @@ fn access(
     latest: &mut u32,
     e: Effect,
 ) -> Change
-    requires fact_1 { length regs.old ≡ 32 }
-    requires fact_2 { Placed frames.now pages (length words.old) }
-    requires fact_3 { Shadowed frames.now pages shadow.old }
-    requires fact_4 { Seated count i (queues tickets.old waiting.old) }
-    requires fact_5 { Asks e }
+    requires regs_length { length regs.old ≡ 32 }
+    requires placed { Placed frames.now pages (length words.old) }
+    requires shadowed { Shadowed frames.now pages shadow.old }
+    requires seated { Seated count i (queues tickets.old waiting.old) }
+    requires asks { Asks e }
     ensures { (k : Timer) → (((result, core p regs.new latest.new k), host t words.new shadow.new), queues tickets.new waiting.new) ≡ accessed_at (host_memory frames.now pages) (desk count i) (core p regs.old latest.old k) e (host t words.old shadow.old) (queues tickets.old waiting.old) }
 {
     let next = std::num::wrapping_add_u32(p.pc, 4);
@@ -175,12 +175,12 @@ pub fn step(
     waiting: &mut [u32],
     latest: &mut u32,
 ) -> Stepped
-    requires fact_1 { length regs.old ≡ 32 }
-    requires fact_2 { Placed frames.now pages (length words.old) }
-    requires fact_3 { Shadowed frames.now pages shadow.old }
-    requires fact_4 { Seated count i (queues tickets.old waiting.old) }
-    ensures fact_1 { (((result.change, core result.processor regs.new latest.new k), host t words.new shadow.new), queues tickets.new waiting.new) ≡ passed_at (host_memory frames.now pages) (desk count i) (core p regs.old latest.old k, host t words.old shadow.old) (queues tickets.old waiting.old) }
-    ensures fact_2 { result.plain ≡ plainly result.change }
+    requires regs_length { length regs.old ≡ 32 }
+    requires placed { Placed frames.now pages (length words.old) }
+    requires shadowed { Shadowed frames.now pages shadow.old }
+    requires seated { Seated count i (queues tickets.old waiting.old) }
+    ensures stepped { (((result.change, core result.processor regs.new latest.new k), host t words.new shadow.new), queues tickets.new waiting.new) ≡ passed_at (host_memory frames.now pages) (desk count i) (core p regs.old latest.old k, host t words.old shadow.old) (queues tickets.old waiting.old) }
+    ensures plain { result.plain ≡ plainly result.change }
 {
     let e = fetch(p, t, k, pages, regs, frames, shadow, words, latest);
     let change = access(
@@ -221,10 +221,10 @@ fn general(
     waiting: &mut [u32],
     latest: &mut u32,
 ) -> Walked
-    requires fact_1 { length regs.old ≡ 32 }
-    requires fact_2 { Placed frames.now pages (length words.old) }
-    requires fact_3 { Shadowed frames.now pages shadow.old }
-    requires fact_4 { Seated count i (queues tickets.old waiting.old) }
+    requires regs_length { length regs.old ≡ 32 }
+    requires placed { Placed frames.now pages (length words.old) }
+    requires shadowed { Shadowed frames.now pages shadow.old }
+    requires seated { Seated count i (queues tickets.old waiting.old) }
     ensures { walked_of result regs.new latest.new words.new shadow.new (queues tickets.new waiting.new) ≡ step_at (host_memory frames.now pages) (desk count i) (core p regs.old latest.old k, host t words.old shadow.old) (queues tickets.old waiting.old) }
 {
     let s = step(
@@ -336,8 +336,8 @@ fn advance(s: &mut [u32], dpc: u32, pc: u32, made: u32)
 
 // A leg of plain steps was made: its end.
 fn arrive(s: &mut [u32], dpc: u32, pc: u32, made: u32)
-    requires fact_1 { length s.old ≡ 14 }
-    requires fact_2 { Fits (timer_at s.old) made }
+    requires s_length { length s.old ≡ 14 }
+    requires fits { Fits (timer_at s.old) made }
     ensures { Arrived s.old dpc pc made s.new }
 {
     let p = at(processor_of(s), dpc, pc);
@@ -363,8 +363,8 @@ fn arrive(s: &mut [u32], dpc: u32, pc: u32, made: u32)
 
 // The step of a word that is rfe in system mode or a trap in user mode, where the timer reaches no 0 in it.
 fn event(s: &mut [u32], w: u32) -> bool
-    requires fact_1 { length s.old ≡ 14 }
-    requires fact_2 { ((timer_at s.old).tcount ≢ 1) }
+    requires s_length { length s.old ≡ 14 }
+    requires no_zero_reached { ((timer_at s.old).tcount ≢ 1) }
     ensures { (result ≡ true → Happened s.old w s.new) × (result ≡ false → s.new ≡ s.old) }
 {
     let p = processor_of(s);
@@ -402,11 +402,11 @@ fn leap(
     words: &mut [u32],
     n: u32,
 ) -> ControlFlow<u32, u32>
-    requires fact_1 { length s.old ≡ 14 }
-    requires fact_2 { length regs.old ≡ 32 }
-    requires fact_3 { Placed frames.now pages (length words.old) }
-    requires fact_4 { Shadowed frames.now pages shadow.now }
-    requires fact_5 { 0 < n }
+    requires s_length { length s.old ≡ 14 }
+    requires regs_length { length regs.old ≡ 32 }
+    requires placed { Placed frames.now pages (length words.old) }
+    requires shadowed { Shadowed frames.now pages shadow.now }
+    requires n_positive { 0 < n }
     ensures { MatchControlFlow result (λ rest. Leads frames.now pages shadow.now n rest s.old regs.old words.old s.new regs.new words.new × (rest < n)) (λ rest. Leads frames.now pages shadow.now n rest s.old regs.old words.old s.new regs.new words.new) × (length s.new ≡ 14) × (length regs.new ≡ length regs.old) × (length words.new ≡ length words.old) }
 {
     let p = processor_of(s);
@@ -439,10 +439,10 @@ fn ahead(
     words: &mut [u32],
     n: u32,
 ) -> u32
-    requires fact_1 { length s.old ≡ 14 }
-    requires fact_2 { length regs.old ≡ 32 }
-    requires fact_3 { Placed frames.now pages (length words.old) }
-    requires fact_4 { Shadowed frames.now pages shadow.now }
+    requires s_length { length s.old ≡ 14 }
+    requires regs_length { length regs.old ≡ 32 }
+    requires placed { Placed frames.now pages (length words.old) }
+    requires shadowed { Shadowed frames.now pages shadow.now }
     ensures { (Leads frames.now pages shadow.now n result s.old regs.old words.old s.new regs.new words.new) × (length s.new ≡ 14) × (length regs.new ≡ length regs.old) × (length words.new ≡ length words.old) }
 {
     let mut left = n;
@@ -478,12 +478,12 @@ pub fn turn(
     latest: &mut u32,
     n: u32,
 ) -> Turned
-    requires fact_1 { (length state.old ≡ 14) × (length regs.old ≡ 32) }
-    requires fact_2 { Placed frames.now pages (length words.old) }
-    requires fact_3 { Shadowed frames.now pages shadow.old }
-    requires fact_4 { Seated count i (queues tickets.old waiting.old) }
-    ensures fact_1 { turned_of result state.new regs.new latest.new words.new shadow.new (queues tickets.new waiting.new) ≡ stretch_from (host_memory frames.now pages) (desk count i) n 0 (core (processor_at state.old) regs.old latest.old (timer_at state.old), host (table_at state.old) words.old shadow.old) (queues tickets.old waiting.old) }
-    ensures fact_2 { length state.new ≡ 14 }
+    requires lengths { (length state.old ≡ 14) × (length regs.old ≡ 32) }
+    requires placed { Placed frames.now pages (length words.old) }
+    requires shadowed { Shadowed frames.now pages shadow.old }
+    requires seated { Seated count i (queues tickets.old waiting.old) }
+    ensures turned { turned_of result state.new regs.new latest.new words.new shadow.new (queues tickets.new waiting.new) ≡ stretch_from (host_memory frames.now pages) (desk count i) n 0 (core (processor_at state.old) regs.old latest.old (timer_at state.old), host (table_at state.old) words.old shadow.old) (queues tickets.old waiting.old) }
+    ensures state_length { length state.new ≡ 14 }
 {
     let mut rest = ahead(state, pages, regs, frames, shadow, words, n);
     // Not a `for`: behind the general step, `ahead` makes several more.
@@ -525,10 +525,10 @@ pub fn stretch(
     latest: &mut u32,
     n: u32,
 ) -> Stretched
-    requires fact_1 { length regs.old ≡ 32 }
-    requires fact_2 { Placed frames.now pages (length words.old) }
-    requires fact_3 { Shadowed frames.now pages shadow.old }
-    requires fact_4 { Seated count i (queues tickets.old waiting.old) }
+    requires regs_length { length regs.old ≡ 32 }
+    requires placed { Placed frames.now pages (length words.old) }
+    requires shadowed { Shadowed frames.now pages shadow.old }
+    requires seated { Seated count i (queues tickets.old waiting.old) }
     ensures { stretch_of result regs.new latest.new words.new shadow.new (queues tickets.new waiting.new) ≡ stretch_from (host_memory frames.now pages) (desk count i) n 0 (core p regs.old latest.old k, host t words.old shadow.old) (queues tickets.old waiting.old) }
 {
     let mut state = [0u32; 14];

@@ -12,6 +12,7 @@ use dlx::words::wide;
 use house::Refusal;
 
 // The record at hand: how many of its bytes have come, its body length, its kind, the frame number in front of a kind 3, and the last four bytes.
+// Kinds are numbers here, not an enum: a file may hold any, and `feed` answers for a reader with any.
 #[derive(Clone, Copy)]
 pub struct Record {
     pub bytes: u32,

@@ -21,8 +21,8 @@ fn following(n: u32, i: u32) -> u32
 
 // The next running partition after i, itself if alone.
 pub fn next(running: &[bool; 8], n: u32, i: u32) -> u32
-    requires fact_1 { n ≤ 8 }
-    requires fact_2 { i < n }
+    requires n_bound { n ≤ 8 }
+    requires i_bound { i < n }
     ensures { result ≡ next_of running.now n i }
 {
     let mut at = i;
@@ -45,9 +45,9 @@ pub fn turn(
     made: u32,
     called: bool,
 ) -> Turn
-    requires fact_1 { n ≤ 8 }
-    requires fact_2 { current < n }
-    requires fact_3 { made ≤ left }
+    requires n_bound { n ≤ 8 }
+    requires current_bound { current < n }
+    requires made_bound { made ≤ left }
     ensures { result ≡ turn_of running.now n q current left made called }
 {
     if left == made {
@@ -100,10 +100,10 @@ fn later(
     made: u32,
     called: bool,
 ) -> Turn
-    requires fact_1 { n ≤ 8 }
-    requires fact_2 { current < n }
-    requires fact_3 { 0 < q }
-    requires fact_4 { (alone ≡ false → made ≤ left) }
+    requires n_bound { n ≤ 8 }
+    requires current_bound { current < n }
+    requires q_positive { 0 < q }
+    requires made_bound { (alone ≡ false → made ≤ left) }
     ensures { result ≡ later_of alone running.now n q current left made called }
 {
     if alone {

@@ -37,8 +37,8 @@ pub fn start(h: House, i: u32) -> House
 }
 
 pub fn stop(h: House, i: u32) -> House
-    requires fact_1 { h.count ≤ 8 }
-    requires fact_2 { i < h.count }
+    requires count_bound { h.count ≤ 8 }
+    requires i_bound { i < h.count }
     ensures { result ≡ stopped h i }
 {
     let mut running = h.running;
@@ -72,9 +72,9 @@ pub fn empty(h: House, i: u32) -> House
 
 // The guest's words from one on, into the first of an output.
 pub fn read(frames: &[u32], pages: u32, words: &[u32], from: usize, count: usize, out: &mut [u32])
-    requires fact_1 { Placed frames.now pages (length words.now) }
-    requires fact_2 { from + count ≤ pages * 1024 }
-    requires fact_3 { count ≤ length out.old }
+    requires placed { Placed frames.now pages (length words.now) }
+    requires count_bound { from + count ≤ pages * 1024 }
+    requires out_room { count ≤ length out.old }
     ensures { out.new ≡ list_from (λ j. host_word frames.now words.now (from + j)) 0 count ++ drop count out.old }
 {
     for (j, word) in out[..count].iter_mut().enumerate() {

@@ -113,11 +113,11 @@ fn crossing(a: u32, m: u32, b: u32, n: usize) -> bool
 
 // Image j of the table stands where one of n words of image k would.
 fn meets(table: &[u32], counts: &[u32], k: u32, n: usize, j: u32) -> bool
-    requires fact_1 { k < 64 }
-    requires fact_2 { j < 64 }
-    requires fact_3 { n < 1073741824 }
-    requires fact_4 { length table.now ≡ 192 }
-    requires fact_5 { length counts.now ≡ 64 }
+    requires k_bound { k < 64 }
+    requires j_bound { j < 64 }
+    requires n_bound { n < 1073741824 }
+    requires table_length { length table.now ≡ 192 }
+    requires counts_length { length counts.now ≡ 64 }
     ensures { result ≡ meeting table.now counts.now k n j }
 {
     let i = wide(j);
@@ -128,10 +128,10 @@ fn meets(table: &[u32], counts: &[u32], k: u32, n: usize, j: u32) -> bool
 
 // One of those before it does.
 fn meets_any(table: &[u32], counts: &[u32], k: u32, n: usize) -> bool
-    requires fact_1 { k < 64 }
-    requires fact_2 { n < 1073741824 }
-    requires fact_3 { length table.now ≡ 192 }
-    requires fact_4 { length counts.now ≡ 64 }
+    requires k_bound { k < 64 }
+    requires n_bound { n < 1073741824 }
+    requires table_length { length table.now ≡ 192 }
+    requires counts_length { length counts.now ≡ 64 }
     ensures { result ≡ any (meeting table.now counts.now k n) k }
 {
     (0..k).any(|j| meets(table, counts, k, n, j))
@@ -155,10 +155,10 @@ pub enum Fault {
 
 // Why image k, of so many bytes, is not laid behind those before it; none where it may be.
 pub fn fault_of(pages: &[u32], table: &[u32], counts: &[u32], k: u32, size: usize) -> Option<Fault>
-    requires fact_1 { k < 64 }
-    requires fact_2 { size < 1073741824 }
-    requires fact_3 { length table.now ≡ 192 }
-    requires fact_4 { length counts.now ≡ 64 }
+    requires k_bound { k < 64 }
+    requires size_bound { size < 1073741824 }
+    requires table_length { length table.now ≡ 192 }
+    requires counts_length { length counts.now ≡ 64 }
     ensures { result ≡ fault_of pages.now table.now counts.now k size }
 {
     if size % 4 != 0 {

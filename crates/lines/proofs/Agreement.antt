@@ -1,8 +1,9 @@
 -- The table is that of `dlx`: every word that it reads as an instruction, and whose ignored fields are 0, has the row of that instruction; no other word has one.
 use mathlib.Core.Path.{◌≡◌, refl, sym, ap, ◌∙◌}
 use mathlib.Core.Bool.{Bool, true, false, not, ◌&&◌, ◌||◌}
-use mathlib.Core.List.{List, ◌++◌}
-use Prim.Native.Nat.{ℕ, zero, suc, ◌+◌, ◌-◌, ◌*◌, ◌/◌, ◌%◌, ◌^◌, ◌<◌}
+use mathlib.Core.List.{List, [], ◌∷◌, ◌++◌}
+use lib.ListN.{get_or}
+use Prim.Native.Nat.{ℕ, ◌+◌, ◌-◌, ◌*◌, ◌/◌, ◌%◌, ◌^◌, ◌<◌}
 use native.Mathlib.Nat.{mod-mod, mod-eq_of_lt, add-mul-mod_self_left}
 use native.Mathlib.Omega.{arith}
 use borrow.Author.Tests.{eqb-true, eqb-false, eq-eqb, le-leb, lt-leb, lt-ltb}
@@ -18,7 +19,9 @@ use Rattle.dlx.proofs.Tests.{by_test, and_left}
 use Rattle.decimal.specs.Decimals.{decimal}
 use Rattle.decimal.specs.Texts.{same, ascii}
 use Rattle.decimal.proofs.Same.{and_right, same_eq}
-use Rattle.lines.specs.Table.{operand_at, operands, special, Row, named, unnamed, row_at}
+use Rattle.lines.specs.declared.Kind.{Kind}
+use Rattle.lines.specs.declared.Kind.TheVariants.{Unused, Rs1, Rs2, Rd, RdOfR, Special, Short, High, Long, Whole}
+use Rattle.lines.specs.Table.{operand_at, Row, named, unnamed, row_at}
 use Rattle.lines.specs.Lines.{written, field_of, operand_text, text_by, code_of, bare_of, made, remade, within, fits, place_from, column, coded, place_of, line_of}
 use Rattle.lines.specs.Called.{legal, test_name, access_name, immediate_row, register_row, row_for, values_in, word_of, text_of}
 use Rattle.lines.proofs.Tables.{below, below_at}
@@ -131,33 +134,69 @@ module _ (w : ℕ) where
 
 -- ---- the test over all codes
 
-same_row : Row → Row → Bool
-same_row r t = same r.name t.name && eqb r.code t.code && eqb r.first t.first && eqb r.second t.second && eqb r.third t.third
+-- the kinds by number
+kind_number : Kind → ℕ
+kind_number Unused = 0
+kind_number Rs1 = 1
+kind_number Rs2 = 2
+kind_number Rd = 3
+kind_number RdOfR = 4
+kind_number Special = 5
+kind_number Short = 6
+kind_number High = 7
+kind_number Long = 8
+kind_number Whole = 9
 
-abbrev built : List ℕ → ℕ → ℕ → ℕ → ℕ → Row
+kind_at : ℕ → Kind
+kind_at n = get_or (Unused ∷ Rs1 ∷ Rs2 ∷ Rd ∷ RdOfR ∷ Special ∷ Short ∷ High ∷ Long ∷ Whole ∷ []) n Unused
+
+kind_back : (k : Kind) → kind_at (kind_number k) ≡ k
+unfolding kind_number kind_at
+kind_back Unused = refl
+kind_back Rs1 = refl
+kind_back Rs2 = refl
+kind_back Rd = refl
+kind_back RdOfR = refl
+kind_back Special = refl
+kind_back Short = refl
+kind_back High = refl
+kind_back Long = refl
+kind_back Whole = refl
+
+same_kind : Kind → Kind → Bool
+same_kind x y = eqb (kind_number x) (kind_number y)
+
+kinds_equal : (x y : Kind) → same_kind x y ≡ true → x ≡ y
+unfolding same_kind
+kinds_equal x y e = sym (kind_back x) ∙ ap kind_at (eqb-true (kind_number x) (kind_number y) e) ∙ kind_back y
+
+same_row : Row → Row → Bool
+same_row r t = same r.name t.name && eqb r.code t.code && same_kind r.first t.first && same_kind r.second t.second && same_kind r.third t.third
+
+abbrev built : List ℕ → ℕ → Kind → Kind → Kind → Row
 built n c x y z = record { name = n; code = c; first = x; second = y; third = z }
 
-joined : {n m : List ℕ} {c c' x x' y y' z z' : ℕ} → n ≡ m → c ≡ c' → x ≡ x' → y ≡ y' → z ≡ z' → built n c x y z ≡ built m c' x' y' z'
+joined : {n m : List ℕ} {c c' : ℕ} {x x' y y' z z' : Kind} → n ≡ m → c ≡ c' → x ≡ x' → y ≡ y' → z ≡ z' → built n c x y z ≡ built m c' x' y' z'
 joined n c x y z = rw (n, c, x, y, z)
 
 rows_equal : (r t : Row) → same_row r t ≡ true → r ≡ t
 unfolding same_row
 rows_equal r t e =
-    let e3 = and_left _ (eqb r.third t.third) e in
-    let e2 = and_left _ (eqb r.second t.second) e3 in
-    let e1 = and_left _ (eqb r.first t.first) e2 in
+    let e3 = and_left _ (same_kind r.third t.third) e in
+    let e2 = and_left _ (same_kind r.second t.second) e3 in
+    let e1 = and_left _ (same_kind r.first t.first) e2 in
     let n : r.name ≡ t.name = same_eq r.name t.name (and_left (same r.name t.name) (eqb r.code t.code) e1) in
     let c : r.code ≡ t.code = eqb-true r.code t.code (and_right (same r.name t.name) (eqb r.code t.code) e1) in
-    let x : r.first ≡ t.first = eqb-true r.first t.first (and_right (same r.name t.name && eqb r.code t.code) _ e2) in
-    let y : r.second ≡ t.second = eqb-true r.second t.second (and_right (same r.name t.name && eqb r.code t.code && eqb r.first t.first) _ e3) in
+    let x : r.first ≡ t.first = kinds_equal r.first t.first (and_right (same r.name t.name && eqb r.code t.code) _ e2) in
+    let y : r.second ≡ t.second = kinds_equal r.second t.second (and_right (same r.name t.name && eqb r.code t.code && same_kind r.first t.first) _ e3) in
     let z : r.third ≡ t.third =
-    eqb-true r.third t.third (and_right (same r.name t.name && eqb r.code t.code && eqb r.first t.first && eqb r.second t.second) _ e)
+    kinds_equal r.third t.third (and_right (same r.name t.name && eqb r.code t.code && same_kind r.first t.first && same_kind r.second t.second) _ e)
     in
     joined n c x y z
 
 -- a row has no special register
 ordinary : Row → Bool
-ordinary r = not (eqb r.first special) && not (eqb r.second special) && not (eqb r.third special)
+ordinary r = not (same_kind r.first Special) && not (same_kind r.second Special) && not (same_kind r.third Special)
 
 -- the row of a code with a special number below 12, or of one above
 checked : ℕ → Bool → Bool
@@ -173,7 +212,7 @@ tested : ℕ → Bool
 tested n = checked n true && checked n false && checked (n * 64) true && checked (n * 64) false
 
 tested_all : below tested 64 ≡ true
-unfolding tested checked ordinary same_row sample bare_of coded column place_from row_at named unnamed ascii same instruction_of register_type part_type extended_by legal row_for immediate_row register_row test_name access_name
+unfolding tested checked ordinary same_row same_kind kind_number sample bare_of coded column place_from row_at named unnamed ascii same instruction_of register_type part_type extended_by legal row_for immediate_row register_row test_name access_name
 tested_all = refl
 
 code_checked : (w : ℕ) (b : Bool) → w < 2 ^ 32 → checked (code_of w) b ≡ true
@@ -225,7 +264,7 @@ module _ (w : ℕ) where
   or_else false e q = q
 
   registers_fields : Fields w (register_type w)
-  unfolding register_type row_for values_in register_row operand_at operands
+  unfolding register_type row_for values_in register_row operand_at
   registers_fields =
       let f = function w in
       or_else (eqb f 32) (at _ (five (2 ^ 11)) (five (2 ^ 21)) (five (2 ^ 16)))
@@ -238,7 +277,7 @@ module _ (w : ℕ) where
       (or_else (eqb f 17) (or_else (leb (sa w) 11) (at _ gone (five (2 ^ 6)) (five (2 ^ 21))) (at _ gone gone gone)) (at _ gone gone gone))))))))
 
   parts_fields : Fields w (part_type w)
-  unfolding part_type row_for values_in operand_at operands
+  unfolding part_type row_for values_in operand_at
   parts_fields =
       let o = opcode w in
       or_else (eqb o 32) (at _ (five (2 ^ 16)) (five (2 ^ 21)) sixteen)
@@ -250,15 +289,15 @@ module _ (w : ℕ) where
 
   -- by the shape of the instruction
   of_load : (o : ℕ) → Fields w (LoadBy o (rs1_of w) (extended 16 w) (rd_immediate w))
-  unfolding row_for values_in operand_at operands
+  unfolding row_for values_in operand_at
   of_load o = at (LoadBy o (rs1_of w) (extended 16 w) (rd_immediate w)) (five (2 ^ 16)) (five (2 ^ 21)) sixteen
 
   of_store : (o : ℕ) → Fields w (StoreBy o (rs1_of w) (extended 16 w) (rd_immediate w))
-  unfolding row_for values_in operand_at operands
+  unfolding row_for values_in operand_at
   of_store o = at (StoreBy o (rs1_of w) (extended 16 w) (rd_immediate w)) (five (2 ^ 16)) (five (2 ^ 21)) sixteen
 
   of_immediate : (op : Operation) → Fields w (Immediate op (rd_immediate w) (rs1_of w) (extended 16 w))
-  unfolding row_for values_in immediate_row operand_at operands
+  unfolding row_for values_in immediate_row operand_at
   of_immediate Add = at (Immediate Add (rd_immediate w) (rs1_of w) (extended 16 w)) (five (2 ^ 16)) (five (2 ^ 21)) sixteen
   of_immediate Sub = at (Immediate Sub (rd_immediate w) (rs1_of w) (extended 16 w)) (five (2 ^ 16)) (five (2 ^ 21)) sixteen
   of_immediate And = at (Immediate And (rd_immediate w) (rs1_of w) (extended 16 w)) (five (2 ^ 16)) (five (2 ^ 21)) sixteen
@@ -267,39 +306,39 @@ module _ (w : ℕ) where
   of_immediate (Test k) = at (Immediate (Test k) (rd_immediate w) (rs1_of w) (extended 16 w)) (five (2 ^ 16)) (five (2 ^ 21)) sixteen
 
   of_lhgi : Fields w (Lhgi (rd_immediate w) (extended 16 w))
-  unfolding row_for values_in operand_at operands
+  unfolding row_for values_in operand_at
   of_lhgi = at (Lhgi (rd_immediate w) (extended 16 w)) gone (five (2 ^ 16)) sixteen
 
   of_beqz : Fields w (Beqz (rs1_of w) (extended 16 w))
-  unfolding row_for values_in operand_at operands
+  unfolding row_for values_in operand_at
   of_beqz = at (Beqz (rs1_of w) (extended 16 w)) gone (five (2 ^ 21)) sixteen
 
   of_bnez : Fields w (Bnez (rs1_of w) (extended 16 w))
-  unfolding row_for values_in operand_at operands
+  unfolding row_for values_in operand_at
   of_bnez = at (Bnez (rs1_of w) (extended 16 w)) gone (five (2 ^ 21)) sixteen
 
   of_jr : Fields w (Jr (rs1_of w))
-  unfolding row_for values_in operand_at operands
+  unfolding row_for values_in operand_at
   of_jr = at (Jr (rs1_of w)) gone gone (five (2 ^ 21))
 
   of_jalr : Fields w (Jalr (rs1_of w))
-  unfolding row_for values_in operand_at operands
+  unfolding row_for values_in operand_at
   of_jalr = at (Jalr (rs1_of w)) gone gone (five (2 ^ 21))
 
   of_j : Fields w (J (extended 26 w))
-  unfolding row_for values_in operand_at operands
+  unfolding row_for values_in operand_at
   of_j = at (J (extended 26 w)) gone gone twenty_six
 
   of_jal : Fields w (Jal (extended 26 w))
-  unfolding row_for values_in operand_at operands
+  unfolding row_for values_in operand_at
   of_jal = at (Jal (extended 26 w)) gone gone twenty_six
 
   of_trap : Fields w (Trap (extended 26 w))
-  unfolding row_for values_in operand_at operands
+  unfolding row_for values_in operand_at
   of_trap = at (Trap (extended 26 w)) gone gone twenty_six
 
   of_rfe : Fields w Rfe
-  unfolding row_for values_in operand_at operands
+  unfolding row_for values_in operand_at
   of_rfe = at Rfe gone gone gone
 
   fields : Fields w (instruction_of w)
@@ -336,21 +375,21 @@ text_is w = let f = fields w in rw (f.first, f.second, f.third)
 
 -- ---- limits: only a special number has one
 
-limit_is : (k : ℕ) → (k ≡ special → ⊥) → (operand_at k).limit ≡ (operand_at k).size
-unfolding operand_at operands
-limit_is zero n = refl
-limit_is (suc zero) n = refl
-limit_is (suc (suc zero)) n = refl
-limit_is (suc (suc (suc zero))) n = refl
-limit_is (suc (suc (suc (suc zero)))) n = absurd (n refl)
-limit_is (suc (suc (suc (suc (suc zero))))) n = refl
-limit_is (suc (suc (suc (suc (suc (suc zero)))))) n = refl
-limit_is (suc (suc (suc (suc (suc (suc (suc zero))))))) n = refl
-limit_is (suc (suc (suc (suc (suc (suc (suc (suc zero)))))))) n = refl
-limit_is (suc (suc (suc (suc (suc (suc (suc (suc (suc k))))))))) n = refl
+limit_is : (k : Kind) → same_kind k Special ≡ false → (operand_at k).limit ≡ (operand_at k).size
+unfolding operand_at same_kind kind_number
+limit_is Unused e = refl
+limit_is Rs1 e = refl
+limit_is Rs2 e = refl
+limit_is Rd e = refl
+limit_is RdOfR e = refl
+limit_is Special e = cc
+limit_is Short e = refl
+limit_is High e = refl
+limit_is Long e = refl
+limit_is Whole e = refl
 
-special_within : (w : ℕ) → within special w ≡ leb (sa w) 11
-unfolding within operand_at operands
+special_within : (w : ℕ) → within Special w ≡ leb (sa w) 11
+unfolding within operand_at
 special_within w = leb-suc-suc (w / 2 ^ 6 % 32) 11
 
 either_way : (a b : Bool) → a || b ≡ true → a ≡ false → b ≡ true
@@ -358,21 +397,21 @@ either_way true b e q = cc
 either_way false b e q = e
 
 module _ (w : ℕ) where
-  within_is : (k : ℕ) → leb (sa w) 11 || not (eqb k special) ≡ true → within k w ≡ true
+  within_is : (k : Kind) → leb (sa w) 11 || not (same_kind k Special) ≡ true → within k w ≡ true
   unfolding within
   within_is k e =
-      by_test (eqb k special)
-      (λ q. rw (eqb-true k special q) (special_within w ∙ yes_left (leb (sa w) 11) (rw q at e)))
-      (λ q. lt-ltb (field_of (operand_at k) w) (operand_at k).limit (omega (arith, limit_is k (eqb-false k special q), field_below k w)))
+      by_test (same_kind k Special)
+      (λ q. rw (kinds_equal k Special q) (special_within w ∙ yes_left (leb (sa w) 11) (rw q at e)))
+      (λ q. lt-ltb (field_of (operand_at k) w) (operand_at k).limit (omega (arith, limit_is k q, field_below k w)))
     where
       yes_left : (a : Bool) → a || false ≡ true → a ≡ true
       yes_left true e = refl
       yes_left false e = e
 
-  within_gives : (k : ℕ) → within k w ≡ true → leb (sa w) 11 ≡ false → not (eqb k special) ≡ true
+  within_gives : (k : Kind) → within k w ≡ true → leb (sa w) 11 ≡ false → not (same_kind k Special) ≡ true
   within_gives k e q =
-      by_test (eqb k special)
-      (λ p. let z : within special w ≡ true = rw (eqb-true k special p) at e in let y : ◌≡◌ {A = Bool} true false = sym z ∙ special_within w ∙ q in cc)
+      by_test (same_kind k Special)
+      (λ p. let z : within Special w ≡ true = rw (kinds_equal k Special p) at e in let y : ◌≡◌ {A = Bool} true false = sym z ∙ special_within w ∙ q in cc)
       (λ p. rw p)
 
   module _ (r : Row) where
@@ -380,9 +419,9 @@ module _ (w : ℕ) where
     unfolding fits ordinary
     limits_kept e =
         rw (
-          within_is r.first (one (leb (sa w) 11) (λ q. and_left (not (eqb r.first special)) (not (eqb r.second special)) (and_left _ (not (eqb r.third special)) q)) e),
-          within_is r.second (one (leb (sa w) 11) (λ q. and_right (not (eqb r.first special)) (not (eqb r.second special)) (and_left _ (not (eqb r.third special)) q)) e),
-          within_is r.third (one (leb (sa w) 11) (λ q. and_right (not (eqb r.first special) && not (eqb r.second special)) _ q) e),
+          within_is r.first (one (leb (sa w) 11) (λ q. and_left (not (same_kind r.first Special)) (not (same_kind r.second Special)) (and_left _ (not (same_kind r.third Special)) q)) e),
+          within_is r.second (one (leb (sa w) 11) (λ q. and_right (not (same_kind r.first Special)) (not (same_kind r.second Special)) (and_left _ (not (same_kind r.third Special)) q)) e),
+          within_is r.third (one (leb (sa w) 11) (λ q. and_right (not (same_kind r.first Special) && not (same_kind r.second Special)) _ q) e),
         )
         (drop_true (eqb (remade r w) w))
       where
@@ -409,7 +448,7 @@ module _ (w : ℕ) where
 -- ---- the theorems
 
 unnamed_text : (w : ℕ) → w < 2 ^ 32 → text_by (row_at 45) w ≡ ascii "word " ++ decimal w
-unfolding text_by row_at named unnamed operand_text operand_at operands written ascii
+unfolding text_by row_at named unnamed operand_text operand_at written ascii
 unnamed_text w l = let e : w / 1 % 2 ^ 32 ≡ w = omega arith in rw e
 
 module _ (w : ℕ) (l : w < 2 ^ 32) where

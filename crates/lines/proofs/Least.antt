@@ -15,7 +15,7 @@ use Rattle.dlx.specs.declared.instruction.Instruction.{Instruction}
 use Rattle.dlx.specs.declared.instruction.Instruction.TheVariants.{Ill}
 use Rattle.decimal.specs.Decimals.{decimal}
 use Rattle.decimal.specs.Texts.{ascii}
-use Rattle.lines.specs.Table.{operand_at, operands}
+use Rattle.lines.specs.Table.{operand_at}
 use Rattle.lines.specs.Lines.{bare_of, made, remade, line_of}
 use Rattle.lines.specs.Called.{legal, immediate_row, register_row, row_for, Least, word_of, text_of}
 use Rattle.lines.proofs.Agreement.{remade_is, named_line, word_line}
@@ -145,7 +145,7 @@ record Again (w : ℕ) (i : Instruction) : Type 0 where
 
 module _ (w : ℕ) (lw : w < 2 ^ 32) where
   ill : Again w Ill
-  unfolding legal remade made row_for bare_of operand_at operands
+  unfolding legal remade made row_for bare_of operand_at
   ill = record { same = λ e. cc; under = omega arith }
 
   b5 : (k : ℕ) → w / k % 32 < 32
@@ -302,7 +302,7 @@ module _ (w : ℕ) (lw : w < 2 ^ 32) where
   tests_again z e = let l = leb-true 40 (function w) (and_left (leb 40 (function w)) (leb (function w) 47) e) in (omega arith, omega arith, l)
 
   registers_again : opcode w ≡ 0 → Again w (register_type w)
-  unfolding register_type row_for register_row remade made bare_of operand_at operands
+  unfolding register_type row_for register_row remade made bare_of operand_at
   registers_again z =
       let f = function w in
       or_again (eqb f 32) (λ e. left (register_word z 32 (eqb-true f 32 e) (omega arith) (omega arith) (register_made z 32 (eqb-true f 32 e))))
@@ -316,7 +316,7 @@ module _ (w : ℕ) (lw : w < 2 ^ 32) where
       ill)))))))
 
   parts_again : Again w (part_type w)
-  unfolding part_type row_for remade made bare_of operand_at operands
+  unfolding part_type row_for remade made bare_of operand_at
   parts_again =
       let o = opcode w in
       or_again (eqb o 32) (λ e. left (whole_left (short_all 32 (eqb-true o 32 e))))
@@ -328,7 +328,7 @@ module _ (w : ℕ) (lw : w < 2 ^ 32) where
       ill)))))
 
   again : Again w (instruction_of w)
-  unfolding instruction_of row_for immediate_row remade made bare_of operand_at operands
+  unfolding instruction_of row_for immediate_row remade made bare_of operand_at
   again =
       let o = opcode w in
       or_again (eqb o 35) (λ e. left (whole_left (short_all 35 (eqb-true o 35 e))))

@@ -14,7 +14,10 @@ use Rattle.decimal.specs.Decimals.{digit, decimal, signed_text}
 use Rattle.decimal.specs.Texts.{same}
 use Rattle.decimal.proofs.Decimals.{one_digit, more_digits, few_digits}
 use Rattle.decimal.proofs.Same.{and_right, same_refl, same_eq}
-use Rattle.lines.specs.Table.{Style, absent, number, register, signed, operand_at, operands, Row, named, unnamed, row_at}
+use Rattle.lines.specs.declared.Style.{Style}
+use Rattle.lines.specs.declared.Style.TheVariants.{Absent, Number, Register, Signed}
+use Rattle.lines.specs.declared.Kind.{Kind}
+use Rattle.lines.specs.Table.{operand_at, Row, named, unnamed, row_at}
 use Rattle.lines.specs.Lines.{written, field_of, operand_text, text_by, code_of, bare_of, made, remade, within, fits, place_from, column, coded, place_of, line_of, start, scan_from, marked, style_of, letters_of, lettered, last_of, candidate_by, candidate, right}
 use Rattle.lines.specs.declared.Scan.{Scan}
 use Rattle.lines.proofs.Scans.{scan_more, passed, scan_written, letters_passed}
@@ -24,32 +27,32 @@ use Rattle.lines.proofs.Tables.{sized, size_some, size_word, size_style, present
 
 first_moved : (y : Style) (m v : ℕ) (s : Scan) → present y ≡ true → (passed y m v s).first ≡ s.second
 unfolding passed present
-first_moved absent m v s e = cc
-first_moved number m v s e = refl
-first_moved register m v s e = refl
-first_moved signed m v s e = by_test (ltb v (m / 2)) (λ q. rw (q, passed)) (λ q. rw (q, passed))
+first_moved Absent m v s e = cc
+first_moved Number m v s e = refl
+first_moved Register m v s e = refl
+first_moved Signed m v s e = by_test (ltb v (m / 2)) (λ q. rw (q, passed)) (λ q. rw (q, passed))
 
 second_moved : (y : Style) (m v : ℕ) (s : Scan) → present y ≡ true → (passed y m v s).second ≡ s.third
 unfolding passed present
-second_moved absent m v s e = cc
-second_moved number m v s e = refl
-second_moved register m v s e = refl
-second_moved signed m v s e = by_test (ltb v (m / 2)) (λ q. rw (q, passed)) (λ q. rw (q, passed))
+second_moved Absent m v s e = cc
+second_moved Number m v s e = refl
+second_moved Register m v s e = refl
+second_moved Signed m v s e = by_test (ltb v (m / 2)) (λ q. rw (q, passed)) (λ q. rw (q, passed))
 
 minus_kept : (y : Style) (b : Bool) (m v : ℕ) (s : Scan) → plainly y b ≡ true → (passed y m v s).minus ≡ s.minus
 unfolding passed plainly
-minus_kept absent b m v s e = refl
-minus_kept number b m v s e = refl
-minus_kept register b m v s e = refl
-minus_kept signed b m v s e = cc
+minus_kept Absent b m v s e = refl
+minus_kept Number b m v s e = refl
+minus_kept Register b m v s e = refl
+minus_kept Signed b m v s e = cc
 
 -- a number x that stands for the operand v of m values, where x is what the operand left, if it is there
 plain_value : (y : Style) (b : Bool) (m v x : ℕ) (s : Scan) → plainly y b ≡ true → (b ≡ true → x ≡ (passed y m v s).third) → sized y m ≡ true → v < m → x % m ≡ v
 unfolding passed plainly sized
-plain_value absent b m v x s e f k l = let q = eqb-true m 1 k in rw (q, mod-one x) (omega arith)
-plain_value number b m v x s e f k l = rw (f e) (mod-eq_of_lt l)
-plain_value register b m v x s e f k l = rw (f e) (mod-eq_of_lt l)
-plain_value signed b m v x s e f k l = cc
+plain_value Absent b m v x s e f k l = let q = eqb-true m 1 k in rw (q, mod-one x) (omega arith)
+plain_value Number b m v x s e f k l = rw (f e) (mod-eq_of_lt l)
+plain_value Register b m v x s e f k l = rw (f e) (mod-eq_of_lt l)
+plain_value Signed b m v x s e f k l = cc
 
 -- a negative number comes back modulo the size
 below_zero : (m v : ℕ) → eqb m (2 ^ 16) || eqb m (2 ^ 26) ≡ true → v < m → (2 ^ 32 - (m - v)) % m ≡ v
@@ -60,24 +63,24 @@ below_zero m v e l =
 
 last_value : (y : Style) (m v : ℕ) (s : Scan) → s.minus ≡ false → sized y m ≡ true → v < m → last_of (passed y m v s) % m ≡ v
 unfolding passed sized
-last_value absent m v s n k l = let q = eqb-true m 1 k in rw (q, mod-one (last_of s)) (omega arith)
-last_value number m v s n k l = rw n (mod-eq_of_lt l)
-last_value register m v s n k l = rw n (mod-eq_of_lt l)
-last_value signed m v s n k l =
+last_value Absent m v s n k l = let q = eqb-true m 1 k in rw (q, mod-one (last_of s)) (omega arith)
+last_value Number m v s n k l = rw n (mod-eq_of_lt l)
+last_value Register m v s n k l = rw n (mod-eq_of_lt l)
+last_value Signed m v s n k l =
     by_test (ltb v (m / 2))
     (λ q. rw (q, passed, n) (mod-eq_of_lt l))
     (λ q. rw (q, passed) (below_zero m v k l))
 
 -- ---- a line by a row
 
-pub field_below : (k w : ℕ) → field_of (operand_at k) w < (operand_at k).size
+pub field_below : (k : Kind) (w : ℕ) → field_of (operand_at k) w < (operand_at k).size
 field_below k w = mod-lt (w / (operand_at k).scale) (size_some k)
 
 -- what the text of an operand leaves
-leaves : ℕ → ℕ → Scan → Scan
+leaves : Kind → ℕ → Scan → Scan
 leaves k w s = let o = operand_at k in passed o.style o.size (field_of o w) s
 
-scan_operand : (k w : ℕ) (s : Scan) → scan_from s (operand_text k w) ≡ leaves k w s
+scan_operand : (k : Kind) (w : ℕ) (s : Scan) → scan_from s (operand_text k w) ≡ leaves k w s
 unfolding operand_text leaves
 scan_operand k w s = let o = operand_at k in scan_written o.style o.size (field_of o w) s (field_below k w) (size_word k)
 
@@ -195,7 +198,7 @@ fits_remade r w e =
     (and_left _ (within r.first w) (and_left _ (within r.second w) (and_left _ (within r.third w) e)))
 
 unnamed_remade : (w : ℕ) → w < 2 ^ 32 → remade (row_at (length named)) w ≡ w
-unfolding row_at named unnamed remade made bare_of operand_at operands
+unfolding row_at named unnamed remade made bare_of operand_at
 unnamed_remade w l = omega arith
 
 pub place_remade : (w : ℕ) → w < 2 ^ 32 → remade (row_at (place_of w)) w ≡ w
@@ -218,15 +221,15 @@ line_injective w v l k e = sym (candidate_line w l) ∙ ap candidate e ∙ candi
 
 written_short : (y : Style) (m v : ℕ) → v < m → m ≤ 2 ^ 32 → length (written y m v) ≤ 12
 unfolding written signed_text
-written_short absent m v l k = omega arith
-written_short number m v l k = omega (arith, few_digits 9 v (omega arith))
-written_short register m v l k = omega (arith, few_digits 9 v (omega arith))
-written_short signed m v l k =
+written_short Absent m v l k = omega arith
+written_short Number m v l k = omega (arith, few_digits 9 v (omega arith))
+written_short Register m v l k = omega (arith, few_digits 9 v (omega arith))
+written_short Signed m v l k =
     by_test (ltb v (m / 2))
     (λ q. rw (q, signed_text) (omega (arith, few_digits 9 v (omega arith))))
     (λ q. rw (q, signed_text) (omega (arith, few_digits 9 (m - v) (omega arith))))
 
-pub operand_short : (k w : ℕ) → length (operand_text k w) ≤ 12
+pub operand_short : (k : Kind) (w : ℕ) → length (operand_text k w) ≤ 12
 unfolding operand_text
 operand_short k w = let o = operand_at k in written_short o.style o.size (field_of o w) (field_below k w) (size_word k)
 
@@ -271,10 +274,10 @@ decimal_clean n = decimal_clean_in n n (omega arith)
 
 written_clean : (y : Style) (m v : ℕ) → clean (written y m v) ≡ true
 unfolding written signed_text
-written_clean absent m v = refl
-written_clean number m v = decimal_clean v
-written_clean register m v = decimal_clean v
-written_clean signed m v = by_test (ltb v (m / 2)) (λ q. rw (q, signed_text) (decimal_clean v)) (λ q. rw (q, signed_text) (decimal_clean (m - v)))
+written_clean Absent m v = refl
+written_clean Number m v = decimal_clean v
+written_clean Register m v = decimal_clean v
+written_clean Signed m v = by_test (ltb v (m / 2)) (λ q. rw (q, signed_text) (decimal_clean v)) (λ q. rw (q, signed_text) (decimal_clean (m - v)))
 
 pub line_clean : (w : ℕ) → clean (line_of w) ≡ true
 unfolding line_of text_by operand_text

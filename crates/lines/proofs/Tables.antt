@@ -10,7 +10,12 @@ use lib.ListN.{length, get_or}
 use Rattle.dlx.proofs.Tests.{by_test, and_left}
 use Rattle.decimal.specs.Texts.{ascii}
 use Rattle.decimal.proofs.Same.{and_right}
-use Rattle.lines.specs.Table.{Style, absent, number, register, signed, Operand, operand, operands, operand_at, Row, named, unnamed, row_at}
+use Rattle.lines.specs.declared.Style.{Style}
+use Rattle.lines.specs.declared.Style.TheVariants.{Absent, Number, Register, Signed}
+use Rattle.lines.specs.declared.Kind.{Kind}
+use Rattle.lines.specs.declared.Kind.TheVariants.{Unused, Rs1, Rs2, Rd, RdOfR, Special, Short, High, Long, Whole}
+use Rattle.lines.specs.declared.Operand.{Operand}
+use Rattle.lines.specs.Table.{operand_at, Row, named, unnamed, row_at}
 use Rattle.lines.specs.Lines.{column, place_from, lettered, letters_of, marked, scanned, scan_from, start, style_of}
 
 -- ---- tests of lists and of places
@@ -39,19 +44,28 @@ below_at f (suc n) e i l =
 -- ---- operands: what their styles ask of their sizes
 
 unfoldable pub sized : Style → ℕ → Bool
-sized absent m = eqb m 1
-sized number m = true
-sized register m = true
-sized signed m = eqb m (2 ^ 16) || eqb m (2 ^ 26)
+sized Absent m = eqb m 1
+sized Number m = true
+sized Register m = true
+sized Signed m = eqb m (2 ^ 16) || eqb m (2 ^ 26)
 
 unfoldable pub sane : Operand → Bool
 sane o = leb 1 o.size && leb o.size (2 ^ 32) && sized o.style o.size && leb 1 o.scale && leb (o.size * o.scale) (2 ^ 32)
 
-sane_at : (k : ℕ) → sane (operand_at k) ≡ true
-unfolding sane sized operands operand_at
-sane_at k = all_at sane operands (operand absent 1 1 1) refl refl k
+sane_at : (k : Kind) → sane (operand_at k) ≡ true
+unfolding sane sized operand_at
+sane_at Unused = refl
+sane_at Rs1 = refl
+sane_at Rs2 = refl
+sane_at Rd = refl
+sane_at RdOfR = refl
+sane_at Special = refl
+sane_at Short = refl
+sane_at High = refl
+sane_at Long = refl
+sane_at Whole = refl
 
-module _ (k : ℕ) where
+module _ (k : Kind) where
   pub size_some : 1 ≤ (operand_at k).size
   unfolding sane
   size_some = let o = operand_at k in leb-true 1 o.size (and_left _ (leb o.size (2 ^ 32)) (and_left _ (sized o.style o.size) (and_left _ (leb 1 o.scale) (and_left _ (leb (o.size * o.scale) (2 ^ 32)) (sane_at k)))))
@@ -75,17 +89,17 @@ module _ (k : ℕ) where
 -- ---- rows: operands stand at the end, only the last is signed; the letters lead back to the row; names have no minus and no newline
 
 unfoldable pub present : Style → Bool
-present absent = false
-present number = true
-present register = true
-present signed = true
+present Absent = false
+present Number = true
+present Register = true
+present Signed = true
 
 -- unless it is absent, the operand has no sign, and this holds
 unfoldable pub plainly : Style → Bool → Bool
-plainly absent b = true
-plainly number b = b
-plainly register b = b
-plainly signed b = false
+plainly Absent b = true
+plainly Number b = b
+plainly Register b = b
+plainly Signed b = false
 
 unfoldable pub shaped : Row → Bool
 shaped r = plainly (style_of r.first) (present (style_of r.second) && present (style_of r.third)) && plainly (style_of r.second) (present (style_of r.third))
@@ -97,7 +111,7 @@ unfoldable pub sound_name : Row → Bool
 sound_name r = not (scan_from start r.name).minus && clean r.name && leb (length r.name) 6
 
 shaped_all : all shaped named && shaped unnamed ≡ true
-unfolding shaped plainly present operand_at operands named unnamed ascii
+unfolding shaped plainly present operand_at named unnamed ascii
 shaped_all = refl
 
 pub shaped_at : (r : ℕ) → shaped (row_at r) ≡ true
@@ -130,7 +144,7 @@ back : ℕ → Bool
 back r = eqb (lettered (letters_of (row_at r))) r
 
 back_all : below back 46 ≡ true
-unfolding back lettered letters_of column place_from row_at named unnamed marked scan_from scanned operand_at operands ascii
+unfolding back lettered letters_of column place_from row_at named unnamed marked scan_from scanned operand_at ascii
 back_all = refl
 
 pub letters_back : (r : ℕ) → r < 46 → lettered (letters_of (row_at r)) ≡ r

@@ -22,8 +22,8 @@ const ROOM: usize = 44032;
 
 // The words of the frame that the memory has.
 fn put_frame(memory: &[u32], frame: usize, out: &mut [u8]) -> usize
-    requires fact_1 { frame < 1024 }
-    requires fact_2 { length out.old ≡ 44032 }
+    requires frame_bound { frame < 1024 }
+    requires out_length { length out.old ≡ 44032 }
     ensures out_after { (result, out.new) ≡ put (listing (inner (frame * 1024) 1024 memory.now)) out.old }
     ensures counts { Counts result out.new }
 {
@@ -40,8 +40,8 @@ fn put_frame(memory: &[u32], frame: usize, out: &mut [u8]) -> usize
 
 // The text for what a file holds.
 fn text_of(outcome: Outcome, memory: &[u32], frame: usize, out: &mut [u8]) -> usize
-    requires fact_1 { frame < 1024 }
-    requires fact_2 { length out.old ≡ 44032 }
+    requires frame_bound { frame < 1024 }
+    requires out_length { length out.old ≡ 44032 }
     ensures out_after { (h : House) → (result, out.new) ≡ put (frame_text frame (answered (outcome_of outcome) (world h memory.now))) out.old }
     ensures counts { Counts result out.new }
 {
@@ -60,8 +60,8 @@ fn show(rt: &HostRuntime, t: Taken, frame: usize, text: &[u8])
 
 // Prints the text for the answer. A frame that is not there, which this word named, is told.
 fn tell(rt: &HostRuntime, t: Taken, outcome: Outcome, memory: &[u32], frame: usize, word: &[u8])
-    requires fact_1 { frame < 1024 }
-    requires fact_2 { ((h : House) × Told either_held (frame_text frame) t (frame_text frame (answered (outcome_of outcome) (world h memory.now)))) }
+    requires frame_bound { frame < 1024 }
+    requires told { ((h : House) × Told either_held (frame_text frame) t (frame_text frame (answered (outcome_of outcome) (world h memory.now)))) }
 {
     let mut out = [0u8; ROOM];
     let n = text_of(outcome, memory, frame, &mut out);

@@ -25,8 +25,8 @@ fn show(rt: &HostRuntime, r: Rest, piece: &[u8], text: &[u8]) -> bool
 
 // What a piece leaves, where its lines could be written.
 fn list_piece(rt: &HostRuntime, r: Rest, piece: &[u8]) -> Option<Rest>
-    requires fact_1 { length piece.now ≤ 4096 }
-    requires fact_2 { Behind r }
+    requires piece_length { length piece.now ≤ 4096 }
+    requires behind { Behind r }
     ensures rest_value { IfSome result (λ rest. rest ≡ rest_behind r piece.now) }
     ensures bytes { Bytes piece.now }
 {
@@ -82,12 +82,11 @@ fn help(rt: &HostRuntime) {
 fn frame_of(rt: &HostRuntime, source: &mut Source, name: &[u8]) {
     let mut word = files::buffer();
     let length = files::word(rt, 2, &mut word);
-    let n = number_in(&word[..length], 1023);
-    if !n.said {
+    let Some(frame) = number_in(&word[..length], 1023) else {
         wrong(rt, b"FRAME, a decimal below 1024", &word[..length]);
         return;
-    }
-    list_frame(rt, source, name, n.value as usize, &word[..length]);
+    };
+    list_frame(rt, source, name, frame as usize, &word[..length]);
 }
 
 // What is open as source, with so many words.

@@ -4,16 +4,17 @@
 #![tactic(auto)]
 
 ghost use Rattle.std.specs.Prelude.{◌≡◌, List, ℕ};
-ghost use Rattle.house.specs.Boot.{verdict};
+ghost use Rattle.house.specs.declared.Done.{Done};
+ghost use Rattle.house.specs.declared.House.{House};
 ghost use Rattle.house.specs.Turns.{world};
-ghost use Rattle.house.specs.Calls.{answered};
+ghost use Rattle.house.specs.Refusals.{answer_of};
 ghost use Rattle.report.specs.Printed.{printed};
 ghost use Rattle.night_run.specs.Ran.{house_file, house_file_by, Told, Left};
 
 use command::{asks_help, fail, open, put_out, wrong};
 use decimal::is;
 use files::{Source, is_not_given, print, try_word};
-use house::House;
+use house::{Answer, House};
 use keep::keep;
 use night_run::{Taken, WORDS, run_file};
 use report::text_of;
@@ -35,26 +36,21 @@ fn save_left(
     keep(rt, house, memory, path)
 }
 
-// The same where it is asked for, and the run was not refused. Answers whether all that was to be done is done.
+// The same where a path is given, and the run was not refused. Answers whether all that was to be done is done.
 fn saved(
     rt: &HostRuntime,
     t: Taken,
     unshadowed: bool,
-    number: u32,
-    house: House,
+    answer: Answer,
     memory: &[u32],
-    path: &[u8],
-    saving: bool,
+    path: Option<&[u8]>,
 ) -> bool
-    requires { number ≡ 0 → Left (house_file_by unshadowed) t (world house memory.now) }
+    requires { (done : Done) → answer ≡ Ok done → Left (house_file_by unshadowed) t (world done.house memory.now) }
 {
-    if !saving {
-        return true;
+    match (answer, path) {
+        (Ok(done), Some(path)) => save_left(rt, t, unshadowed, done.house, memory, path),
+        _ => true,
     }
-    if number != 0 {
-        return true;
-    }
-    save_left(rt, t, unshadowed, house, memory, path)
 }
 
 // Prints a text: the one for the file that was read.
@@ -65,11 +61,11 @@ fn show(rt: &HostRuntime, t: Taken, text: &[u8])
 }
 
 // Prints the text for the answer.
-fn tell(rt: &HostRuntime, t: Taken, number: u32, detail: u64, house: House)
-    requires { (m : List ℕ) × Told house_file printed t (printed (answered (verdict number detail) (world house m))) }
+fn tell(rt: &HostRuntime, t: Taken, answer: Answer)
+    requires { (given : House) × (m : List ℕ) × Told house_file printed t (printed (answer_of given answer m)) }
 {
     let mut out = [0u8; 1024];
-    let n = text_of(number, detail, house, &mut out);
+    let n = text_of(answer, &mut out);
     show(rt, t, &out[..n]);
 }
 
@@ -79,8 +75,7 @@ fn night(
     source: &mut Source,
     name: &[u8],
     unshadowed: bool,
-    path: &[u8],
-    saving: bool,
+    path: Option<&[u8]>,
 ) {
     let mut memory = [0u32; WORDS];
     let x = run_file(source, &mut memory, unshadowed);
@@ -89,21 +84,11 @@ fn night(
         fail(rt, name, source.why());
         return;
     }
-    let house = x.house;
+    let answer = x.answer();
     let n = x.words;
-    if !saved(
-        rt,
-        taken,
-        unshadowed,
-        x.number,
-        house,
-        &memory[..n],
-        path,
-        saving,
-    ) {
-        return;
+    if saved(rt, taken, unshadowed, answer, &memory[..n], path) {
+        tell(rt, taken, answer);
     }
-    tell(rt, taken, x.number, x.detail, house);
 }
 
 // ---- the command
@@ -124,9 +109,9 @@ fn help(rt: &HostRuntime) {
 }
 
 // Opens the file and goes on.
-fn open_and_run(rt: &HostRuntime, name: &[u8], unshadowed: bool, path: &[u8], saving: bool) {
+fn open_and_run(rt: &HostRuntime, name: &[u8], unshadowed: bool, path: Option<&[u8]>) {
     match open(rt, name) {
-        Ok(mut source) => night(rt, &mut source, name, unshadowed, path, saving),
+        Ok(mut source) => night(rt, &mut source, name, unshadowed, path),
         Err(why) => fail(rt, name, why),
     }
 }
@@ -141,7 +126,7 @@ fn with_out(rt: &HostRuntime, name: &[u8], unshadowed: bool, at: usize, out_at: 
     }
     let mut path = files::buffer();
     match try_word(rt, out_at, &mut path) {
-        Ok(length) => open_and_run(rt, name, unshadowed, &path[..length], true),
+        Ok(length) => open_and_run(rt, name, unshadowed, Some(&path[..length])),
         Err(why) => fail(rt, b"OUT", why),
     }
 }
@@ -149,7 +134,7 @@ fn with_out(rt: &HostRuntime, name: &[u8], unshadowed: bool, at: usize, out_at: 
 // With so many words behind FILE, the first of which is said to be `unshadowed` or not.
 fn with_words(rt: &HostRuntime, name: &[u8], unshadowed: bool, behind: usize) {
     if unshadowed & (behind == 1) {
-        open_and_run(rt, name, true, b"", false);
+        open_and_run(rt, name, true, None);
         return;
     }
     if unshadowed & (behind == 3) {
@@ -167,7 +152,7 @@ fn with_words(rt: &HostRuntime, name: &[u8], unshadowed: bool, behind: usize) {
 fn without_name(rt: &HostRuntime, why: io::Error) {
     if is_not_given(why) {
         let mut source = Source::standard_input(rt);
-        night(rt, &mut source, b"standard input", false, b"", false);
+        night(rt, &mut source, b"standard input", false, None);
         return;
     }
     fail(rt, b"the file's name", why);
@@ -180,7 +165,7 @@ fn with_name(rt: &HostRuntime, name: &[u8], given: usize) {
         return;
     }
     if given < 3 {
-        open_and_run(rt, name, false, b"", false);
+        open_and_run(rt, name, false, None);
         return;
     }
     let mut word = files::buffer();

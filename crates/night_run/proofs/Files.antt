@@ -17,7 +17,8 @@ use Rattle.house.specs.House.{no_house}
 use Rattle.house.specs.Turns.{World, world}
 use Rattle.house.specs.declared.House.{House}
 use Rattle.house.specs.Calls.{Answered, answered, boot_call, run_call}
-use Rattle.house.specs.Refusals.{refusal}
+use Rattle.house.specs.Refusals.{refusal, answer_of as Refusals·answer_of}
+use Rattle.house.specs.declared.Done.{Done}
 use Rattle.house.specs.declared.refusal.Refusal.{Refusal}
 use Rattle.house.proofs.Refusals.{not_0}
 use Rattle.demands.specs.Histories.{booted}
@@ -414,3 +415,18 @@ module _ (way : Way) (printed : Answered → List ℕ) (x : Ran) (m : List ℕ) 
       sym (read_on way x.taken file f) ∙ sym (h.2 file of) ∙ ap (λ (r : Result ℕ Refusal). answered (outcome_of r) (world x.house (take x.words m))) o,
     ),
   )
+
+  -- both of the answer as a program takes it
+  module _ (f : x.taken.failed ≡ false) (a : Result Done Refusal) (is : (n : List ℕ) → Refusals·answer_of x.house a n ≡ answered (outcome_of x.outcome) (world x.house n)) where
+    pub told_as : Told way printed x.taken (printed (Refusals·answer_of x.house a (take x.words m)))
+    told_as = subst (λ (y : Answered). Told way printed x.taken (printed y)) (sym (is (take x.words m))) (told_answer f)
+
+    pub left_as : (done : Done) → a ≡ Ok done → Left way x.taken (world done.house (take x.words m))
+    left_as done e = (
+      h.0,
+      h.1,
+      λ file of. (
+        done.detail,
+        sym (read_on way x.taken file f) ∙ sym (h.2 file of) ∙ sym (is (take x.words m)) ∙ ap (λ (y : Result Done Refusal). Refusals·answer_of x.house y (take x.words m)) e,
+      ),
+    )

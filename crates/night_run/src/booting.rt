@@ -76,8 +76,8 @@ fn read_house(
     frames: &mut [u32; 2048],
     memory: &mut [u32],
 ) -> Housed
-    requires fact_1 { Going house_file.wrong head.now t head.now }
-    requires fact_2 { read no_reader turns.old pages.old frames.old memory.old ≡ no_read }
+    requires going { Going house_file.wrong head.now t head.now }
+    requires nothing_read { read no_reader turns.old pages.old frames.old memory.old ≡ no_read }
     ensures { HouseRead head.now result.taken (read result.reader turns.new pages.new frames.new memory.new) }
 {
     let none = Reader::none();
@@ -170,8 +170,8 @@ pub fn boot_from(
     memory: &mut [u32],
     unshadowed: bool,
 ) -> Ran
-    requires fact_1 { Going house_file.wrong head.now t head.now }
-    requires fact_2 { memory.old ≡ replicate 16384 0 }
+    requires going { Going house_file.wrong head.now t head.now }
+    requires memory_zeros { memory.old ≡ replicate 16384 0 }
     ensures handed_from { HandedFrom (house_file_by unshadowed) head.now result memory.new }
     ensures words_in_bounds { result.words ≤ length memory.new }
 {
@@ -186,8 +186,8 @@ pub fn boot_from(
 
 // Reads on behind the first bytes, over 16 zero frames, and boots nothing.
 pub fn hold_from(source: &mut Source, t: Taken, head: &[u8], memory: &mut [u32]) -> Ran
-    requires fact_1 { Going house_file.wrong head.now t head.now }
-    requires fact_2 { memory.old ≡ replicate 16384 0 }
+    requires going { Going house_file.wrong head.now t head.now }
+    requires memory_zeros { memory.old ≡ replicate 16384 0 }
     ensures handed_from { HandedFrom held_file head.now result memory.new }
     ensures words_in_bounds { result.words ≤ length memory.new }
 {

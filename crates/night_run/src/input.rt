@@ -124,8 +124,8 @@ pub fn take_piece(t: Taken, source: &mut Source, buffer: &mut [u8]) -> Piece
 
 // One read more of them.
 fn head_piece(t: Taken, source: &mut Source, head: &mut [u8]) -> Piece
-    requires fact_1 { t.bytes < 22 }
-    requires fact_2 { length head.old ≡ 22 }
+    requires bytes_bound { t.bytes < 22 }
+    requires head_length { length head.old ≡ 22 }
     ensures { (buffer : List ℕ) × OneRead t result.taken result.count buffer × (length buffer ≡ 22 - t.bytes) × (take result.taken.bytes head.new ≡ take t.bytes head.old ++ take result.count buffer) }
 {
     let n = t.bytes as usize;

@@ -39,11 +39,11 @@ fn lay_bytes(
     sums: &mut [u32],
     memory: &mut [u32],
 ) -> bool
-    requires fact_1 { Listed pages.now frames.now }
-    requires fact_2 { k < 64 }
-    requires fact_3 { length bytes.now ≤ 65536 }
-    requires fact_4 { length table.now ≡ 192 }
-    requires fact_5 { length counts.old ≡ 64 }
+    requires listed { Listed pages.now frames.now }
+    requires k_bound { k < 64 }
+    requires bytes_length { length bytes.now ≤ 65536 }
+    requires table_length { length table.now ≡ 192 }
+    requires counts_length { length counts.old ≡ 64 }
     ensures { result ≡ true → LaidNext pages.now frames.now table.now k counts.old sums.old memory.old counts.new sums.new memory.new }
 {
     if let Some(fault) = fault_of(pages, table, counts, k, bytes.len()) {
@@ -76,10 +76,10 @@ fn lay_open(
     sums: &mut [u32],
     memory: &mut [u32],
 ) -> bool
-    requires fact_1 { Listed pages.now frames.now }
-    requires fact_2 { k < 64 }
-    requires fact_3 { length table.now ≡ 192 }
-    requires fact_4 { length counts.old ≡ 64 }
+    requires listed { Listed pages.now frames.now }
+    requires k_bound { k < 64 }
+    requires table_length { length table.now ≡ 192 }
+    requires counts_length { length counts.old ≡ 64 }
     ensures { result ≡ true → LaidNext pages.now frames.now table.now k counts.old sums.old memory.old counts.new sums.new memory.new }
 {
     let mut buffer = files::large_buffer();
@@ -146,10 +146,10 @@ fn lay_next(
     sums: &mut [u32],
     memory: &mut [u32],
 ) -> bool
-    requires fact_1 { Listed pages.now frames.now }
-    requires fact_2 { k < 64 }
-    requires fact_3 { length table.now ≡ 192 }
-    requires fact_4 { length counts.old ≡ 64 }
+    requires listed { Listed pages.now frames.now }
+    requires k_bound { k < 64 }
+    requires table_length { length table.now ≡ 192 }
+    requires counts_length { length counts.old ≡ 64 }
     ensures { result ≡ true → LaidNext pages.now frames.now table.now k counts.old sums.old memory.old counts.new sums.new memory.new }
 {
     let mut word = files::buffer();
@@ -187,11 +187,11 @@ pub fn lay_all(
     sums: &mut [u32],
     memory: &mut [u32],
 ) -> bool
-    requires fact_1 { Listed pages.now frames.now }
-    requires fact_2 { images ≤ 64 }
-    requires fact_3 { length table.now ≡ 192 }
-    requires fact_4 { (length counts.old ≡ 64) × (length sums.old ≡ 64) }
-    requires fact_5 { memory.old ≡ replicate 16384 0 }
+    requires listed { Listed pages.now frames.now }
+    requires images_bound { images ≤ 64 }
+    requires table_length { length table.now ≡ 192 }
+    requires lengths { (length counts.old ≡ 64) × (length sums.old ≡ 64) }
+    requires memory_zeros { memory.old ≡ replicate 16384 0 }
     ensures { result ≡ true → Laid pages.now frames.now table.now counts.new sums.new memory.new images }
 {
     for k in 0..images {
@@ -224,10 +224,10 @@ fn show(
 }
 
 fn tell_image(rt: &HostRuntime, k: u32, table: &[u32], counts: &[u32], sums: &[u32])
-    requires fact_1 { k < 64 }
-    requires fact_2 { length table.now ≡ 192 }
-    requires fact_3 { length counts.now ≡ 64 }
-    requires fact_4 { length sums.now ≡ 64 }
+    requires k_bound { k < 64 }
+    requires table_length { length table.now ≡ 192 }
+    requires counts_length { length counts.now ≡ 64 }
+    requires sums_length { length sums.now ≡ 64 }
 {
     let i = wide(k);
     let at = 3 * i;
@@ -240,10 +240,10 @@ fn tell_image(rt: &HostRuntime, k: u32, table: &[u32], counts: &[u32], sums: &[u
 }
 
 pub fn tell_all(rt: &HostRuntime, images: u32, table: &[u32], counts: &[u32], sums: &[u32])
-    requires fact_1 { images ≤ 64 }
-    requires fact_2 { length table.now ≡ 192 }
-    requires fact_3 { length counts.now ≡ 64 }
-    requires fact_4 { length sums.now ≡ 64 }
+    requires images_bound { images ≤ 64 }
+    requires table_length { length table.now ≡ 192 }
+    requires counts_length { length counts.now ≡ 64 }
+    requires sums_length { length sums.now ≡ 64 }
 {
     for k in 0..images {
         tell_image(rt, k, table, counts, sums);

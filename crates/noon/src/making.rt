@@ -85,11 +85,11 @@ fn write_file(
     memory: &[u32],
     path: &[u8],
 ) -> bool
-    requires fact_1 { Listed pages.now frames.now }
-    requires fact_2 { length memory.now ≡ 16384 }
-    requires fact_3 { Given pages.now frames.now table.now images }
-    requires fact_4 { LaidAll pages.now frames.now table.now memory.now images }
-    requires fact_5 { night_refusal (ran_of (right (file q run pages.now frames.now memory.now))) ≡ verdict 0 0 }
+    requires listed { Listed pages.now frames.now }
+    requires memory_length { length memory.now ≡ 16384 }
+    requires given { Given pages.now frames.now table.now images }
+    requires laid_all { LaidAll pages.now frames.now table.now memory.now images }
+    requires night_runs { night_refusal (ran_of (right (file q run pages.now frames.now memory.now))) ≡ verdict 0 0 }
 {
     let mut out = [0u8; MOST];
     let n = put_contents(q, run, pages, frames, memory, &mut out);
@@ -120,10 +120,10 @@ fn make_listed(
     table: &[u32],
     path: &[u8],
 )
-    requires fact_1 { 1 ≤ length pages.now }
-    requires fact_2 { images ≤ 64 }
-    requires fact_3 { length table.now ≡ 192 }
-    requires fact_4 { Given pages.now frames.now table.now images }
+    requires pages_room { 1 ≤ length pages.now }
+    requires images_bound { images ≤ 64 }
+    requires table_length { length table.now ≡ 192 }
+    requires given { Given pages.now frames.now table.now images }
 {
     if let Err(refusal) = check_night(q, run, pages, frames) {
         tell_refusal(rt, refusal, q, run, pages, frames);

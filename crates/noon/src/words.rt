@@ -60,10 +60,10 @@ pub fn ask(
     frames: &mut [u32],
     table: &mut [u32],
 ) -> Option<Asked>
-    requires fact_1 { pages.old ≡ replicate 65 0 }
-    requires fact_2 { frames.old ≡ replicate 2048 0 }
-    requires fact_3 { table.old ≡ replicate 192 0 }
-    requires fact_4 { 4 ≤ given }
+    requires pages_zeros { pages.old ≡ replicate 65 0 }
+    requires frames_zeros { frames.old ≡ replicate 2048 0 }
+    requires table_zeros { table.old ≡ replicate 192 0 }
+    requires given_least { 4 ≤ given }
     ensures { IfSome result (λ a. Asks a pages.new frames.new table.new given) }
 {
     let mut a = Asked {

@@ -26,8 +26,8 @@ const LIMIT: u32 = ENTRIES as u32;
 
 // The entry that serves an access without a walk, or one that is not valid.
 pub fn seen(frames: &[u32], shadow: &[u32], pages: u32, user: bool, a: u32) -> u32
-    requires fact_1 { Listed frames.now pages }
-    requires fact_2 { length shadow.now ≡ entries }
+    requires listed { Listed frames.now pages }
+    requires shadow_length { length shadow.now ≡ entries }
     ensures { result ≡ seen_of frames.now pages shadow.now user a }
 {
     if user {
@@ -41,6 +41,7 @@ pub fn seen(frames: &[u32], shadow: &[u32], pages: u32, user: bool, a: u32) -> u
 }
 
 // The frame that holds the table, or a number that is no frame's.
+// Not an Option: each store is compared with it, and a step on words costs 33.0 instructions with one, and not 32.5 (docs/SPEED.md).
 pub fn held(frames: &[u32], pages: u32, t: Table) -> u32
     requires { Listed frames.now pages }
     ensures { result ≡ held_of frames.now pages t }
@@ -119,11 +120,11 @@ fn load(
     imm: u32,
     y: u32,
 ) -> Option<u32>
-    requires fact_1 { length regs.old ≡ 32 }
-    requires fact_2 { Placed frames.now pages (length words.now) }
-    requires fact_3 { Shadowed frames.now pages shadow.now }
-    requires fact_4 { loading o ≡ true }
-    requires fact_5 { rd < 32 }
+    requires regs_length { length regs.old ≡ 32 }
+    requires placed { Placed frames.now pages (length words.now) }
+    requires shadowed { Shadowed frames.now pages shadow.now }
+    requires loading { loading o ≡ true }
+    requires rd_bound { rd < 32 }
     ensures { MatchOption result (regs.new ≡ regs.old) (λ target. (page : ℕ) (t : Table) → Does frames.now pages p t page y target regs.old regs.new words.now words.now shadow.now (λ _ _. loads o rd x imm)) }
 {
     let a = std::num::wrapping_add_u32(x, imm);
@@ -153,10 +154,10 @@ fn store(
     imm: u32,
     y: u32,
 ) -> Option<u32>
-    requires fact_1 { Placed frames.now pages (length words.old) }
-    requires fact_2 { Shadowed frames.now pages shadow.now }
-    requires fact_3 { storing o ≡ true }
-    requires fact_4 { held ≡ held_of frames.now pages t }
+    requires placed { Placed frames.now pages (length words.old) }
+    requires shadowed { Shadowed frames.now pages shadow.now }
+    requires storing { storing o ≡ true }
+    requires held_page { held ≡ held_of frames.now pages t }
     ensures { MatchOption result (words.new ≡ words.old) (λ target. (page : ℕ) (rs : List ℕ) → Does frames.now pages p t page y target rs rs words.old words.new shadow.now (λ _ _. stores o v x imm)) }
 {
     let a = std::num::wrapping_add_u32(x, imm);
@@ -232,8 +233,8 @@ fn read_special(
     n: u32,
     y: u32,
 ) -> Option<u32>
-    requires fact_1 { rd < length regs.old }
-    requires fact_2 { Numbered specials.now p t }
+    requires regs_room { rd < length regs.old }
+    requires numbered { Numbered specials.now p t }
     ensures { MatchOption result (regs.new ≡ regs.old) (λ target. (user p ≡ false) × (n < 10) × (regs.new ≡ written regs.old rd (special_of p t no_timer n)) × (target ≡ plus y 4)) }
 {
     if p.mode == 1 {
@@ -254,8 +255,8 @@ fn register_type(
     regs: &mut [u32],
     y: u32,
 ) -> Option<u32>
-    requires fact_1 { length regs.old ≡ 32 }
-    requires fact_2 { Numbered specials.now p t }
+    requires regs_length { length regs.old ≡ 32 }
+    requires numbered { Numbered specials.now p t }
     ensures { MatchOption result (regs.new ≡ regs.old) (λ target. (fr : List ℕ) (n page : ℕ) (ws sh : List ℕ) → Does fr n p t page y target regs.old regs.new ws ws sh (λ k c. effect_of c t k regs.old (register_type w))) }
 {
     let rs1 = first(w);
@@ -364,10 +365,10 @@ fn load_word(
     w: u32,
     y: u32,
 ) -> Option<u32>
-    requires fact_1 { length regs.old ≡ 32 }
-    requires fact_2 { Placed frames.now pages (length words.now) }
-    requires fact_3 { Shadowed frames.now pages shadow.now }
-    requires fact_4 { loading o ≡ true }
+    requires regs_length { length regs.old ≡ 32 }
+    requires placed { Placed frames.now pages (length words.now) }
+    requires shadowed { Shadowed frames.now pages shadow.now }
+    requires loading { loading o ≡ true }
     ensures { MatchOption result (regs.new ≡ regs.old) (λ target. (page : ℕ) (t : Table) → Does frames.now pages p t page y target regs.old regs.new words.now words.now shadow.now (λ _ _. loads o (rd_immediate w) (reg regs.old (rs1_of w)) (extended 16 w))) }
 {
     let rs1 = first(w);
@@ -390,11 +391,11 @@ fn store_word(
     w: u32,
     y: u32,
 ) -> Option<u32>
-    requires fact_1 { length regs.now ≡ 32 }
-    requires fact_2 { Placed frames.now pages (length words.old) }
-    requires fact_3 { Shadowed frames.now pages shadow.now }
-    requires fact_4 { storing o ≡ true }
-    requires fact_5 { held ≡ held_of frames.now pages t }
+    requires regs_length { length regs.now ≡ 32 }
+    requires placed { Placed frames.now pages (length words.old) }
+    requires shadowed { Shadowed frames.now pages shadow.now }
+    requires storing { storing o ≡ true }
+    requires held_page { held ≡ held_of frames.now pages t }
     ensures { MatchOption result (words.new ≡ words.old) (λ target. (page : ℕ) (rs : List ℕ) → Does frames.now pages p t page y target rs rs words.old words.new shadow.now (λ _ _. stores o (reg regs.now (rd_immediate w)) (reg regs.now (rs1_of w)) (extended 16 w))) }
 {
     let rs1 = first(w);
@@ -519,11 +520,11 @@ pub fn act(
     shadow: &[u32],
     words: &mut [u32],
 ) -> Option<u32>
-    requires fact_1 { length regs.old ≡ 32 }
-    requires fact_2 { Placed frames.now pages (length words.old) }
-    requires fact_3 { Shadowed frames.now pages shadow.now }
-    requires fact_4 { Numbered specials.now p t }
-    requires fact_5 { held ≡ held_of frames.now pages t }
+    requires regs_length { length regs.old ≡ 32 }
+    requires placed { Placed frames.now pages (length words.old) }
+    requires shadowed { Shadowed frames.now pages shadow.now }
+    requires numbered { Numbered specials.now p t }
+    requires held_page { held ≡ held_of frames.now pages t }
     ensures { MatchOption result ((regs.new ≡ regs.old) × (words.new ≡ words.old)) (λ target. Does frames.now pages p t page y target regs.old regs.new words.old words.new shadow.now (λ k c. effect_of c t k regs.old (instruction_of w))) }
 {
     let opcode = w / 67108864;

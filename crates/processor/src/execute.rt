@@ -143,8 +143,8 @@ fn trap(p: Processor, v: u32, to: u32, imm: u32) -> Effect
 }
 
 pub fn execute(p: Processor, t: Table, k: Timer, regs: &[u32], i: Instruction) -> Effect
-    requires fact_1 { length regs.now ≡ 32 }
-    requires fact_2 { Formed i }
+    requires regs_length { length regs.now ≡ 32 }
+    requires formed { Formed i }
     ensures { result ≡ effect_of p t k regs.now i }
 {
     let pc = p.pc;
@@ -198,10 +198,10 @@ pub struct Passed {
 
 // A plain change made of the processor and the registers, but for the timer. Any other is left alone.
 pub fn pass(p: Processor, regs: &mut [u32], c: Change) -> Passed
-    requires fact_1 { length regs.old ≡ 32 }
-    requires fact_2 { Places c }
-    ensures fact_1 { ((latest : ℕ) (k : Timer) → core result.processor regs.new latest k ≡ passed (core p regs.old latest k) c) }
-    ensures fact_2 { result.plain ≡ plainly c }
+    requires regs_length { length regs.old ≡ 32 }
+    requires places { Places c }
+    ensures passed { ((latest : ℕ) (k : Timer) → core result.processor regs.new latest k ≡ passed (core p regs.old latest k) c) }
+    ensures plain { result.plain ≡ plainly c }
 {
     match c {
         Change::Plain(rd, v, target) => {

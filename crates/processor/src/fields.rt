@@ -5,8 +5,8 @@ ghost use Rattle.dlx.specs.Fields.{aligned, loading, width, brought};
 use crate::words::extend;
 
 pub fn bring(o: u32, a: u32, x: u32) -> u32
-    requires fact_1 { loading o ≡ true }
-    requires fact_2 { aligned (width o) a ≡ true }
+    requires loading { loading o ≡ true }
+    requires aligned { aligned (width o) a ≡ true }
     ensures { result ≡ brought o a x }
 {
     if o / 2 % 2 == 1 {

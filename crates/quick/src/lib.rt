@@ -17,6 +17,7 @@ pub struct Quick {
     pub dpc: u32,
     pub pc: u32,
     pub rest: u32,
+    // Not an Option: with one, a step costs 30.9 instructions and not 29.8 (docs/SPEED.md, registers).
     pub word: u32,
 }
 
@@ -29,8 +30,8 @@ fn away(x: u32) -> bool
 
 // The word of a page that begins x behind its first address.
 fn fetch(page: &[u32], x: u32) -> u32
-    requires fact_1 { length page.now ≡ 1024 }
-    requires fact_2 { x < 4096 }
+    requires page_length { length page.now ≡ 1024 }
+    requires x_bound { x < 4096 }
     ensures { result ≡ slice_index page.now (x / 4) }
 {
     page[wide(x / 4)]
@@ -64,11 +65,11 @@ fn in_page(
     words: &mut [u32],
     k: u32,
 ) -> Quick
-    requires fact_1 { length regs.old ≡ 32 }
-    requires fact_2 { Placed frames.now pages (length words.old) }
-    requires fact_3 { Shadowed frames.now pages shadow.now }
-    requires fact_4 { Cached frames.now pages shadow.now (user p) page base }
-    requires fact_5 { Numbered specials.now p t }
+    requires regs_length { length regs.old ≡ 32 }
+    requires placed { Placed frames.now pages (length words.old) }
+    requires shadowed { Shadowed frames.now pages shadow.now }
+    requires cached { Cached frames.now pages shadow.now (user p) page base }
+    requires numbered { Numbered specials.now p t }
     ensures { (Goes frames.now pages t shadow.now k result.rest p regs.old words.old (pair_of p result.dpc result.pc) regs.new words.new) × (length regs.new ≡ length regs.old) × (length words.new ≡ length words.old) × (Found frames.now pages t shadow.now (pair_of p result.dpc result.pc) regs.new words.new result.word) }
 {
     let held = plain::held(frames, pages, t);
@@ -102,10 +103,10 @@ pub fn plain(
     words: &mut [u32],
     k: u32,
 ) -> Quick
-    requires fact_1 { length regs.old ≡ 32 }
-    requires fact_2 { Placed frames.now pages (length words.old) }
-    requires fact_3 { Shadowed frames.now pages shadow.now }
-    requires fact_4 { Numbered specials.now p t }
+    requires regs_length { length regs.old ≡ 32 }
+    requires placed { Placed frames.now pages (length words.old) }
+    requires shadowed { Shadowed frames.now pages shadow.now }
+    requires numbered { Numbered specials.now p t }
     ensures { (Goes frames.now pages t shadow.now k result.rest p regs.old words.old (pair_of p result.dpc result.pc) regs.new words.new) × (length regs.new ≡ length regs.old) × (length words.new ≡ length words.old) × (Found frames.now pages t shadow.now (pair_of p result.dpc result.pc) regs.new words.new result.word) }
 {
     let mut dpc = p.dpc;

@@ -4,7 +4,7 @@ use mathlib.Core.Bool.{false, not}
 use mathlib.Core.List.{List, ◌++◌, append-nil, append_assoc}
 use Prim.Native.Nat.{ℕ, zero, suc, ◌+◌, ◌*◌, ◌%◌, ◌^◌, ◌<◌, ◌≤◌}
 use native.Mathlib.Omega.{arith}
-use borrow.Author.Tests.{eq-eqb, ne_eqb, ltb-true, ltb-false, leb-false}
+use borrow.Author.Tests.{ltb-true, ltb-false, leb-false}
 use lib.Dec.{eqb, ltb, leb}
 use lib.ListN.{length, get_or, replicate}
 use Rattle.dlx.proofs.Kept.{either}
@@ -16,10 +16,13 @@ use Rattle.house.specs.Calls.{Read, read, answered, beyond_of, read_verdict, rea
 use Rattle.house.proofs.Lists.Bounded.{or_right}
 use Rattle.house.proofs.Damage.Undamaged.{undamaged_gives}
 use Rattle.house.specs.declared.House.{House}
+use Rattle.house.specs.Refusals.{refusal}
+use Rattle.house.specs.declared.refusal.Refusal.{Refusal}
+use Rattle.house.proofs.Refusals.{not_0}
 use Rattle.housefile.specs.Records.{number}
 use Rattle.decimal.specs.Raw.{low_first}
 use Rattle.report.specs.Put.{put}
-use Rattle.report.specs.Report.{refused_text}
+use Rattle.report.specs.Report.{refusal as refusal_text}
 use Rattle.readout.specs.Printed.{word_text, is_raw, words_text, words_from, refused_out, read_text, no_words, printed, read_refusal, refusal_of, ToldBehind}
 use Rattle.night_run.specs.Ran.{either_file, Told}
 use Rattle.night_run.specs.declared.input.Taken.{Taken}
@@ -60,9 +63,6 @@ behind_told want t words from at n count piece e l m h p = record {
 }
 
 -- ---- the read-out
-
-pub not_12 : (n : ℕ) → n ≡ 12 → n ≡ 0 → ⊥
-not_12 n e z = omega arith
 
 -- one that is done has room for its words
 abbrev Roomy : List ℕ → ℕ → Verdict → Type 0
@@ -117,50 +117,56 @@ never_short w i a count out l =
     ))
     (λ _ e. omega arith)
 
-module _ (want : Want) (w : World) (out : List ℕ) (n d : ℕ) (h : House) (o : List ℕ) (e : read (verdict n d) h o ≡ read_call w want.partition want.address want.count out) where
-  pub read_refused : (n ≡ 0 → ⊥) → refused_out want (verdict n d) ≡ read_text want w out
-  unfolding read_text
-  read_refused z = sym (rw (← e, ne_eqb n 0 z))
+module _ (want : Want) (w : World) (out : List ℕ) (h : House) (o : List ℕ) where
+  abbrev Reads : Verdict → Type 0
+  Reads v = read v h o ≡ read_call w want.partition want.address want.count out
 
-  pub read_told : (n ≡ 0 → ⊥) → refused_text n d ≡ read_refusal want w out
+  pub read_refused : (r : Refusal) → Reads (refusal r) → refused_out want (refusal r) ≡ read_text want w out
+  unfolding read_text
+  read_refused r e = sym (rw (← e, not_0 r))
+
+  pub read_told : (r : Refusal) → Reads (refusal r) → refusal_text (refusal r) ≡ read_refusal want w out
   unfolding read_refusal
-  read_told z = sym (rw (← e, ne_eqb n 0 z))
+  read_told r e = sym (rw (← e, not_0 r))
 
   -- 12 tells of a partition that is there
-  pub read_there : n ≡ 12 → want.partition < 8
+  pub read_there : Reads (verdict 12 0) → want.partition < 8
   unfolding read_call
-  read_there z = subst (λ (r : Read). Told12 want.partition r.verdict) (sym e) (there_12 w want.partition want.address want.count out) z
+  read_there e = subst (λ (r : Read). Told12 want.partition r.verdict) (sym e) (there_12 w want.partition want.address want.count out) refl
 
-  pub read_done : n ≡ 0 → words_text want o want.count ≡ read_text want w out
-  unfolding read_text
-  read_done z = sym (rw (← e, eq-eqb n 0 z))
+  module _ (d : ℕ) (e : Reads (verdict 0 d)) where
+    pub read_done : words_text want o want.count ≡ read_text want w out
+    unfolding read_text
+    read_done = sym (rw (← e))
 
-  pub read_fits : length out ≡ 262144 → n ≡ 0 → want.count ≤ 262144
-  unfolding read_call
-  read_fits l z =
-      let v : Roomy out want.count (verdict n d) = subst (λ (r : Read). Roomy out want.count r.verdict) (sym e) (done_roomy w want.partition want.address want.count out) in
-      omega (arith, l, v z)
+    pub read_fits : length out ≡ 262144 → want.count ≤ 262144
+    unfolding read_call
+    read_fits l =
+        let v : Roomy out want.count (verdict 0 d) = subst (λ (r : Read). Roomy out want.count r.verdict) (sym e) (done_roomy w want.partition want.address want.count out) in
+        omega (arith, l, v refl)
 
-pub text_refused : (want : Want) (n d : ℕ) (w : World) → (n ≡ 0 → ⊥) → refused_out want (verdict n d) ≡ printed want (answered (verdict n d) w)
-unfolding printed
-text_refused want n d w z = rw (ne_eqb n 0 z)
+module _ (want : Want) (r : Refusal) (w : World) where
+  pub text_refused : refused_out want (refusal r) ≡ printed want (answered (refusal r) w)
+  unfolding printed
+  text_refused = rw (not_0 r)
 
-pub text_told : (want : Want) (n d : ℕ) (w : World) → (n ≡ 0 → ⊥) → refused_text n d ≡ refusal_of want (answered (verdict n d) w)
-unfolding refusal_of
-text_told want n d w z = rw (ne_eqb n 0 z)
+  pub text_told : refusal_text (refusal r) ≡ refusal_of want (answered (refusal r) w)
+  unfolding refusal_of
+  text_told = rw (not_0 r)
 
 -- where no raw words are asked for the refusal is printed
-pub text_shown : (want : Want) (n d : ℕ) → is_raw want.form ≡ false → refused_out want (verdict n d) ≡ refused_text n d
+pub text_shown : (want : Want) (v : Verdict) → is_raw want.form ≡ false → refused_out want v ≡ refusal_text v
 unfolding refused_out
-text_shown want n d e = rw e
+text_shown want v e = rw e
 
-pub text_done : (want : Want) (n d : ℕ) (w : World) → n ≡ 0 → read_text want w (replicate 262144 0) ≡ printed want (answered (verdict n d) w)
-unfolding printed no_words
-text_done want n d w z = sym (rw (eq-eqb n 0 z))
+module _ (want : Want) (d : ℕ) (w : World) where
+  pub text_done : read_text want w (replicate 262144 0) ≡ printed want (answered (verdict 0 d) w)
+  unfolding printed no_words
+  text_done = refl
 
-pub text_read : (want : Want) (n d : ℕ) (w : World) → n ≡ 0 → read_refusal want w (replicate 262144 0) ≡ refusal_of want (answered (verdict n d) w)
-unfolding refusal_of no_words
-text_read want n d w z = sym (rw (eq-eqb n 0 z))
+  pub text_read : read_refusal want w (replicate 262144 0) ≡ refusal_of want (answered (verdict 0 d) w)
+  unfolding refusal_of no_words
+  text_read = refl
 
 -- raw words are little-endian: the house file's reading gives them back
 pub raw_reads : (w : ℕ) → w < 2 ^ 32 → number (low_first w) ≡ w

@@ -8,17 +8,17 @@ mod words;
 
 ghost use Rattle.std.specs.Prelude.{◌≡◌, ◌+◌, ◌%◌, ◌<◌, ◌≤◌, IfSome};
 ghost use Rattle.house.specs.House.{pages_of};
-ghost use Rattle.house.specs.Boot.{verdict};
+ghost use Rattle.house.specs.declared.House.{House};
 ghost use Rattle.house.specs.Turns.{world};
-ghost use Rattle.house.specs.Calls.{answered};
-ghost use Rattle.report.specs.Report.{refused_text};
+ghost use Rattle.house.specs.Refusals.{refusal as verdict_of, answer_of};
+ghost use Rattle.report.specs.Report.{refusal as refusal_text};
 ghost use Rattle.night_run.specs.Ran.{no_frames, either_file, Told};
 ghost use Rattle.readout.specs.Printed.{is_raw, words_text, refused_out, read_text, printed, read_refusal, refusal_of};
 
-use command::{Number, asks_help, fail, number_in, open, put_out, wrong};
+use command::{asks_help, fail, number_in, open, put_out, wrong};
 use dlx::words::wide;
 use files::{Source, print};
-use house::House;
+use house::{Answer, House, Refusal};
 use hypervisor::calls::read_out;
 use night_run::{Taken, read_file};
 use report::refused;
@@ -56,13 +56,13 @@ const LENT: usize = night_run::WORDS;
 // ---- what is printed
 
 // Says a refusal on standard error, where raw words are asked for: the refusal of the file that was read, or of the read-out.
-fn say(rt: &HostRuntime, t: Taken, w: Want, number: u32, detail: u64)
-    requires { Told either_file (refusal_of w) t (refused_text number detail) }
+fn say(rt: &HostRuntime, t: Taken, w: Want, refusal: Refusal)
+    requires { Told either_file (refusal_of w) t (refusal_text (verdict_of refusal)) }
 {
     files::say(rt, b"refused: ");
-    files::say_number(rt, number as u64);
+    files::say_number(rt, u64::from(refusal.number()));
     files::say(rt, b" ");
-    files::say_number(rt, detail);
+    files::say_number(rt, refusal.detail());
     files::say(rt, b"\n");
 }
 
@@ -74,16 +74,16 @@ fn show_refusal(rt: &HostRuntime, t: Taken, w: Want, text: &[u8])
 }
 
 // Prints a refusal, or says it.
-fn tell_refusal(rt: &HostRuntime, t: Taken, w: Want, number: u32, detail: u64)
-    requires fact_1 { Told either_file (printed w) t (refused_out w (verdict number detail)) }
-    requires fact_2 { Told either_file (refusal_of w) t (refused_text number detail) }
+fn tell_refusal(rt: &HostRuntime, t: Taken, w: Want, refusal: Refusal)
+    requires told { Told either_file (printed w) t (refused_out w (verdict_of refusal)) }
+    requires refusal_told { Told either_file (refusal_of w) t (refusal_text (verdict_of refusal)) }
 {
     if w.form.is_raw() {
-        say(rt, t, w, number, detail);
+        say(rt, t, w, refusal);
         return;
     }
     let mut out = [0u8; 1024];
-    let n = refused(number, detail, &mut out);
+    let n = refused(refusal, &mut out);
     show_refusal(rt, t, w, &out[..n]);
 }
 
@@ -142,10 +142,10 @@ fn show_words(
     n: usize,
     count: usize,
 ) -> Option<Shown>
-    requires fact_1 { s.words + n ≤ count }
-    requires fact_2 { n ≤ 4096 }
-    requires fact_3 { count ≤ 262144 }
-    requires fact_4 { Told either_file (printed w) t (words_text w words.now count) }
+    requires n_bound { s.words + n ≤ count }
+    requires piece_bound { n ≤ 4096 }
+    requires count_bound { count ≤ 262144 }
+    requires told { Told either_file (printed w) t (words_text w words.now count) }
     ensures { IfSome result (λ x. x.words ≡ s.words + n) }
 {
     let mut out = [0u8; ROOM];
@@ -161,8 +161,8 @@ fn tell_words(
     words: &[u32; WORDS],
     count: usize,
 ) -> Option<Shown>
-    requires fact_1 { count ≤ 262144 }
-    requires fact_2 { Told either_file (printed w) t (words_text w words.now count) }
+    requires count_bound { count ≤ 262144 }
+    requires told { Told either_file (printed w) t (words_text w words.now count) }
     ensures { IfSome result (λ s. s.words ≡ count) }
 {
     let mut s = Shown::none();
@@ -183,33 +183,34 @@ fn tell_read(
     memory: &[u32],
     words: &mut [u32; WORDS],
 )
-    requires fact_1 { Told either_file (printed w) t (read_text w (world house memory.now) words.old) }
-    requires fact_2 { Told either_file (refusal_of w) t (read_refusal w (world house memory.now) words.old) }
+    requires told { Told either_file (printed w) t (read_text w (world house memory.now) words.old) }
+    requires refusal_told { Told either_file (refusal_of w) t (read_refusal w (world house memory.now) words.old) }
 {
-    let a = read_out(house, memory, w.partition, w.address, w.count, words);
-    if a.number == 12 {
-        tell_refusal(rt, t, w, a.number, a.detail);
-        tell_reason(rt, w, house);
-        return;
+    match read_out(house, memory, w.partition, w.address, w.count, words) {
+        Ok(_) => {
+            tell_words(rt, t, w, words, w.count as usize);
+        }
+        Err(refusal) => {
+            tell_refusal(rt, t, w, refusal);
+            if refusal == Refusal::BeyondPages {
+                tell_reason(rt, w, house);
+            }
+        }
     }
-    if a.number != 0 {
-        tell_refusal(rt, t, w, a.number, a.detail);
-        return;
-    }
-    let _ = tell_words(rt, t, w, words, w.count as usize);
 }
 
 // Prints the text for an answer.
-fn tell(rt: &HostRuntime, t: Taken, w: Want, number: u32, detail: u64, house: House, memory: &[u32])
-    requires fact_1 { Told either_file (printed w) t (printed w (answered (verdict number detail) (world house memory.now))) }
-    requires fact_2 { Told either_file (refusal_of w) t (refusal_of w (answered (verdict number detail) (world house memory.now))) }
+fn tell(rt: &HostRuntime, t: Taken, w: Want, answer: Answer, memory: &[u32])
+    requires told { (given : House) × Told either_file (printed w) t (printed w (answer_of given answer memory.now)) }
+    requires refusal_told { (given : House) × Told either_file (refusal_of w) t (refusal_of w (answer_of given answer memory.now)) }
 {
-    if number != 0 {
-        tell_refusal(rt, t, w, number, detail);
-        return;
+    match answer {
+        Ok(done) => {
+            let mut words = [0u32; WORDS];
+            tell_read(rt, t, w, done.house, memory, &mut words);
+        }
+        Err(refusal) => tell_refusal(rt, t, w, refusal),
     }
-    let mut words = [0u32; WORDS];
-    tell_read(rt, t, w, house, memory, &mut words);
 }
 
 // Reads the source, runs it where it is a house file, and prints. A read that fails prints nothing and says why.
@@ -221,9 +222,8 @@ fn readout(rt: &HostRuntime, source: &mut Source, name: &[u8], w: Want) {
         fail(rt, name, source.why());
         return;
     }
-    let house = x.house;
     let n = x.words;
-    tell(rt, taken, w, x.number, x.detail, house, &memory[..n]);
+    tell(rt, taken, w, x.answer(), &memory[..n]);
 }
 
 // ---- the command
@@ -244,16 +244,15 @@ fn help(rt: &HostRuntime) {
 }
 
 // The number that argument i says. Where it says none, that is told.
-fn number_at(rt: &HostRuntime, i: usize, expected: &[u8], most: u64) -> Number
-    ensures { result.value ≤ most }
+fn number_at(rt: &HostRuntime, i: usize, expected: &[u8], most: u64) -> Option<u64>
+    ensures { IfSome result (λ n. n ≤ most) }
 {
     let mut word = files::buffer();
     let length = files::word(rt, i, &mut word);
     let n = number_in(&word[..length], most);
-    if n.said {
-        return n;
+    if n.is_none() {
+        wrong(rt, expected, &word[..length]);
     }
-    wrong(rt, expected, &word[..length]);
     n
 }
 
@@ -285,29 +284,25 @@ fn with_words(rt: &HostRuntime, path: &[u8], given: usize) {
     let Some(form) = asked_form(rt, given) else {
         return;
     };
-    let partition = number_at(rt, 2, b"PARTITION, a decimal below 4294967296", 0xFFFF_FFFF);
-    if !partition.said {
+    let Some(partition) = number_at(rt, 2, b"PARTITION, a decimal below 4294967296", 0xFFFF_FFFF)
+    else {
         return;
-    }
-    let address = number_at(rt, 3, b"ADDRESS, a decimal below 4294967296", 0xFFFF_FFFF);
-    if !address.said {
+    };
+    let Some(address) = number_at(rt, 3, b"ADDRESS, a decimal below 4294967296", 0xFFFF_FFFF) else {
         return;
-    }
-    let count = number_at(
+    };
+    let Some(count) = number_at(
         rt,
         4,
         b"COUNT, a decimal below 18446744073709551616",
         0xFFFF_FFFF_FFFF_FFFF,
-    );
-    if !count.said {
+    ) else {
         return;
-    }
-    let i = partition.value as u32;
-    let a = address.value as u32;
+    };
     let w = Want {
-        partition: i,
-        address: a,
-        count: count.value,
+        partition: partition as u32,
+        address: address as u32,
+        count,
         form,
     };
     open_and_read(rt, path, w);

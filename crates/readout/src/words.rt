@@ -56,8 +56,8 @@ pub fn put_words(
     want: Want,
     out: &mut [u8; ROOM],
 ) -> usize
-    requires fact_1 { from + n ≤ 262144 }
-    requires fact_2 { n ≤ 4096 }
+    requires n_bound { from + n ≤ 262144 }
+    requires piece_bound { n ≤ 4096 }
     ensures out_after { (result, out.new) ≡ put (words_from want words.now from n) out.old }
     ensures counts { Counts result out.new }
 {

@@ -7,9 +7,9 @@ ghost use Rattle.receipt.specs.Answers.{received_of};
 
 // A ticket of partition i taken into register 1, if one waits; the answer's code.
 pub fn receive(regs: &mut [u32], i: u32, tickets: &mut [u32], waiting: &mut [u32]) -> u32
-    requires fact_1 { length regs.old ≡ 32 }
-    requires fact_2 { Queued (queues tickets.old waiting.old) }
-    requires fact_3 { i < 8 }
+    requires regs_length { length regs.old ≡ 32 }
+    requires queued { Queued (queues tickets.old waiting.old) }
+    requires i_bound { i < 8 }
     ensures { ((regs.new, result), queues tickets.new waiting.new) ≡ received_of regs.old (taking (queues tickets.old waiting.old) i) }
 {
     let reply = tickets::take(tickets, waiting, i);

@@ -10,14 +10,10 @@ use Rattle.house.specs.House.{no_house, layout, with_layout}
 use Rattle.save.proofs.Exact.{by_kind}
 use Rattle.save.proofs.Bytes.{drop_take, words_there}
 use Rattle.save.proofs.Machine.{Open, fed_pieces, head_size, head_kind, took_within, took_last, took_wrong, take_within, take_to_end}
-use Rattle.restore.specs.Standing.{is_ended, number_of, held_to, wrong_at, progress_at, reading_at, stepped, Comes, SteppedTo, Rested, Kept}
+use Rattle.restore.specs.Standing.{number_of, held_to, wrong_at, progress_at, reading_at, stepped, Comes, SteppedTo, Rested, Kept}
 use Rattle.restore.specs.declared.Reader.{Reader}
 use Rattle.restore.specs.declared.records.Kind.{Kind}
 use Rattle.restore.specs.declared.records.Kind.TheVariants.{Frame, End, Turn, Guest, Tickets}
-use Rattle.restore.specs.declared.Stage.{Stage}
-use Rattle.restore.specs.declared.Stage.TheVariants.{Start, Middle, Ended}
-use Rattle.restore.specs.contracts.Stage.{the_type}
-use denote.Enum.Bare.{sameb}
 
 -- ---- the head of a buffer
 
@@ -58,12 +54,6 @@ module _ (n : ℕ) (l : List ℕ) (h : 6 ≤ n) where
 
 -- ---- a byte's ways
 
--- the test for the stage after kind 4
-pub ended_is : {b v : Bool} (s : Stage) → b ≡ sameb the_type s Ended → b ≡ v → is_ended s ≡ v
-ended_is Start e t = sym e ∙ t
-ended_is Middle e t = sym e ∙ t
-ended_is Ended e t = sym e ∙ t
-
 module _ (r : Reader) (b : ℕ) (held : List ℕ) (fits : r.held ≤ 4105) (long : length held ≡ 4106) (h : House) (m : List ℕ) where
   abbrev p : Progress
   p = progress_at r h m
@@ -89,11 +79,11 @@ module _ (r : Reader) (b : ℕ) (held : List ℕ) (fits : r.held ≤ 4105) (long
   byte_refused e = sym (simp (ne_eqb r.refusal 0 e))
 
   module _ (right : r.refusal ≡ 0) where
-    pub byte_ended : is_ended r.stage ≡ true → reading (refused_by 17 p) [] ≡ took (reading_at r h held m) b
+    pub byte_ended : r.ended ≡ true → reading (refused_by 17 p) [] ≡ took (reading_at r h held m) b
     unfolding took
     byte_ended e = sym (simp (right, e))
 
-    module _ (more : is_ended r.stage ≡ false) where
+    module _ (more : r.ended ≡ false) where
       pub byte_early : n < 6 → reading p (take n held') ≡ took (reading_at r h held m) b
       unfolding took
       byte_early l = sym (simp (right, more, bytes_now, bytes_long, lt-ltb n 6 l))
@@ -178,7 +168,7 @@ module _ (r : Reader) (held held' piece : List ℕ) (from k : ℕ) (six : 6 ≤ 
   rest_kind =
       sym (kind_front (r.held + k) held' (omega arith)) ∙ ap kind put ∙ head_kind front rest (omega (arith, front_long)) ∙ kind_front r.held held six
 
-  module _ (right : r.refusal ≡ 0) (more : is_ended r.stage ≡ false) (few : size held ≤ 4100) (inside : from + k ≤ length piece) (h : House) (m : List ℕ)
+  module _ (right : r.refusal ≡ 0) (more : r.ended ≡ false) (few : size held ≤ 4100) (inside : from + k ≤ length piece) (h : House) (m : List ℕ)
       (may : may_come (progress_at r h m) (kind held) (size held) ≡ true) where
     abbrev P : Progress
     P = progress_at r h m
@@ -284,11 +274,11 @@ module _ (r : Reader) (b : ℕ) (held : List ℕ) (fits : r.held ≤ 4105) (long
   step_refused count words n = (λ h m _ _. byte_refused r b held fits long h m n, (not_whole r count words held fits, (refl, λ z. z)))
 
   module _ (right : r.refusal ≡ 0) where
-    pub step_ended : (x : Reader) (count words : ℕ) → x ≡ wrong_at r → is_ended r.stage ≡ true → Steps x false held count words
+    pub step_ended : (x : Reader) (count words : ℕ) → x ≡ wrong_at r → r.ended ≡ true → Steps x false held count words
     unfolding stepped
     step_ended x count words e d = rw e (λ h m _ _. byte_ended r b held fits long h m right d, (not_whole (wrong_at r) count words held (omega arith), (refl, λ z. absurd (omega arith))))
 
-    module _ (more : is_ended r.stage ≡ false) (count words : ℕ) where
+    module _ (more : r.ended ≡ false) (count words : ℕ) where
       pub step_early : (x : Reader) → x ≡ held_to r (r.held + 1) → r.held + 1 < 6 → Steps x false now count words
       unfolding stepped
       step_early x e l =

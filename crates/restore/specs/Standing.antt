@@ -5,23 +5,10 @@ use Rattle.house.specs.declared.House.{House}
 use Rattle.housefile.specs.Records.{words_of, size, kind}
 use Rattle.save.specs.Reading.{Progress, Reading, reading, may_come, settled}
 use Rattle.restore.specs.declared.Reader.{Reader}
-use Rattle.restore.specs.declared.Stage.{Stage}
-use Rattle.restore.specs.declared.Stage.TheVariants.{Start, Middle, Ended}
 use Rattle.restore.specs.declared.records.Kind.{Kind}
 use Rattle.restore.specs.declared.records.Kind.TheVariants.{Frame, End, Turn, Guest, Tickets}
 use Rattle.restore.specs.declared.bytes.Step.{Step}
 use Rattle.restore.specs.declared.bytes.Step.TheVariants.{Open, Whole}
-
--- kind 5 has come, and kind 4 has
-abbrev pub is_opened : Stage → Bool
-is_opened Start = false
-is_opened Middle = true
-is_opened Ended = true
-
-abbrev pub is_ended : Stage → Bool
-is_ended Start = false
-is_ended Middle = false
-is_ended Ended = true
 
 -- the kinds of records by their numbers
 abbrev pub number_of : Kind → ℕ
@@ -35,20 +22,20 @@ abbrev pub progress_at : Reader → House → List ℕ → Progress
 progress_at r h m = record {
   refusal = r.refusal;
   start = r.start;
-  opened = is_opened r.stage;
+  opened = r.opened;
   queues = r.queues;
   frames = r.frames;
-  ended = is_ended r.stage;
+  ended = r.ended;
   house = h;
   memory = m;
 }
 
 -- with so many bytes of the record at hand, and at a wrong record
 abbrev pub held_to : Reader → ℕ → Reader
-held_to r n = record { refusal = r.refusal; start = r.start; held = n; stage = r.stage; queues = r.queues; frames = r.frames }
+held_to r n = record { refusal = r.refusal; start = r.start; held = n; opened = r.opened; queues = r.queues; frames = r.frames; ended = r.ended }
 
 abbrev pub wrong_at : Reader → Reader
-wrong_at r = record { refusal = 17; start = r.start; held = 0; stage = r.stage; queues = r.queues; frames = r.frames }
+wrong_at r = record { refusal = 17; start = r.start; held = 0; opened = r.opened; queues = r.queues; frames = r.frames; ended = r.ended }
 
 -- a record that is not whole has at most 4,105 bytes
 abbrev pub reading_at : Reader → House → List ℕ → List ℕ → Reading
@@ -86,7 +73,7 @@ pub record Rested (r : Reader) (size : ℕ) (piece : List ℕ) (from : ℕ) (hel
 
 -- once kind 5 has come, the memory has the saved size
 abbrev pub Sized : Reader → House → List ℕ → Type 0
-Sized r h m = is_opened r.stage ≡ true → length m ≡ h.words
+Sized r h m = r.opened ≡ true → length m ≡ h.words
 
 -- what holds between the bytes of a piece
 pub record Standing (r : Reader) (h : House) (m : List ℕ) : Type 0 where
@@ -95,4 +82,4 @@ pub record Standing (r : Reader) (h : House) (m : List ℕ) : Type 0 where
 
 -- within a record nothing is opened, and no refusal is taken back
 abbrev pub Kept : Reader → Reader → Type 0
-Kept r x = (x.stage ≡ r.stage) × (x.refusal ≡ 0 → r.refusal ≡ 0)
+Kept r x = (x.opened ≡ r.opened) × (x.refusal ≡ 0 → r.refusal ≡ 0)

@@ -5,8 +5,8 @@ ghost use Rattle.housefile.specs.Records.{number, words_of, size, kind};
 ghost use Rattle.save.specs.Reading.{may_come, fed};
 ghost use Rattle.restore.specs.Standing.{held_to, wrong_at, progress_at, reading_at, reader_of, is_whole, stepped, SteppedTo, Rested, Kept};
 
+use crate::Reader;
 use crate::records::Kind;
-use crate::{Reader, Stage};
 use dlx::words::wide;
 
 // A reader whose record at hand is whole, and still to be settled, or is not.
@@ -48,7 +48,7 @@ fn may_come(r: Reader, count: u32, words: u32, kind: u32, size: u32) -> bool
     let Some(kind) = Kind::of(kind) else {
         return false;
     };
-    if r.stage == Stage::Start {
+    if !r.opened {
         return kind == Kind::Turn && size == 16;
     }
     match kind {
@@ -91,10 +91,10 @@ pub(crate) fn wrong(r: Reader) -> Reader
 
 // Behind a head that is right: the bytes from one on, as many as the record wants and the piece has.
 fn take_rest(r: Reader, size: u32, piece: &[u8], from: usize, held: &mut [u8]) -> Steps
-    requires fact_1 { r.held < 6 + size }
-    requires fact_2 { size ≤ 4100 }
-    requires fact_3 { length held.old ≡ 4106 }
-    requires fact_4 { from ≤ length piece.now }
+    requires held_bound { r.held < 6 + size }
+    requires size_bound { size ≤ 4100 }
+    requires held_length { length held.old ≡ 4106 }
+    requires piece_room { from ≤ length piece.now }
     ensures { Rested r size piece.now from held.old (reader_of result.step) (is_whole result.step) result.next held.new }
 {
     let at = wide(r.held);
@@ -121,9 +121,9 @@ pub(crate) fn take_some(
     count: u32,
     words: u32,
 ) -> Steps
-    requires fact_1 { r.held ≤ 4105 }
-    requires fact_2 { length held.old ≡ 4106 }
-    requires fact_3 { from < length piece.now }
+    requires held_bound { r.held ≤ 4105 }
+    requires held_length { length held.old ≡ 4106 }
+    requires piece_room { from < length piece.now }
     ensures piece_after { (h : House) (m : List ℕ) → h.count ≡ count → h.words ≡ words → fed (stepped (reader_of result.step) (is_whole result.step) h held.new m) (drop result.next piece.now) ≡ fed (reading_at r h held.old m) (drop from piece.now) }
     ensures stepped_to { SteppedTo (reader_of result.step) (is_whole result.step) count words held.new × (from < result.next) × (result.next ≤ length piece.now) }
     ensures kept { Kept r (reader_of result.step) }
@@ -135,7 +135,7 @@ pub(crate) fn take_some(
             next,
         };
     }
-    if r.stage == Stage::Ended {
+    if r.ended {
         return Steps {
             step: Step::Open(wrong(r)),
             next,

@@ -1,10 +1,11 @@
 -- Runs put together.
+use Rattle.std.specs.Prelude.{Result, Ok, Err}
 use mathlib.Core.Path.{◌≡◌, refl, sym, ap, ◌∙◌}
 use mathlib.Core.Bool.{true, false}
 use mathlib.Core.List.{List, ◌++◌}
 use Prim.Native.Nat.{ℕ, zero, suc, ◌-◌, ◌*◌, ◌/◌, ◌<◌, ◌≤◌}
 use native.Mathlib.Omega.{arith}
-use borrow.Author.Tests.{ne_eqb, ltb-true, ltb-false}
+use borrow.Author.Tests.{ne_eqb, eqb-false, ltb-true, ltb-false}
 use lib.Dec.{ltb}
 use lib.ListN.{length, take}
 use lib.Seq.{take_at}
@@ -13,7 +14,10 @@ use Rattle.house.specs.Boot.{verdict}
 use Rattle.house.specs.Turns.{World, world}
 use Rattle.house.specs.Calls.{Answered, answered, run_call}
 use Rattle.house.specs.declared.House.{House}
-use Rattle.night_run.specs.Ran.{after_boot, saved_file, answer_in, handed, Handed}
+use Rattle.house.specs.Refusals.{refusal}
+use Rattle.house.specs.declared.refusal.Refusal.{Refusal}
+use Rattle.house.proofs.Refusals.{not_0}
+use Rattle.night_run.specs.Ran.{outcome_of, after_boot, saved_file, answer_in, handed, Handed}
 use Rattle.night_run.specs.declared.Ran.{Ran}
 use Rattle.resume.specs.Resumed.{full_runs, resumed, resumed_file}
 
@@ -69,16 +73,15 @@ detail_gone d w k =
 abbrev pub on : World → ℕ → Answered
 on w k = resumed (answered (verdict 0 0) w) k
 
-pub on_more : (w w' : World) (n d k : ℕ) → 1000000 < k → answered (verdict n d) w' ≡ run_call w 1000000 → n ≡ 0 → on w' (k - 1000000) ≡ on w k
-on_more w w' n d k l e z =
+pub on_more : (w w' : World) (d k : ℕ) → 1000000 < k → answered (verdict 0 d) w' ≡ run_call w 1000000 → on w' (k - 1000000) ≡ on w k
+on_more w w' d k l e =
     sym (detail_gone d w' (k - 1000000))
-    ∙ ap (λ (j : ℕ). resumed (answered (verdict j d) w') (k - 1000000)) (sym z)
     ∙ ap (λ (x : Answered). resumed x (k - 1000000)) (e ∙ sym (then_done 0 w 1000000))
     ∙ sym (resumed_more (answered (verdict 0 0) w) k l)
 
-pub on_refused : (w w' : World) (n d k : ℕ) → 1000000 < k → answered (verdict n d) w' ≡ run_call w 1000000 → (n ≡ 0 → ⊥) → answered (verdict n d) w' ≡ on w k
-on_refused w w' n d k l e z =
-    sym (resumed_refused (answered (verdict n d) w') (k - 1000000) z)
+pub on_refused : (w w' : World) (r : Refusal) (k : ℕ) → 1000000 < k → answered (refusal r) w' ≡ run_call w 1000000 → answered (refusal r) w' ≡ on w k
+on_refused w w' r k l e =
+    sym (resumed_refused (answered (refusal r) w') (k - 1000000) (eqb-false _ 0 (not_0 r)))
     ∙ ap (λ (x : Answered). resumed x (k - 1000000)) (e ∙ sym (then_done 0 w 1000000))
     ∙ sym (resumed_more (answered (verdict 0 0) w) k l)
 
@@ -94,26 +97,26 @@ module _ (steps : ℕ) (x : Ran) (m : List ℕ) (h : Handed saved_file x m) wher
   came : (file : List ℕ) → x.taken.failed ≡ false → answer_in x m ≡ handed saved_file x.taken file → answer_in x m ≡ saved_file.answer file
   came file f e = rw f at e
 
-  pub resume_refused : x.taken.failed ≡ false → (x.number ≡ 0 → ⊥) → Handed (resumed_file steps) x m
-  resume_refused f z = (
+  pub resume_refused : x.taken.failed ≡ false → (r : Refusal) → x.outcome ≡ Err r → Handed (resumed_file steps) x m
+  resume_refused f r o = (
     h.0,
     h.1,
     λ file of.
         rw f
-        (sym (resumed_refused (answer_in x m) steps z) ∙ ap (λ (a : Answered). resumed a steps) (came file f (h.2 file of))),
+        (sym (resumed_refused (answer_in x m) steps (λ z. eqb-false _ 0 (not_0 r) (rw o at z))) ∙ ap (λ (a : Answered). resumed a steps) (came file f (h.2 file of))),
   )
 
-  pub resume_done : (n d : ℕ) (g : House) (part rest : List ℕ) → x.taken.failed ≡ false → x.number ≡ 0 → length part ≡ x.words
-      → answered (verdict n d) (world g part) ≡ on (world x.house (take x.words m)) steps
-      → Handed (resumed_file steps) (record { taken = x.taken; number = n; detail = d; words = x.words; house = g }) (part ++ rest)
-  resume_done n d g part rest f z l e = (
+  pub resume_done : (o : Result ℕ Refusal) (g : House) (part rest : List ℕ) (detail : ℕ) → x.taken.failed ≡ false → x.outcome ≡ Ok detail → length part ≡ x.words
+      → answered (outcome_of o) (world g part) ≡ on (world x.house (take x.words m)) steps
+      → Handed (resumed_file steps) (record { taken = x.taken; words = x.words; house = g; outcome = o }) (part ++ rest)
+  resume_done o g part rest detail f z l e = (
     h.0,
     h.1,
     λ file of.
         rw f
-        (ap (λ (y : List ℕ). answered (verdict n d) (world g y)) (take_at part rest x.words l)
+        (ap (λ (y : List ℕ). answered (outcome_of o) (world g y)) (take_at part rest x.words l)
         ∙ e
-        ∙ sym (detail_gone x.detail (world x.house (take x.words m)) steps)
-        ∙ ap (λ (j : ℕ). resumed (answered (verdict j x.detail) (world x.house (take x.words m))) steps) (sym z)
+        ∙ sym (detail_gone detail (world x.house (take x.words m)) steps)
+        ∙ ap (λ (p : Result ℕ Refusal). resumed (answered (outcome_of p) (world x.house (take x.words m))) steps) (sym z)
         ∙ ap (λ (a : Answered). resumed a steps) (came file f (h.2 file of))),
   )

@@ -5,17 +5,18 @@
 mod runs;
 
 ghost use Rattle.std.specs.Prelude.{◌≡◌, List, ℕ};
-ghost use Rattle.house.specs.Boot.{verdict};
+ghost use Rattle.house.specs.declared.Done.{Done};
+ghost use Rattle.house.specs.declared.House.{House};
 ghost use Rattle.house.specs.Turns.{world};
-ghost use Rattle.house.specs.Calls.{answered};
+ghost use Rattle.house.specs.Refusals.{answer_of};
 ghost use Rattle.report.specs.Printed.{printed};
 ghost use Rattle.night_run.specs.Ran.{Told, Left};
 ghost use Rattle.resume.specs.Resumed.{resumed_file};
 
-use command::{Number, asks_help, fail, number_in, open, put_out, wrong};
+use command::{asks_help, fail, number_in, open, put_out, wrong};
 use decimal::is;
 use files::{Source, print, try_word};
-use house::House;
+use house::{Answer, House};
 use keep::keep;
 use night_run::{Taken, WORDS};
 use report::text_of;
@@ -37,26 +38,21 @@ fn save_left(
     keep(rt, house, memory, path)
 }
 
-// The same where it is asked for, and the run was not refused. Answers whether all that was to be done is done.
+// The same where a path is given, and the run was not refused. Answers whether all that was to be done is done.
 fn saved(
     rt: &HostRuntime,
     t: Taken,
     steps: u64,
-    number: u32,
-    house: House,
+    answer: Answer,
     memory: &[u32],
-    path: &[u8],
-    saving: bool,
+    path: Option<&[u8]>,
 ) -> bool
-    requires { number ≡ 0 → Left (resumed_file steps) t (world house memory.now) }
+    requires { (done : Done) → answer ≡ Ok done → Left (resumed_file steps) t (world done.house memory.now) }
 {
-    if !saving {
-        return true;
+    match (answer, path) {
+        (Ok(done), Some(path)) => save_left(rt, t, steps, done.house, memory, path),
+        _ => true,
     }
-    if number != 0 {
-        return true;
-    }
-    save_left(rt, t, steps, house, memory, path)
 }
 
 // Prints a text: the one for the file that was read.
@@ -67,23 +63,16 @@ fn show(rt: &HostRuntime, t: Taken, steps: u64, text: &[u8])
 }
 
 // Prints the text for the answer.
-fn tell(rt: &HostRuntime, t: Taken, steps: u64, number: u32, detail: u64, house: House)
-    requires { (m : List ℕ) × Told (resumed_file steps) printed t (printed (answered (verdict number detail) (world house m))) }
+fn tell(rt: &HostRuntime, t: Taken, steps: u64, answer: Answer)
+    requires { (given : House) × (m : List ℕ) × Told (resumed_file steps) printed t (printed (answer_of given answer m)) }
 {
     let mut out = [0u8; 1024];
-    let n = text_of(number, detail, house, &mut out);
+    let n = text_of(answer, &mut out);
     show(rt, t, steps, &out[..n]);
 }
 
 // Reads the source, runs it on, saves and prints. A read that fails prints nothing and says why, and so does a save.
-fn resume(
-    rt: &HostRuntime,
-    source: &mut Source,
-    steps: u64,
-    name: &[u8],
-    path: &[u8],
-    saving: bool,
-) {
+fn resume(rt: &HostRuntime, source: &mut Source, steps: u64, name: &[u8], path: Option<&[u8]>) {
     let mut memory = [0u32; WORDS];
     let x = resume_file(source, steps, &mut memory);
     let taken = x.taken;
@@ -91,21 +80,11 @@ fn resume(
         fail(rt, name, source.why());
         return;
     }
-    let house = x.house;
+    let answer = x.answer();
     let n = x.words;
-    if !saved(
-        rt,
-        taken,
-        steps,
-        x.number,
-        house,
-        &memory[..n],
-        path,
-        saving,
-    ) {
-        return;
+    if saved(rt, taken, steps, answer, &memory[..n], path) {
+        tell(rt, taken, steps, answer);
     }
-    tell(rt, taken, steps, x.number, x.detail, house);
 }
 
 // ---- the command
@@ -122,9 +101,9 @@ fn help(rt: &HostRuntime) {
 }
 
 // Opens the file and goes on.
-fn open_and_run(rt: &HostRuntime, name: &[u8], steps: u64, path: &[u8], saving: bool) {
+fn open_and_run(rt: &HostRuntime, name: &[u8], steps: u64, path: Option<&[u8]>) {
     match open(rt, name) {
-        Ok(mut source) => resume(rt, &mut source, steps, name, path, saving),
+        Ok(mut source) => resume(rt, &mut source, steps, name, path),
         Err(why) => fail(rt, name, why),
     }
 }
@@ -139,38 +118,36 @@ fn with_out(rt: &HostRuntime, name: &[u8], steps: u64) {
     }
     let mut path = files::buffer();
     match try_word(rt, 4, &mut path) {
-        Ok(length) => open_and_run(rt, name, steps, &path[..length], true),
+        Ok(length) => open_and_run(rt, name, steps, Some(&path[..length])),
         Err(why) => fail(rt, b"OUT", why),
     }
 }
 
 // The number that the second word says. Where it says none, that is told.
-fn steps_said(rt: &HostRuntime) -> Number {
+fn steps_said(rt: &HostRuntime) -> Option<u64> {
     let mut word = files::buffer();
     let length = files::word(rt, 2, &mut word);
     let n = number_in(&word[..length], 0xFFFF_FFFF_FFFF_FFFF);
-    if n.said {
-        return n;
+    if n.is_none() {
+        wrong(
+            rt,
+            b"STEPS, a decimal below 18446744073709551616",
+            &word[..length],
+        );
     }
-    wrong(
-        rt,
-        b"STEPS, a decimal below 18446744073709551616",
-        &word[..length],
-    );
     n
 }
 
 // With the words behind SAVED.
 fn with_words(rt: &HostRuntime, name: &[u8], given: usize) {
-    let steps = steps_said(rt);
-    if !steps.said {
+    let Some(steps) = steps_said(rt) else {
         return;
-    }
+    };
     if given == 3 {
-        open_and_run(rt, name, steps.value, b"", false);
+        open_and_run(rt, name, steps, None);
         return;
     }
-    with_out(rt, name, steps.value);
+    with_out(rt, name, steps);
 }
 
 fn main(rt: HostRuntime) {

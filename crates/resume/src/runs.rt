@@ -1,50 +1,46 @@
 // A house run on, and a saved file read and run on.
-ghost use Rattle.std.specs.Prelude.{◌≡◌, false, ◌≤◌, length};
+ghost use Rattle.std.specs.Prelude.{◌≡◌, false, ℕ, ◌≤◌, length};
 ghost use Rattle.house.specs.Boot.{verdict};
 ghost use Rattle.house.specs.Turns.{world};
 ghost use Rattle.house.specs.Calls.{answered};
-ghost use Rattle.night_run.specs.Ran.{no_frames, saved_file, Handed};
+ghost use Rattle.night_run.specs.Ran.{outcome_of, no_frames, saved_file, Handed};
 ghost use Rattle.resume.specs.Resumed.{resumed, resumed_file};
 
 use files::Source;
-use house::{Answer, House};
+use house::House;
 use hypervisor::calls::run;
-use night_run::{Ran, WORDS, restore_file};
+use night_run::{Outcome, Ran, WORDS, restore_file};
 
-// Runs a house so many steps, in runs of at most 1,000,000.
-fn run_on(house: House, memory: &mut [u32], steps: u64) -> Answer
-    ensures { answered (verdict result.number result.detail) (world result.house memory.new) ≡ resumed (answered (verdict 0 0) (world house memory.old)) steps }
+// Runs a house so many steps, in runs of at most 1,000,000. A run that is refused leaves it as the one before did.
+fn run_on(house: &mut House, memory: &mut [u32], steps: u64) -> Outcome
+    ensures { answered (outcome_of result) (world house.new memory.new) ≡ resumed (answered (verdict 0 0) (world house.old memory.old)) steps }
 {
-    let mut h = house;
     let mut left = steps;
+    // Not a `for`: what is left counts down by a run's length.
     while left > 1000000 {
-        let a = run(h, memory, 1000000);
-        if a.number != 0 {
-            return a;
-        }
-        h = a.house;
+        let done = run(*house, memory, 1000000)?;
+        *house = done.house;
         left -= 1000000;
     }
-    run(h, memory, left as u32)
+    let done = run(*house, memory, left as u32)?;
+    *house = done.house;
+    Ok(done.detail)
 }
 
 // The same of what was read, in the first words of the lent memory.
 fn run_from(x: Ran, memory: &mut [u32], steps: u64) -> Ran
     requires { x.words ≤ length memory.old }
-    ensures handed { Handed saved_file x memory.old → x.taken.failed ≡ false → x.number ≡ 0 → Handed (resumed_file steps) result memory.new }
+    ensures handed { Handed saved_file x memory.old → x.taken.failed ≡ false → (detail : ℕ) → x.outcome ≡ Ok detail → Handed (resumed_file steps) result memory.new }
     ensures words_in_bounds { result.words ≤ length memory.new }
 {
-    let taken = x.taken;
-    let house = x.house;
+    let mut after = x.house;
     let n = x.words;
-    let a = run_on(house, &mut memory[..n], steps);
-    let after = a.house;
+    let outcome = run_on(&mut after, &mut memory[..n], steps);
     Ran {
-        taken,
-        number: a.number,
-        detail: a.detail,
+        taken: x.taken,
         words: n,
         house: after,
+        outcome,
     }
 }
 
@@ -55,12 +51,11 @@ pub fn resume_file(source: &mut Source, steps: u64, memory: &mut [u32; WORDS]) -
     ensures words_in_bounds { result.words ≤ length memory.new }
 {
     let x = restore_file(source, memory);
-    let taken = x.taken;
-    if taken.failed() {
+    if x.taken.failed() {
         return x;
     }
-    if x.number != 0 {
-        return x;
+    match x.outcome {
+        Ok(_) => run_from(x, memory, steps),
+        Err(_) => x,
     }
-    run_from(x, memory, steps)
 }

@@ -13,9 +13,9 @@ use house::{House, Refusal};
 
 // Word j of the record of frame f.
 fn frame_word(memory: &[u32], f: usize, j: usize) -> u32
-    requires fact_1 { f * 1024 + 1024 ≤ length memory.now }
-    requires fact_2 { j < 1025 }
-    requires fact_3 { f < 2 ^ 32 }
+    requires memory_room { f * 1024 + 1024 ≤ length memory.now }
+    requires j_bound { j < 1025 }
+    requires f_bound { f < 2 ^ 32 }
     ensures { result ≡ get_or (frame_words memory.now f) j 0 }
 {
     if j == 0 {
@@ -27,9 +27,9 @@ fn frame_word(memory: &[u32], f: usize, j: usize) -> u32
 
 // Byte k of it.
 fn frame_byte(memory: &[u32], f: usize, k: usize) -> u8
-    requires fact_1 { f * 1024 + 1024 ≤ length memory.now }
-    requires fact_2 { k < 4106 }
-    requires fact_3 { f < 2 ^ 32 }
+    requires memory_room { f * 1024 + 1024 ≤ length memory.now }
+    requires k_bound { k < 4106 }
+    requires f_bound { f < 2 ^ 32 }
     ensures { result ≡ get_or (record_of 3 (frame_words memory.now f)) k 0 }
 {
     match k {
@@ -42,8 +42,8 @@ fn frame_byte(memory: &[u32], f: usize, k: usize) -> u8
 
 // Byte k of the file: of a head of n bytes, of so many frames, or of kind 4.
 fn byte_at(head: &[u8], n: usize, memory: &[u32], frames: usize, k: usize) -> u8
-    requires fact_1 { PieceFits head.now n memory.now frames }
-    requires fact_2 { k < n + (frames * 4106 + 6) }
+    requires piece_fits { PieceFits head.now n memory.now frames }
+    requires k_bound { k < n + (frames * 4106 + 6) }
     ensures { result ≡ get_or (take n head.now ++ tail_of memory.now frames) k 0 }
 {
     if k < n {
@@ -69,9 +69,9 @@ fn put_piece(
     count: usize,
     out: &mut [u8],
 )
-    requires fact_1 { PieceFits head.now n memory.now frames }
-    requires fact_2 { count ≤ length out.old }
-    requires fact_3 { at + count ≤ n + (frames * 4106 + 6) }
+    requires piece_fits { PieceFits head.now n memory.now frames }
+    requires out_room { count ≤ length out.old }
+    requires count_bound { at + count ≤ n + (frames * 4106 + 6) }
     ensures { out.new ≡ take count (drop at (take n head.now ++ tail_of memory.now frames)) ++ drop count out.old }
 {
     for (i, b) in out[..count].iter_mut().enumerate() {

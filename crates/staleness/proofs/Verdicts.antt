@@ -5,9 +5,11 @@ use mathlib.Core.Bool.{Bool, false, not, ◌||◌, true≢false}
 use Prim.Native.Nat.{ℕ}
 use native.Mathlib.Omega.{arith}
 use borrow.Author.Tests.{eqb-true, not-false, ne_eqb, eq-eqb}
-use lib.Dec.{eqb}
+use lib.Dec.{eqb, ltb}
 use lib.ListN.{length, replicate}
 use Rattle.dlx.proofs.Kept.{either}
+use Rattle.dlx.proofs.Tests.{by_eq}
+use Rattle.house.specs.Lists.{first_from}
 use Rattle.house.specs.Damage.{damaged}
 use Rattle.house.specs.Boot.{Verdict, verdict, first_of}
 use Rattle.house.specs.Turns.{World, world}
@@ -20,7 +22,7 @@ use Rattle.house.proofs.Refusals.{not_0, leaves_given, leaves_done}
 use Rattle.hypervisor.proofs.Refusals.{Told_house, shaped}
 use Rattle.house.proofs.Calls.Verdicts.{passed}
 use Rattle.house.proofs.Damage.Undamaged.{count_within, sound_partition}
-use Rattle.staleness.specs.Audit.{audit_verdict, finding, first_stale, audit_call, counts, stale_counts, counts_call, Walkable}
+use Rattle.staleness.specs.Audit.{audit_verdict, Finding, finding, has_stale, first_stale, audit_call, Counts, counts, stale_counts, counts_call, Walkable}
 
 -- an audit that is done
 pub record AuditDone (w : World) : Type 0 where
@@ -66,6 +68,10 @@ module _ (w : World) (n : ℕ) (e : n ≡ (audit_verdict w 0).number) where
 
 -- ---- what refuses an audit has no detail
 
+pub found_plain : (w : World) → (first_stale w).number ≡ 0
+unfolding first_stale
+found_plain w = either (λ (f : Finding). f.number ≡ 0) (ltb (first_from (has_stale w) 0 w.house.count) w.house.count) (λ _. refl) (λ _. refl)
+
 abbrev detailed : ℕ → Bool
 detailed n = eqb n 2 || eqb n 6 || eqb n 7 || eqb n 15 || eqb n 16 || eqb n 17
 
@@ -97,8 +103,24 @@ not_detailed w =
     P : Verdict → Type 0
     P v = detailed v.number ≡ false
 
-pub no_detail : (w : World) (r : Refusal) → (refusal r).number ≡ (audit_verdict w 0).number → (refusal r).detail ≡ 0
-no_detail w r e = plain r (ap detailed e ∙ not_detailed w)
+module _ (w : World) (r : Refusal) where
+  numbered : (refusal r).number ≡ (audit_verdict w 0).number → (refusal r).detail ≡ 0
+  numbered e = plain r (ap detailed e ∙ not_detailed w)
+
+  not_done : {A : Type 0} → (refusal r).number ≡ 0 → A
+  not_done z = absurd (true≢false (sym (eq-eqb (refusal r).number 0 z) ∙ not_0 r))
+
+  pub audit_detail : finding (refusal r).number false 0 0 ≡ audit_call w → (refusal r).detail ≡ 0
+  audit_detail e =
+      by_eq (audit_verdict w 0).number 0
+      (λ z. not_done (ap (λ (f : Finding). f.number) (e ∙ audit_found w _ refl z) ∙ found_plain w))
+      (λ n. numbered (ap (λ (f : Finding). f.number) (e ∙ audit_refused w _ refl n)))
+
+  pub counts_detail : counts (refusal r).number (replicate 8 0) ≡ counts_call w → (refusal r).detail ≡ 0
+  counts_detail e =
+      by_eq (audit_verdict w 0).number 0
+      (λ z. not_done (ap (λ (c : Counts). c.number) (e ∙ counts_found w _ refl z)))
+      (λ n. numbered (ap (λ (c : Counts). c.number) (e ∙ counts_refused w _ refl n)))
 
 -- ---- what the calls' answers cite
 

@@ -41,8 +41,8 @@ fn is_stale(words: &[u32], frames: &[u32], pages: u32, t: Table, px: u32, e: u32
 
 // The first page whose entry is stale.
 fn first_page(words: &[u32], frames: &[u32], shadow: &[u32], pages: u32, t: Table) -> Option<u32>
-    requires fact_1 { Placed frames.now pages (length words.now) }
-    requires fact_2 { length shadow.now ≡ entries }
+    requires placed { Placed frames.now pages (length words.now) }
+    requires shadow_length { length shadow.now ≡ entries }
     ensures { IsFirst (stale_in frames.now pages t words.now shadow.now) entries result }
 {
     for (px, e) in shadow.iter().enumerate() {
@@ -56,8 +56,8 @@ fn first_page(words: &[u32], frames: &[u32], shadow: &[u32], pages: u32, t: Tabl
 
 // How many are stale.
 fn count_stale(words: &[u32], frames: &[u32], shadow: &[u32], pages: u32, t: Table) -> u32
-    requires fact_1 { Placed frames.now pages (length words.now) }
-    requires fact_2 { length shadow.now ≡ entries }
+    requires placed { Placed frames.now pages (length words.now) }
+    requires shadow_length { length shadow.now ≡ entries }
     ensures { result ≡ count_of (stale_in frames.now pages t words.now shadow.now) entries }
 {
     let mut n = 0;
@@ -71,8 +71,8 @@ fn count_stale(words: &[u32], frames: &[u32], shadow: &[u32], pages: u32, t: Tab
 
 // The stale ones become empty.
 fn mend_shadow(words: &[u32], frames: &[u32], shadow: &mut [u32], pages: u32, t: Table)
-    requires fact_1 { Placed frames.now pages (length words.now) }
-    requires fact_2 { length shadow.old ≡ entries }
+    requires placed { Placed frames.now pages (length words.now) }
+    requires shadow_length { length shadow.old ≡ entries }
     ensures { shadow.new ≡ list_from (kept_in frames.now pages t words.now shadow.old) 0 entries }
 {
     for (px, e) in shadow.iter_mut().enumerate() {
@@ -86,8 +86,8 @@ fn mend_shadow(words: &[u32], frames: &[u32], shadow: &mut [u32], pages: u32, t:
 
 // Partition i's first stale page.
 fn first_of(h: &House, memory: &[u32], i: u32) -> Option<u32>
-    requires fact_1 { i < 8 }
-    requires fact_2 { Placed (frames_of h.now i) (pages_of h.now i) (length memory.now) }
+    requires i_bound { i < 8 }
+    requires placed { Placed (frames_of h.now i) (pages_of h.now i) (length memory.now) }
     ensures { IsFirst (stale_at (world h.now memory.now) i) entries result }
 {
     let k = wide(i);
@@ -99,8 +99,8 @@ fn first_of(h: &House, memory: &[u32], i: u32) -> Option<u32>
 
 // How many of its entries are stale.
 fn count_of(h: &House, memory: &[u32], i: u32) -> u32
-    requires fact_1 { i < 8 }
-    requires fact_2 { Placed (frames_of h.now i) (pages_of h.now i) (length memory.now) }
+    requires i_bound { i < 8 }
+    requires placed { Placed (frames_of h.now i) (pages_of h.now i) (length memory.now) }
     ensures { result ≡ stale_count (world h.now memory.now) i }
 {
     let k = wide(i);
@@ -112,8 +112,8 @@ fn count_of(h: &House, memory: &[u32], i: u32) -> u32
 
 // The house with its stale entries empty.
 fn mend_of(h: House, memory: &[u32], i: u32) -> House
-    requires fact_1 { i < 8 }
-    requires fact_2 { Placed (frames_of h i) (pages_of h i) (length memory.now) }
+    requires i_bound { i < 8 }
+    requires placed { Placed (frames_of h i) (pages_of h i) (length memory.now) }
     ensures { world result memory.now ≡ mended_one (world h memory.now) i }
 {
     let k = wide(i);

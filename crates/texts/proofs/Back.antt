@@ -5,39 +5,39 @@ use Rattle.decimal.specs.Decimals.{digit, decimal, signed_text}
 use Rattle.decimal.specs.Texts.{ascii, same}
 use Rattle.decimal.proofs.Same.{and_right, same_eq}
 use Rattle.decimal.proofs.Decimals.{one_digit, more_digits}
-use Rattle.command.specs.Words.{number, with_digit, with_digits, number_of}
-use Rattle.command.specs.declared.Number.{Number}
+use Rattle.std.specs.Prelude.{Option, Some}
+use Rattle.command.specs.Words.{with_digit, with_digits, number_of}
 use Rattle.texts.specs.Numbers.{negated, word_said, idle, bared_from, bared}
 
 -- ---- a number in decimals says itself
 
-digits_more : (most : ℕ) (n : Number) (a b : List ℕ) → with_digits most n (a ++ b) ≡ with_digits most (with_digits most n a) b
+digits_more : (most : ℕ) (n : Option ℕ) (a b : List ℕ) → with_digits most n (a ++ b) ≡ with_digits most (with_digits most n a) b
 unfolding with_digits
 digits_more most n [] b = refl
 digits_more most n (x ∷ a) b = digits_more most (with_digit most n x) a b
 
-digit_on : (most v n : ℕ) → v * 10 + n % 10 ≤ most → with_digit most (number v) (digit n) ≡ number (v * 10 + n % 10)
+digit_on : (most v n : ℕ) → v * 10 + n % 10 ≤ most → with_digit most (Some v) (digit n) ≡ Some (v * 10 + n % 10)
 unfolding with_digit
 digit_on most v n l =
     let e : 48 + n % 10 - 48 ≡ n % 10 = omega arith in
     rw (le-leb 48 (48 + n % 10) (omega arith), le-leb (48 + n % 10) 57 (omega arith), e, le-leb (v * 10 + n % 10) most l)
 
-digits_in : (most k n : ℕ) → n ≤ k → n ≤ most → with_digits most (number 0) (decimal n) ≡ number n
+digits_in : (most k n : ℕ) → n ≤ k → n ≤ most → with_digits most (Some 0) (decimal n) ≡ Some n
 unfolding with_digits
 digits_in most zero n l m =
     let e : 0 * 10 + n % 10 ≡ n = omega arith in
-    rw (one_digit n (omega arith)) (digit_on most 0 n (omega arith) ∙ ap number e)
+    rw (one_digit n (omega arith)) (digit_on most 0 n (omega arith) ∙ ap (λ (x : ℕ). Some x) e)
 digits_in most (suc k) n l m =
     by_test (ltb n 10)
     (λ q.
     let p : n < 10 = ltb-true n 10 q in
     let e : 0 * 10 + n % 10 ≡ n = omega arith in
-    rw (one_digit n p) (digit_on most 0 n (omega arith) ∙ ap number e))
+    rw (one_digit n p) (digit_on most 0 n (omega arith) ∙ ap (λ (x : ℕ). Some x) e))
     (λ q.
     let p : 10 ≤ n = ltb-false n 10 q in
     let e : n / 10 * 10 + n % 10 ≡ n = omega arith in
-    rw (more_digits n p, digits_more most (number 0) (decimal (n / 10)) (digit n ∷ []), digits_in most k (n / 10) (omega arith) (omega arith))
-    (digit_on most (n / 10) n (omega arith) ∙ ap number e))
+    rw (more_digits n p, digits_more most (Some 0) (decimal (n / 10)) (digit n ∷ []), digits_in most k (n / 10) (omega arith) (omega arith))
+    (digit_on most (n / 10) n (omega arith) ∙ ap (λ (x : ℕ). Some x) e))
 
 -- it has a first digit
 pub record Begins (l : List ℕ) : Type 0 where
@@ -61,11 +61,11 @@ begins_in (suc k) n l =
       digit = b.digit;
     })
 
-some_number : (most : ℕ) (l : List ℕ) → Begins l → number_of most l ≡ with_digits most (number 0) l
+some_number : (most : ℕ) (l : List ℕ) → Begins l → number_of most l ≡ with_digits most (Some 0) l
 unfolding number_of
 some_number most l b = rw b.is
 
-pub decimal_number : (most n : ℕ) → n ≤ most → number_of most (decimal n) ≡ number n
+pub decimal_number : (most n : ℕ) → n ≤ most → number_of most (decimal n) ≡ Some n
 decimal_number most n m = some_number most (decimal n) (begins_in n n (omega arith)) ∙ digits_in most n n (omega arith) m
 
 -- ---- a word, with its sign and without
@@ -75,17 +75,17 @@ unfolding word_said
 plain_said l b = rw (b.is, ne_eqb b.first 45 (λ e. omega (arith, b.digit)))
 
 -- THEOREM: a word that is written in decimals says itself
-pub decimal_said : (w : ℕ) → w < 2 ^ 32 → word_said (decimal w) ≡ number w
+pub decimal_said : (w : ℕ) → w < 2 ^ 32 → word_said (decimal w) ≡ Some w
 decimal_said w l = plain_said (decimal w) (begins_in w w (omega arith)) ∙ decimal_number (2 ^ 32 - 1) w (omega arith)
 
-minus_said : (w : ℕ) → 2 ^ 31 ≤ w → w < 2 ^ 32 → word_said (45 ∷ decimal (2 ^ 32 - w)) ≡ number w
+minus_said : (w : ℕ) → 2 ^ 31 ≤ w → w < 2 ^ 32 → word_said (45 ∷ decimal (2 ^ 32 - w)) ≡ Some w
 unfolding word_said negated
 minus_said w h l =
     let e : (2 ^ 32 - (2 ^ 32 - w)) % 2 ^ 32 ≡ w = omega arith in
-    rw (decimal_number (2 ^ 31) (2 ^ 32 - w) (omega arith)) (ap number e)
+    rw (decimal_number (2 ^ 31) (2 ^ 32 - w) (omega arith)) (ap (λ (x : ℕ). Some x) e)
 
 -- THEOREM: and so does one that is written with its sign
-pub signed_said : (w : ℕ) → w < 2 ^ 32 → word_said (signed_text (2 ^ 32) w) ≡ number w
+pub signed_said : (w : ℕ) → w < 2 ^ 32 → word_said (signed_text (2 ^ 32) w) ≡ Some w
 unfolding signed_text
 signed_said w l =
     by_test (ltb w (2 ^ 32 / 2))

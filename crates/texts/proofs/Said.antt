@@ -1,37 +1,34 @@
 -- What a line is, as laws over plain variables.
-use Rattle.std.proofs.Common.{◌≡◌, ℕ, suc, ◌-◌, ◌%◌, ◌^◌, ◌<◌, ◌≤◌, Bool, true, false, List, [], ◌∷◌, length, get_or, take, drop, refl, ap, ◌∙◌, arith, take_all, eq-eqb, ne_eqb, le-leb}
+use Rattle.std.proofs.Common.{◌≡◌, ℕ, ◌-◌, ◌^◌, ◌<◌, ◌≤◌, Bool, true, false, ◌&&◌, eqb, nat_eq, sym, List, [], ◌∷◌, length, take, drop, refl, ap, ◌∙◌, eq-eqb, ne_eqb, le-leb}
 use borrow.Author.Tests.{lt-leb}
 use Rattle.decimal.specs.Texts.{ascii, same}
-use Rattle.command.specs.Words.{number, no_number, number_of}
-use Rattle.command.specs.declared.Number.{Number}
+use Rattle.std.specs.Prelude.{Option, is_some, unwrap_or}
+use Rattle.std.specs.Cmp.Lexicographic.{pointwise}
+use Rattle.command.specs.Words.{number_of}
 use Rattle.lines.specs.Lines.{candidate, right}
 use Rattle.texts.specs.Numbers.{negated, word_said, idle, right_by, word_by}
 
-module _ (n : Number) where
-  pub negated_none : n.said ≡ false → no_number ≡ negated n
-  unfolding negated
-  negated_none e = rw e
+-- ---- a line with a minus before it, and without
 
-  pub negated_some : n.said ≡ true → number ((2 ^ 32 - n.value) % 2 ^ 32) ≡ negated n
-  unfolding negated
-  negated_some e = rw e
+dash : (b : ℕ) (bs : List ℕ) → pointwise nat_eq (take 1 (b ∷ bs)) (45 ∷ []) ≡ eqb b 45
+dash b bs = either (eqb b 45)
+  where
+    either : (t : Bool) → (t && true) ≡ t
+    either true = refl
+    either false = refl
 
-pub said_none : (l : List ℕ) → length l ≡ 0 → no_number ≡ word_said l
+pub said_minus : (l : List ℕ) → pointwise nat_eq (take 1 l) (45 ∷ []) ≡ true → negated (number_of (2 ^ 31) (drop 1 l)) ≡ word_said l
 unfolding word_said
-said_none [] e = refl
-said_none (b ∷ bs) e = absurd (let z : suc (length bs) ≡ 0 = e in omega arith)
+said_minus [] e = cc
+said_minus (b ∷ bs) e = let t : eqb b 45 ≡ true = sym (dash b bs) ∙ e in rw t
 
-pub said_minus : (l : List ℕ) (n r : Number) → (length l ≡ 0 → ⊥) → get_or l 0 0 ≡ 45 → n ≡ number_of (2 ^ 31) (take (length l - 1) (drop 1 l)) → r ≡ negated n → r ≡ word_said l
-unfolding word_said
-said_minus [] n r z e f g = absurd (z refl)
-said_minus (b ∷ bs) n r z e f g =
-    let k : take (suc (length bs) - 1) bs ≡ bs = take_all (suc (length bs) - 1) bs (omega arith) in
-    rw (eq-eqb b 45 e) (g ∙ ap negated (f ∙ ap (number_of (2 ^ 31)) k))
+pub said_negated : (l digits : List ℕ) (n : Option ℕ) → pointwise nat_eq (take 1 l) (45 ∷ []) ≡ true → digits ≡ drop 1 l → n ≡ number_of (2 ^ 31) digits → negated n ≡ word_said l
+said_negated l digits n t e f = ap negated (f ∙ ap (number_of (2 ^ 31)) e) ∙ said_minus l t
 
-pub said_plain : (l : List ℕ) (r : Number) → (length l ≡ 0 → ⊥) → (get_or l 0 0 ≡ 45 → ⊥) → r ≡ number_of (2 ^ 32 - 1) l → r ≡ word_said l
-unfolding word_said
-said_plain [] r z e f = absurd (z refl)
-said_plain (b ∷ bs) r z e f = rw (ne_eqb b 45 e) f
+pub said_plain : (l : List ℕ) → pointwise nat_eq (take 1 l) (45 ∷ []) ≡ false → number_of (2 ^ 32 - 1) l ≡ word_said l
+unfolding word_said number_of
+said_plain [] e = refl
+said_plain (b ∷ bs) e = let t : eqb b 45 ≡ false = sym (dash b bs) ∙ e in rw t
 
 module _ (d : Bool) (l : List ℕ) (b : ℕ) where
   pub idle_listed : d ≡ false → false ≡ idle d l b
@@ -61,14 +58,14 @@ module _ (d : Bool) (l : List ℕ) where
   unfolding right_by
   right_long e h = rw (e, right_by, lt-leb (length l) 80 h)
 
-  pub right_said : (n : Number) → d ≡ true → length l ≤ 80 → n ≡ word_said l → n.said ≡ right_by d l
+  pub right_said : (n : Option ℕ) → d ≡ true → length l ≤ 80 → n ≡ word_said l → is_some n ≡ right_by d l
   unfolding right_by
-  right_said n e h f = rw (e, right_by, le-leb (length l) 80 h) (ap (λ (x : Number). x.said) f)
+  right_said n e h f = rw (e, right_by, le-leb (length l) 80 h) (ap (λ (x : Option ℕ). is_some x) f)
 
   pub word_listed : {w : ℕ} → d ≡ false → w ≡ candidate l → w ≡ word_by d l
   unfolding word_by
   word_listed e f = rw (e, word_by) f
 
-  pub word_said_lem : (n : Number) → d ≡ true → n ≡ word_said l → n.value ≡ word_by d l
+  pub word_said_lem : (n : Option ℕ) → d ≡ true → n ≡ word_said l → unwrap_or n 0 ≡ word_by d l
   unfolding word_by
-  word_said_lem n e f = rw (e, word_by) (ap (λ (x : Number). x.value) f)
+  word_said_lem n e f = rw (e, word_by) (ap (λ (x : Option ℕ). unwrap_or x 0) f)

@@ -22,8 +22,8 @@ const WORDS: usize = 262144;
 
 // Reads the source to its end, and keeps the words of its lines: nothing where a read fails. It fails also at the 2^64th byte.
 fn read_text(decimals: bool, source: &mut Source, line: &mut [u8], words: &mut [u32]) -> Option<At>
-    requires fact_1 { length line.old ≡ 81 }
-    requires fact_2 { words.old ≡ no_words }
+    requires line_length { length line.old ≡ 81 }
+    requires words_zeros { words.old ≡ no_words }
     ensures whole { IfSome result (λ at. Whole decimals (held at line.new words.new)) }
     ensures fits { IfSome result (λ at. Fits at line.new) }
 {
@@ -96,8 +96,8 @@ fn write_some(rt: &HostRuntime, words: &[u32]) -> bool
 }
 
 fn write_words(rt: &HostRuntime, decimals: bool, words: &[u32], count: usize)
-    requires fact_1 { Told decimals 0 0 count words.now }
-    requires fact_2 { count ≤ length words.now }
+    requires told { Told decimals 0 0 count words.now }
+    requires words_room { count ≤ length words.now }
 {
     for some in words[..count].chunks(1024) {
         if !write_some(rt, some) {
@@ -107,9 +107,9 @@ fn write_words(rt: &HostRuntime, decimals: bool, words: &[u32], count: usize)
 }
 
 fn answer(rt: &HostRuntime, decimals: bool, at: At, line: &[u8], words: &[u32])
-    requires fact_1 { Whole decimals (held at line.now words.now) }
-    requires fact_2 { Fits at line.now }
-    requires fact_3 { length words.now ≡ 262144 }
+    requires whole { Whole decimals (held at line.now words.now) }
+    requires fits { Fits at line.now }
+    requires words_length { length words.now ≡ 262144 }
 {
     if let Some(wrong) = at.wrong {
         refuse(rt, decimals, 18, wrong);

@@ -18,8 +18,8 @@ fn shift(places: &mut [u32])
 
 // v sent to one of so many partitions.
 pub fn send(count: u32, tickets: &mut [u32], waiting: &mut [u32], v: u32, to: u32) -> Reply
-    requires fact_1 { Queued (queues tickets.old waiting.old) }
-    requires fact_2 { count ≤ 8 }
+    requires queued { Queued (queues tickets.old waiting.old) }
+    requires count_bound { count ≤ 8 }
     ensures { (result, queues tickets.new waiting.new) ≡ sending count (queues tickets.old waiting.old) v to }
 {
     if to >= count {
@@ -37,8 +37,8 @@ pub fn send(count: u32, tickets: &mut [u32], waiting: &mut [u32], v: u32, to: u3
 
 // The oldest ticket taken by partition i.
 pub fn take(tickets: &mut [u32], waiting: &mut [u32], i: u32) -> Reply
-    requires fact_1 { Queued (queues tickets.old waiting.old) }
-    requires fact_2 { i < 8 }
+    requires queued { Queued (queues tickets.old waiting.old) }
+    requires i_bound { i < 8 }
     ensures { (result, queues tickets.new waiting.new) ≡ taking (queues tickets.old waiting.old) i }
 {
     let j = wide(i);

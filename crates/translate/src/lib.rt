@@ -64,8 +64,8 @@ pub fn walk(words: &[u32], frames: &[u32], pages: u32, t: Table, px: u32) -> u32
 
 // The entry of the shadow for page px, filled from the guest's table where it is empty; or the fault's number.
 fn look(words: &[u32], frames: &[u32], shadow: &mut [u32], pages: u32, t: Table, px: u32) -> u32
-    requires fact_1 { Placed frames.now pages (length words.now) }
-    requires fact_2 { Shadowed frames.now pages shadow.old }
+    requires placed { Placed frames.now pages (length words.now) }
+    requires shadowed { Shadowed frames.now pages shadow.old }
     ensures { (result, host t words.now shadow.new) ≡ looked frames.now pages (host t words.now shadow.old) px }
 {
     if px >= LIMIT {
@@ -106,8 +106,8 @@ fn serve(
     user: bool,
     a: u32,
 ) -> u32
-    requires fact_1 { Placed frames.now pages (length words.now) }
-    requires fact_2 { Shadowed frames.now pages shadow.old }
+    requires placed { Placed frames.now pages (length words.now) }
+    requires shadowed { Shadowed frames.now pages shadow.old }
     ensures { (result, host t words.now shadow.new) ≡ served frames.now pages (host t words.now shadow.old) user a }
 {
     if user {
@@ -126,8 +126,8 @@ pub fn load(
     user: bool,
     a: u32,
 ) -> Result<u32, u32>
-    requires fact_1 { Placed frames.now pages (length words.now) }
-    requires fact_2 { Shadowed frames.now pages shadow.old }
+    requires placed { Placed frames.now pages (length words.now) }
+    requires shadowed { Shadowed frames.now pages shadow.old }
     ensures { (result, host t words.now shadow.new) ≡ host_reads frames.now pages (host t words.now shadow.old) user a }
 {
     let e = serve(words, frames, shadow, pages, t, user, a);
@@ -139,8 +139,8 @@ pub fn load(
 
 // The word x after a store of v by an opcode at address a. The opcode's bit 1 tells a word, bit 0 a half word.
 pub fn place(o: u32, a: u32, v: u32, x: u32) -> u32
-    requires fact_1 { storing o ≡ true }
-    requires fact_2 { aligned (width o) a ≡ true }
+    requires storing { storing o ≡ true }
+    requires aligned { aligned (width o) a ≡ true }
     ensures { result ≡ placed o a v x }
 {
     if o / 2 % 2 == 1 {
@@ -155,9 +155,9 @@ pub fn place(o: u32, a: u32, v: u32, x: u32) -> u32
 
 // One word of a frame, after such a store.
 pub fn put(frame: &mut [u32], off: usize, o: u32, a: u32, v: u32)
-    requires fact_1 { off < length frame.old }
-    requires fact_2 { storing o ≡ true }
-    requires fact_3 { aligned (width o) a ≡ true }
+    requires frame_room { off < length frame.old }
+    requires storing { storing o ≡ true }
+    requires aligned { aligned (width o) a ≡ true }
     ensures { frame.new ≡ updated frame.old off (placed o a v) }
 {
     frame[off] = place(o, a, v, frame[off]);
@@ -165,9 +165,9 @@ pub fn put(frame: &mut [u32], off: usize, o: u32, a: u32, v: u32)
 
 // What a store into a frame empties: entry `off`, where the frame holds the table. The table fills one page, so that every word of the frame below PTL is an entry.
 fn empty_entry(frames: &[u32], shadow: &mut [u32], pages: u32, t: Table, frame: u32, off: u32)
-    requires fact_1 { Listed frames.now pages }
-    requires fact_2 { length shadow.old ≡ entries }
-    requires fact_3 { off < entries }
+    requires listed { Listed frames.now pages }
+    requires shadow_length { length shadow.old ≡ entries }
+    requires off_bound { off < entries }
     ensures { shadow.new ≡ emptied frames.now pages t frame off shadow.old }
 {
     let pto = t.pto;
@@ -195,10 +195,10 @@ pub fn store(
     a: u32,
     v: u32,
 ) -> Result<(), u32>
-    requires fact_1 { Placed frames.now pages (length words.old) }
-    requires fact_2 { Shadowed frames.now pages shadow.old }
-    requires fact_3 { storing o ≡ true }
-    requires fact_4 { aligned (width o) a ≡ true }
+    requires placed { Placed frames.now pages (length words.old) }
+    requires shadowed { Shadowed frames.now pages shadow.old }
+    requires storing { storing o ≡ true }
+    requires aligned { aligned (width o) a ≡ true }
     ensures { (result, host t words.new shadow.new) ≡ host_writes frames.now pages (host t words.old shadow.old) user a (placed o a v) }
 {
     let e = serve(words, frames, shadow, pages, t, user, a);

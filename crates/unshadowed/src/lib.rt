@@ -67,9 +67,9 @@ fn store(
     a: u32,
     v: u32,
 ) -> Result<(), u32>
-    requires fact_1 { Placed frames.now pages (length words.old) }
-    requires fact_2 { storing o ≡ true }
-    requires fact_3 { aligned (width o) a ≡ true }
+    requires placed { Placed frames.now pages (length words.old) }
+    requires storing { storing o ≡ true }
+    requires aligned { aligned (width o) a ≡ true }
     ensures { (result, unshadowed t words.new) ≡ sought_written (unshadowed t words.old) a (placed o a v) (sought frames.now pages (unshadowed t words.old) user a) }
 {
     let e = seek(words, frames, pages, t, user, a);
@@ -97,8 +97,8 @@ fn fetch(
     words: &[u32],
     latest: &mut u32,
 ) -> Effect
-    requires fact_1 { length regs.now ≡ 32 }
-    requires fact_2 { Placed frames.now pages (length words.now) }
+    requires regs_length { length regs.now ≡ 32 }
+    requires placed { Placed frames.now pages (length words.now) }
     ensures { ((result, core p regs.now latest.new k), unshadowed t words.now) ≡ fetched (unshadowed_memory frames.now pages) (core p regs.now latest.old k, unshadowed t words.now) }
 {
     let dpc = p.dpc;
@@ -135,10 +135,10 @@ fn access(
     latest: &mut u32,
     e: Effect,
 ) -> Change
-    requires fact_1 { length regs.old ≡ 32 }
-    requires fact_2 { Placed frames.now pages (length words.old) }
-    requires fact_3 { Seated count i (queues tickets.old waiting.old) }
-    requires fact_4 { Asks e }
+    requires regs_length { length regs.old ≡ 32 }
+    requires placed { Placed frames.now pages (length words.old) }
+    requires seated { Seated count i (queues tickets.old waiting.old) }
+    requires asks { Asks e }
     ensures { (k : Timer) → (((result, core p regs.new latest.new k), unshadowed t words.new), queues tickets.new waiting.new) ≡ accessed_at (unshadowed_memory frames.now pages) (desk count i) (core p regs.old latest.old k) e (unshadowed t words.old) (queues tickets.old waiting.old) }
 {
     let next = std::num::wrapping_add_u32(p.pc, 4);
@@ -199,9 +199,9 @@ pub fn step(
     waiting: &mut [u32],
     latest: &mut u32,
 ) -> Stepped
-    requires fact_1 { length regs.old ≡ 32 }
-    requires fact_2 { Placed frames.now pages (length words.old) }
-    requires fact_3 { Seated count i (queues tickets.old waiting.old) }
+    requires regs_length { length regs.old ≡ 32 }
+    requires placed { Placed frames.now pages (length words.old) }
+    requires seated { Seated count i (queues tickets.old waiting.old) }
     ensures { step_of result regs.new latest.new words.new (queues tickets.new waiting.new) ≡ step_at (unshadowed_memory frames.now pages) (desk count i) (core p regs.old latest.old k, unshadowed t words.old) (queues tickets.old waiting.old) }
 {
     let e = fetch(p, t, k, pages, regs, frames, words, latest);
@@ -237,9 +237,9 @@ pub fn stretch(
     latest: &mut u32,
     n: u32,
 ) -> Stretched
-    requires fact_1 { length regs.old ≡ 32 }
-    requires fact_2 { Placed frames.now pages (length words.old) }
-    requires fact_3 { Seated count i (queues tickets.old waiting.old) }
+    requires regs_length { length regs.old ≡ 32 }
+    requires placed { Placed frames.now pages (length words.old) }
+    requires seated { Seated count i (queues tickets.old waiting.old) }
     ensures { stretch_of result regs.new latest.new words.new (queues tickets.new waiting.new) ≡ stretch_from (unshadowed_memory frames.now pages) (desk count i) n 0 (core p regs.old latest.old k, unshadowed t words.old) (queues tickets.old waiting.old) }
 {
     let mut processor = p;

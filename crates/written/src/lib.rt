@@ -43,8 +43,8 @@ fn may_be_taken(rt: &HostRuntime, path: &[u8]) -> bool {
 
 // Puts the path and `.new` behind it, and answers where that ends.
 fn put_beside(path: &[u8], name: &mut [u8]) -> usize
-    requires fact_1 { length path.now ≤ 4092 }
-    requires fact_2 { length name.old ≡ 4096 }
+    requires path_length { length path.now ≤ 4092 }
+    requires name_length { length name.old ≡ 4096 }
     ensures name_after { take result name.new ≡ beside path.now }
     ensures prefix_len { IsPrefixLen result name.new }
 {

@@ -19,6 +19,6 @@ tell-requires c =
     let f = sym c.failed.ensures ∙ c.if-failed.false in
     let e = c.answer.ensures (take x.result.words x.new.memory) in
     record {
-      fact_1 = (x.result.house, rw e (told_answer either_file printed x.result x.new.memory x.ensures.handed f));
-      fact_2 = (x.result.house, rw e (told_answer either_file named x.result x.new.memory x.ensures.handed f));
+      told = (x.result.house, rw e (told_answer either_file printed x.result x.new.memory x.ensures.handed f));
+      named_told = (x.result.house, rw e (told_answer either_file named x.result x.new.memory x.ensures.handed f));
     }

@@ -17,7 +17,7 @@ pub booted-house-requires : goal.booted-house-requires
 booted-house-requires c =
     let a = c.args in
     let q = fitting a.pages.now a.q a.frames.now (length a.memory.now) (ap (λ (v : Verdict). v.number) (sym c.in_ok-check.ensures)) in
-    record { fact_1 = q.0; fact_2 = q.1 }
+    record { fitting = q.0; words_bound = q.1 }
 
 pub returns : goal.returns
 unfolding boot_call

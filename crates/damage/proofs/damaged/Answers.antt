@@ -1,5 +1,5 @@
 use mathlib.Core.Path.{◌∙◌, sym}
-use Rattle.damage.proofs.Marks.{within, limits_found, inside_found, queues_found}
+use Rattle.damage.proofs.Marks.{within}
 use Rattle.damage.proofs.damaged.Goals as goal
 
 pub inside_wrong-requires : goal.inside_wrong-requires

@@ -1,7 +1,6 @@
 use mathlib.Core.Path.{refl, ◌∙◌, sym}
 use Prim.Native.Nat.{◌<◌, ◌/◌}
 use native.Mathlib.Omega.{arith}
-use lib.ListN.{length}
 use Rattle.std.proofs.lemmas.List.{length-take-le}
 use Rattle.house.specs.Lists.{any}
 use Rattle.house.proofs.Lists.Bounded.{any_more, any_yes}

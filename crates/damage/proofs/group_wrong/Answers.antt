@@ -4,7 +4,7 @@ use Rattle.std.proofs.lemmas.Iterator.{YieldsList-from_slice}
 use Rattle.std.proofs.lemmas.Iterator.Search.{any_from_yields_List}
 use Rattle.damage.specs.Marks.{entry_marked}
 use Rattle.damage.proofs.Chains.{any_list}
-use Rattle.damage.proofs.Marks.{group_empty}
+use Rattle.damage.proofs.Marks.{empty_list}
 use Rattle.damage.proofs.group_wrong.Goals as goal
 
 pub returns-then-not_zero : goal.returns-then-not_zero
@@ -14,4 +14,4 @@ returns-then-not_zero c =
 
 pub returns-else-not_zero : goal.returns-else-not_zero
 returns-else-not_zero c =
-    c.if-not_zero.false ∙ sym (group_empty c.args.owners.now c.args.tag c.args.group.now (sym c.not_zero.ensures ∙ c.if-not_zero.false))
+    c.if-not_zero.false ∙ sym (empty_list c.args.owners.now c.args.tag c.args.group.now (sym c.not_zero.ensures ∙ c.if-not_zero.false))

@@ -1,13 +1,12 @@
-use mathlib.Core.Path.{◌≡◌, refl, ap, ◌∙◌, sym}
-use Prim.Native.Nat.{◌*◌, ◌<◌, ◌+◌, ◌≤◌}
+use mathlib.Core.Path.{refl, ap, ◌∙◌, sym}
+use Prim.Native.Nat.{◌<◌, ◌+◌}
 use mathlib.Core.Bool.{true}
 use native.Mathlib.Omega.{arith}
-use lib.ListN.{length, length-replicate}
+use lib.ListN.{length}
 use Rattle.std.proofs.lemmas.List.{length-take-le}
 use Rattle.house.specs.Lists.{any}
 use Rattle.house.proofs.Lists.Bounded.{one_way, any_more, any_yes}
-use Rattle.dlx.proofs.Parts.{inner_length}
-use Rattle.damage.specs.Marks.{part_at, owners_of, twice_in}
+use Rattle.damage.specs.Marks.{owners_of, twice_in}
 use Rattle.damage.proofs.Marks.{part_is, part_length, mark_part, owners_length, pages_here}
 use Rattle.damage.proofs.mark_all.Goals as goal
 

@@ -1,6 +1,5 @@
 use mathlib.Core.Bool.{false}
 use mathlib.Core.Path.{◌≡◌}
-use Prim.Native.Nat.{◌≤◌, ◌-◌, ◌+◌}
 use Rattle.house.specs.Lists.{any}
 use Rattle.damage.specs.Marks.{owners_of, twice_in}
 use Rattle.damage.proofs.mark_all.Given as goal

@@ -1,7 +1,6 @@
 use lib.Dec.{eqb}
 use mathlib.Core.Bool.{not}
 use mathlib.Core.Path.{◌≡◌}
-use Prim.Native.Nat.{◌≤◌, ◌-◌}
 use Rattle.house.specs.Damage.{not_zero}
 use Rattle.damage.proofs.not_zero.Given as goal
 

@@ -1,6 +1,5 @@
 use mathlib.Core.Bool.{false}
 use mathlib.Core.Path.{◌≡◌}
-use Prim.Native.Nat.{◌≤◌, ◌-◌}
 use Rattle.house.specs.Lists.{any}
 use Rattle.damage.specs.Marks.{registers_at}
 use Rattle.damage.proofs.registers_wrong.Given as goal

@@ -1,6 +1,5 @@
 use mathlib.Core.Bool.{false}
 use mathlib.Core.Path.{◌≡◌}
-use Prim.Native.Nat.{◌≤◌, ◌-◌, ◌+◌}
 use Rattle.house.specs.Lists.{any}
 use Rattle.damage.specs.Marks.{shadow_marked}
 use Rattle.damage.proofs.shadows_wrong.Given as goal

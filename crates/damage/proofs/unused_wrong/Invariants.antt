@@ -1,7 +1,6 @@
 use lib.ListN.{get_or}
 use mathlib.Core.Bool.{false}
 use mathlib.Core.Path.{◌≡◌}
-use Prim.Native.Nat.{◌≤◌, ◌-◌}
 use Rattle.house.specs.Lists.{any}
 use Rattle.house.specs.House.{no_partition}
 use Rattle.damage.specs.Marks.{room_wrong}

@@ -10,7 +10,7 @@ pub finish-requires : goal.finish-requires
 finish-requires c = omega (arith, c.loop.invariant.0.used)
 
 pub turn-s-requires : goal.turn-s-requires
-turn-s-requires c = let v = c.loop.invariant in let g = subst (λ (x : ℕ). Goes c.loop.s (length c.first-reached.new.input) x) (sym v.2) v.0 in record { fact_1 = subst (λ (x : ℕ). Goes c.loop.s x (length c.loop.memory)) (sym v.1) g; fact_2 = c.in-Some.is }
+turn-s-requires c = let v = c.loop.invariant in let g = subst (λ (x : ℕ). Goes c.loop.s (length c.first-reached.new.input) x) (sym v.2) v.0 in record { goes = subst (λ (x : ℕ). Goes c.loop.s x (length c.loop.memory)) (sym v.1) g; at_hand = c.in-Some.is }
 
 pub loop-preserved : goal.loop-preserved
 loop-preserved c = let v = c.loop.invariant in let k = c.turn-s.auto in let g = subst (λ (x : ℕ). Goes c.turn-s.result x (length c.loop.memory)) v.1 c.turn-s.ensures in (subst (λ (x : ℕ). Goes c.turn-s.result (length c.first-reached.new.input) x) v.2 g, omega (arith, v.1, k), omega (arith, v.2, k))

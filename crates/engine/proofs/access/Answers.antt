@@ -6,11 +6,11 @@ use Rattle.engine.proofs.access.Goals as goal
 
 -- src/lib.rt:115:50
 pub bring-requires : goal.bring-requires
-bring-requires c = let n = rw c.in-Load.is at c.requires.fact_5 in record { fact_1 = n.1; fact_2 = n.2 }
+bring-requires c = let n = rw c.in-Load.is at c.requires.asks in record { loading = n.1; aligned = n.2 }
 
 -- src/lib.rt:118:17
 pub store-requires : goal.store-requires
-store-requires c = let n = rw c.in-Store.is at c.requires.fact_5 in record { fact_1 = c.requires.fact_2; fact_2 = c.requires.fact_3; fact_3 = n.0; fact_4 = n.1 }
+store-requires c = let n = rw c.in-Store.is at c.requires.asks in record { placed = c.requires.placed; shadowed = c.requires.shadowed; storing = n.0; aligned = n.1 }
 
 -- src/lib.rt:120:17
 pub returns-in-Ok-store : goal.returns-in-Ok-store
@@ -19,11 +19,11 @@ returns-in-Ok-store c = λ _. simp (c.in-Store.is, ← c.store.ensures, c.in-Ok-
 
 -- src/lib.rt:126:17
 pub send-reply-requires : goal.send-reply-requires
-send-reply-requires c = record { fact_1 = c.requires.fact_4.queued; fact_2 = c.requires.fact_4.few }
+send-reply-requires c = record { queued = c.requires.seated.queued; count_bound = c.requires.seated.few }
 
 -- src/lib.rt:130:17
 pub receive-code-requires : goal.receive-code-requires
-receive-code-requires c = record { fact_1 = c.requires.fact_1; fact_2 = c.requires.fact_4.queued; fact_3 = c.requires.fact_4.small }
+receive-code-requires c = record { regs_length = c.requires.regs_length; queued = c.requires.seated.queued; i_bound = c.requires.seated.small }
 
 -- src/lib.rt:81:1
 pub returns-in-Done : goal.returns-in-Done

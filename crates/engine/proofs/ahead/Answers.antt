@@ -4,13 +4,13 @@ use Rattle.std.proofs.Common.{sym, refl, ◌∙◌, subst, arith}
 use Rattle.engine.proofs.ahead.Goals as goal
 
 pub loop-left-init : goal.loop-left-init
-loop-left-init c = (leads_none _ _ _ _ _ _ _, c.requires.fact_1, refl, refl)
+loop-left-init c = (leads_none _ _ _ _ _ _ _, c.requires.s_length, refl, refl)
 
 pub leap-requires : goal.leap-requires
-leap-requires c = let i = c.loop-left.invariant in record { fact_1 = i.1; fact_2 = i.2 ∙ c.requires.fact_2; fact_3 = subst (λ z. Placed c.args.frames.now c.args.pages z) (sym i.3) c.requires.fact_3; fact_4 = c.requires.fact_4; fact_5 = c.loop-left-test.true }
+leap-requires c = let i = c.loop-left.invariant in record { s_length = i.1; regs_length = i.2 ∙ c.requires.regs_length; placed = subst (λ z. Placed c.args.frames.now c.args.pages z) (sym i.3) c.requires.placed; shadowed = c.requires.shadowed; n_positive = c.loop-left-test.true }
 
 pub shape_of-s-in-Break : goal.shape_of-s-in-Break
-shape_of-s-in-Break c = omega (arith, c.leap.ensures.1, c.requires.fact_1)
+shape_of-s-in-Break c = omega (arith, c.leap.ensures.1, c.requires.s_length)
 
 pub shape_of-regs-in-Break : goal.shape_of-regs-in-Break
 shape_of-regs-in-Break c = omega (arith, c.leap.ensures.2, c.loop-left.invariant.2)
@@ -28,7 +28,7 @@ pub loop-left-preserved : goal.loop-left-preserved
 loop-left-preserved c = let i = c.loop-left.invariant in let e = c.leap.ensures in let d = rw c.in-Continue.is at e.0 in (leads_then _ _ _ _ _ _ _ _ _ _ _ _ _ _ _ i.0 d.0, e.1, e.2 ∙ i.2, e.3 ∙ i.3)
 
 pub shape_of-s : goal.shape_of-s
-shape_of-s c = omega (arith, c.loop-left.invariant.1, c.requires.fact_1)
+shape_of-s c = omega (arith, c.loop-left.invariant.1, c.requires.s_length)
 
 pub shape_of-regs : goal.shape_of-regs
 shape_of-regs c = omega (arith, c.loop-left.invariant.2)

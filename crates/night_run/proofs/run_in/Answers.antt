@@ -18,7 +18,7 @@ pub slice_bounds-boot_from-end-3 : goal.slice_bounds-boot_from-end-3
 slice_bounds-boot_from-end-3 c = front_count 16384 _ c.requires (omega arith)
 
 pub boot_from-requires : goal.boot_from-requires
-boot_from-requires c = record { fact_1 = going_at _ _ _ _ c.take_head-t.ensures.bytes_bound (search rules) c.in_head-n.ensures.value (c.take_head-t.ensures.by_index _); fact_2 = zeros 16384 _ c.requires (omega arith) }
+boot_from-requires c = record { going = going_at _ _ _ _ c.take_head-t.ensures.bytes_bound (search rules) c.in_head-n.ensures.value (c.take_head-t.ensures.by_index _); memory_zeros = zeros 16384 _ c.requires (omega arith) }
 
 pub returns : goal.returns
 returns c = let q = from_house (ran_by _) _ _ _ _ c.boot_from.ensures.words_in_bounds c.boot_from.ensures.handed_from in record { handed = q.0; words_in_bounds = q.1 }

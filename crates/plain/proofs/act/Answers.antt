@@ -7,40 +7,40 @@ use Rattle.plain.proofs.Laws.{match_on}
 use Rattle.plain.proofs.act.Goals as goal
 
 pub load_word-requires : goal.load_word-requires
-load_word-requires c = record { fact_1 = c.requires.fact_1; fact_2 = c.requires.fact_2; fact_3 = c.requires.fact_3; fact_4 = refl }
+load_word-requires c = record { regs_length = c.requires.regs_length; placed = c.requires.placed; shadowed = c.requires.shadowed; loading = refl }
 
 pub store_word-requires : goal.store_word-requires
-store_word-requires c = record { fact_1 = c.requires.fact_1; fact_2 = c.requires.fact_2; fact_3 = c.requires.fact_3; fact_4 = refl; fact_5 = c.requires.fact_5 }
+store_word-requires c = record { regs_length = c.requires.regs_length; placed = c.requires.placed; shadowed = c.requires.shadowed; storing = refl; held_page = c.requires.held_page }
 
 pub add_word-requires : goal.add_word-requires
-add_word-requires c = c.requires.fact_1
+add_word-requires c = c.requires.regs_length
 
 pub sub_word-requires : goal.sub_word-requires
-sub_word-requires c = c.requires.fact_1
+sub_word-requires c = c.requires.regs_length
 
 pub and_word-requires : goal.and_word-requires
-and_word-requires c = c.requires.fact_1
+and_word-requires c = c.requires.regs_length
 
 pub or_word-requires : goal.or_word-requires
-or_word-requires c = c.requires.fact_1
+or_word-requires c = c.requires.regs_length
 
 pub xor_word-requires : goal.xor_word-requires
-xor_word-requires c = c.requires.fact_1
+xor_word-requires c = c.requires.regs_length
 
 pub high_word-requires : goal.high_word-requires
-high_word-requires c = c.requires.fact_1
+high_word-requires c = c.requires.regs_length
 
 pub branch-regs-requires : goal.branch-regs-requires
-branch-regs-requires c = c.requires.fact_1
+branch-regs-requires c = c.requires.regs_length
 
 pub branch-regs-requires-in-5 : goal.branch-regs-requires-in-5
-branch-regs-requires-in-5 c = c.requires.fact_1
+branch-regs-requires-in-5 c = c.requires.regs_length
 
 pub jump-requires : goal.jump-requires
-jump-requires c = c.requires.fact_1
+jump-requires c = c.requires.regs_length
 
 pub jump_linked-requires : goal.jump_linked-requires
-jump_linked-requires c = c.requires.fact_1
+jump_linked-requires c = c.requires.regs_length
 
 pub extend-far-requires : goal.extend-far-requires
 extend-far-requires c = (25, omega arith, refl)
@@ -49,52 +49,52 @@ pub extend-far-requires-in-3 : goal.extend-far-requires-in-3
 extend-far-requires-in-3 c = (25, omega arith, refl)
 
 pub link-requires : goal.link-requires
-link-requires c = c.requires.fact_1
+link-requires c = c.requires.regs_length
 
 pub register_type-requires : goal.register_type-requires
-register_type-requires c = record { fact_1 = c.requires.fact_1; fact_2 = c.requires.fact_4 }
+register_type-requires c = record { regs_length = c.requires.regs_length; numbered = c.requires.numbered }
 
 pub load_word-requires-in-32 : goal.load_word-requires-in-32
-load_word-requires-in-32 c = record { fact_1 = c.requires.fact_1; fact_2 = c.requires.fact_2; fact_3 = c.requires.fact_3; fact_4 = refl }
+load_word-requires-in-32 c = record { regs_length = c.requires.regs_length; placed = c.requires.placed; shadowed = c.requires.shadowed; loading = refl }
 
 pub load_word-requires-in-33 : goal.load_word-requires-in-33
-load_word-requires-in-33 c = record { fact_1 = c.requires.fact_1; fact_2 = c.requires.fact_2; fact_3 = c.requires.fact_3; fact_4 = refl }
+load_word-requires-in-33 c = record { regs_length = c.requires.regs_length; placed = c.requires.placed; shadowed = c.requires.shadowed; loading = refl }
 
 pub load_word-requires-in-36 : goal.load_word-requires-in-36
-load_word-requires-in-36 c = record { fact_1 = c.requires.fact_1; fact_2 = c.requires.fact_2; fact_3 = c.requires.fact_3; fact_4 = refl }
+load_word-requires-in-36 c = record { regs_length = c.requires.regs_length; placed = c.requires.placed; shadowed = c.requires.shadowed; loading = refl }
 
 pub load_word-requires-in-37 : goal.load_word-requires-in-37
-load_word-requires-in-37 c = record { fact_1 = c.requires.fact_1; fact_2 = c.requires.fact_2; fact_3 = c.requires.fact_3; fact_4 = refl }
+load_word-requires-in-37 c = record { regs_length = c.requires.regs_length; placed = c.requires.placed; shadowed = c.requires.shadowed; loading = refl }
 
 pub store_word-requires-in-40 : goal.store_word-requires-in-40
-store_word-requires-in-40 c = record { fact_1 = c.requires.fact_1; fact_2 = c.requires.fact_2; fact_3 = c.requires.fact_3; fact_4 = refl; fact_5 = c.requires.fact_5 }
+store_word-requires-in-40 c = record { regs_length = c.requires.regs_length; placed = c.requires.placed; shadowed = c.requires.shadowed; storing = refl; held_page = c.requires.held_page }
 
 pub store_word-requires-in-41 : goal.store_word-requires-in-41
-store_word-requires-in-41 c = record { fact_1 = c.requires.fact_1; fact_2 = c.requires.fact_2; fact_3 = c.requires.fact_3; fact_4 = refl; fact_5 = c.requires.fact_5 }
+store_word-requires-in-41 c = record { regs_length = c.requires.regs_length; placed = c.requires.placed; shadowed = c.requires.shadowed; storing = refl; held_page = c.requires.held_page }
 
 pub test_type-requires : goal.test_type-requires
-test_type-requires c = c.requires.fact_1
+test_type-requires c = c.requires.regs_length
 
 pub test_type-requires-in-25 : goal.test_type-requires-in-25
-test_type-requires-in-25 c = c.requires.fact_1
+test_type-requires-in-25 c = c.requires.regs_length
 
 pub test_type-requires-in-26 : goal.test_type-requires-in-26
-test_type-requires-in-26 c = c.requires.fact_1
+test_type-requires-in-26 c = c.requires.regs_length
 
 pub test_type-requires-in-27 : goal.test_type-requires-in-27
-test_type-requires-in-27 c = c.requires.fact_1
+test_type-requires-in-27 c = c.requires.regs_length
 
 pub test_type-requires-in-28 : goal.test_type-requires-in-28
-test_type-requires-in-28 c = c.requires.fact_1
+test_type-requires-in-28 c = c.requires.regs_length
 
 pub test_type-requires-in-29 : goal.test_type-requires-in-29
-test_type-requires-in-29 c = c.requires.fact_1
+test_type-requires-in-29 c = c.requires.regs_length
 
 pub test_type-requires-in-30 : goal.test_type-requires-in-30
-test_type-requires-in-30 c = c.requires.fact_1
+test_type-requires-in-30 c = c.requires.regs_length
 
 pub test_type-requires-in-31 : goal.test_type-requires-in-31
-test_type-requires-in-31 c = c.requires.fact_1
+test_type-requires-in-31 c = c.requires.regs_length
 
 pub returns-in-35 : goal.returns-in-35
 returns-in-35 c = match_on c.load_word.result c.load_word.ensures (λ q. (q, refl)) (λ _ r. load_arm c.args.frames.now c.args.pages c.args.p c.args.t c.args.page c.args.y c.args.regs.now c.args.words.now c.args.shadow.now c.args.w _ _ _ refl refl refl 35 _ _ (o_35 c.args.w c.in-35.is) r)

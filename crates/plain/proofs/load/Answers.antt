@@ -9,7 +9,7 @@ use Rattle.plain.proofs.load.Goals as goal
 
 -- src/lib.rt:136:9
 pub fits-requires : goal.fits-requires
-fits-requires c = or_left (loading c.args.o) (storing c.args.o) c.requires.fact_4
+fits-requires c = or_left (loading c.args.o) (storing c.args.o) c.requires.loading
 
 -- src/lib.rt:137:9
 pub returns-then-not-fits : goal.returns-then-not-fits
@@ -17,7 +17,7 @@ returns-then-not-fits c = refl
 
 -- src/lib.rt:139:9
 pub seen-e-requires : goal.seen-e-requires
-seen-e-requires c = record { fact_1 = placed_listed c.requires.fact_2; fact_2 = c.requires.fact_3.count }
+seen-e-requires c = record { listed = placed_listed c.requires.placed; shadow_length = c.requires.shadowed.count }
 
 -- src/lib.rt:141:9
 pub returns-then-e-ne1 : goal.returns-then-e-ne1
@@ -25,12 +25,12 @@ returns-then-e-ne1 c = refl
 
 -- src/lib.rt:143:13
 pub bounds-words-wide : goal.bounds-words-wide
-bounds-words-wide c = let i = seen_inside _ _ (record { pto = 0; ptl = 0 }) c.args.words.now _ _ _ _ c.requires.fact_2 c.requires.fact_3 c.seen-e.ensures (eq-eqb _ _ c.if-e-ne1.false) in
+bounds-words-wide c = let i = seen_inside _ _ (record { pto = 0; ptl = 0 }) c.args.words.now _ _ _ _ c.requires.placed c.requires.shadowed c.seen-e.ensures (eq-eqb _ _ c.if-e-ne1.false) in
     omega (arith, i, c.wide-2.ensures, c.wide.ensures)
 
 -- src/lib.rt:144:19
 pub bring-requires : goal.bring-requires
-bring-requires c = record { fact_1 = c.requires.fact_4; fact_2 = fits_left _ _ _ c.fits.ensures (ap not c.if-not-fits.false) }
+bring-requires c = record { loading = c.requires.loading; aligned = fits_left _ _ _ c.fits.ensures (ap not c.if-not-fits.false) }
 
 -- src/lib.rt:118:1
 pub returns : goal.returns

@@ -14,4 +14,4 @@ returns-then-n-ge-TCOUNT c = refl
 pub returns : goal.returns
 returns c = let e = c.put.ensures in
     let l : c.args.n < 10 = omega (arith, c.if-n-ge-TCOUNT.false) in
-    (ne_eqb _ _ c.if-p-eq1.false, l, e.0 ∙ ap (λ (v : ℕ). written c.args.regs.now c.args.rd v) (ap (λ (j : ℕ). get_or c.args.specials.now j 0) c.wide.ensures ∙ c.requires.fact_2.1 c.args.n l), e.1)
+    (ne_eqb _ _ c.if-p-eq1.false, l, e.0 ∙ ap (λ (v : ℕ). written c.args.regs.now c.args.rd v) (ap (λ (j : ℕ). get_or c.args.specials.now j 0) c.wide.ensures ∙ c.requires.numbered.1 c.args.n l), e.1)

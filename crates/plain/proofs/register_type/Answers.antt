@@ -7,76 +7,76 @@ use Rattle.plain.proofs.Laws.{match_on}
 use Rattle.plain.proofs.register_type.Goals as goal
 
 pub bounds-regs-rs1 : goal.bounds-regs-rs1
-bounds-regs-rs1 c = omega (arith, c.requires.fact_1, c.first-rs1.ensures)
+bounds-regs-rs1 c = omega (arith, c.requires.regs_length, c.first-rs1.ensures)
 
 pub bounds-regs-rs2 : goal.bounds-regs-rs2
-bounds-regs-rs2 c = omega (arith, c.requires.fact_1, c.second-rs2.ensures)
+bounds-regs-rs2 c = omega (arith, c.requires.regs_length, c.second-rs2.ensures)
 
 pub add-requires : goal.add-requires
-add-requires c = omega (arith, c.requires.fact_1, c.wide-rd.ensures)
+add-requires c = omega (arith, c.requires.regs_length, c.wide-rd.ensures)
 
 pub sub-requires : goal.sub-requires
-sub-requires c = omega (arith, c.requires.fact_1, c.wide-rd.ensures)
+sub-requires c = omega (arith, c.requires.regs_length, c.wide-rd.ensures)
 
 pub put-requires : goal.put-requires
-put-requires c = omega (arith, c.requires.fact_1, c.wide-rd.ensures)
+put-requires c = omega (arith, c.requires.regs_length, c.wide-rd.ensures)
 
 pub put-requires-in-37 : goal.put-requires-in-37
-put-requires-in-37 c = omega (arith, c.requires.fact_1, c.wide-rd.ensures)
+put-requires-in-37 c = omega (arith, c.requires.regs_length, c.wide-rd.ensures)
 
 pub put-requires-in-38 : goal.put-requires-in-38
-put-requires-in-38 c = omega (arith, c.requires.fact_1, c.wide-rd.ensures)
+put-requires-in-38 c = omega (arith, c.requires.regs_length, c.wide-rd.ensures)
 
 pub read_special-requires : goal.read_special-requires
-read_special-requires c = record { fact_1 = omega (arith, c.requires.fact_1, c.wide-rd.ensures); fact_2 = c.requires.fact_2 }
+read_special-requires c = record { regs_room = omega (arith, c.requires.regs_length, c.wide-rd.ensures); numbered = c.requires.numbered }
 
 pub test-requires : goal.test-requires
 test-requires c = omega arith
 
 pub put-requires-in-40 : goal.put-requires-in-40
-put-requires-in-40 c = omega (arith, c.requires.fact_1, c.wide-rd.ensures)
+put-requires-in-40 c = omega (arith, c.requires.regs_length, c.wide-rd.ensures)
 
 pub test-requires-in-41 : goal.test-requires-in-41
 test-requires-in-41 c = omega arith
 
 pub put-requires-in-41 : goal.put-requires-in-41
-put-requires-in-41 c = omega (arith, c.requires.fact_1, c.wide-rd.ensures)
+put-requires-in-41 c = omega (arith, c.requires.regs_length, c.wide-rd.ensures)
 
 pub test-requires-in-42 : goal.test-requires-in-42
 test-requires-in-42 c = omega arith
 
 pub put-requires-in-42 : goal.put-requires-in-42
-put-requires-in-42 c = omega (arith, c.requires.fact_1, c.wide-rd.ensures)
+put-requires-in-42 c = omega (arith, c.requires.regs_length, c.wide-rd.ensures)
 
 pub test-requires-in-43 : goal.test-requires-in-43
 test-requires-in-43 c = omega arith
 
 pub put-requires-in-43 : goal.put-requires-in-43
-put-requires-in-43 c = omega (arith, c.requires.fact_1, c.wide-rd.ensures)
+put-requires-in-43 c = omega (arith, c.requires.regs_length, c.wide-rd.ensures)
 
 pub test-requires-in-44 : goal.test-requires-in-44
 test-requires-in-44 c = omega arith
 
 pub put-requires-in-44 : goal.put-requires-in-44
-put-requires-in-44 c = omega (arith, c.requires.fact_1, c.wide-rd.ensures)
+put-requires-in-44 c = omega (arith, c.requires.regs_length, c.wide-rd.ensures)
 
 pub test-requires-in-45 : goal.test-requires-in-45
 test-requires-in-45 c = omega arith
 
 pub put-requires-in-45 : goal.put-requires-in-45
-put-requires-in-45 c = omega (arith, c.requires.fact_1, c.wide-rd.ensures)
+put-requires-in-45 c = omega (arith, c.requires.regs_length, c.wide-rd.ensures)
 
 pub test-requires-in-46 : goal.test-requires-in-46
 test-requires-in-46 c = omega arith
 
 pub put-requires-in-46 : goal.put-requires-in-46
-put-requires-in-46 c = omega (arith, c.requires.fact_1, c.wide-rd.ensures)
+put-requires-in-46 c = omega (arith, c.requires.regs_length, c.wide-rd.ensures)
 
 pub test-requires-in-47 : goal.test-requires-in-47
 test-requires-in-47 c = omega arith
 
 pub put-requires-in-47 : goal.put-requires-in-47
-put-requires-in-47 c = omega (arith, c.requires.fact_1, c.wide-rd.ensures)
+put-requires-in-47 c = omega (arith, c.requires.regs_length, c.wide-rd.ensures)
 
 pub returns-in-32 : goal.returns-in-32
 returns-in-32 c = match_on c.add.result c.add.ensures (λ q. q) (λ _ r fr n page ws sh. sum_register fr n c.args.p c.args.t page c.args.y c.args.regs.now ws sh c.args.w _ (get_or c.args.regs.now c.first-rs1.result 0) (get_or c.args.regs.now c.second-rs2.result 0) c.wide-rd.ensures (ap (λ (j : ℕ). get_or c.args.regs.now j 0) c.first-rs1.ensures) (ap (λ (j : ℕ). get_or c.args.regs.now j 0) c.second-rs2.ensures) Add _ _ _ (f_32 c.args.w c.in-32.is) r.0 r.1 r.2)

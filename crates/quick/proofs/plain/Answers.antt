@@ -8,7 +8,7 @@ pub loop-rest-init : goal.loop-rest-init
 loop-rest-init c = (goes_none _ _ _ _ _ _ _ _ _ _ refl refl, refl, refl)
 
 pub seen-e-requires : goal.seen-e-requires
-seen-e-requires c = record { fact_1 = placed_listed c.requires.fact_2; fact_2 = c.requires.fact_3.count }
+seen-e-requires c = record { listed = placed_listed c.requires.placed; shadow_length = c.requires.shadowed.count }
 
 pub shape_of-regs-then-e-ne1 : goal.shape_of-regs-then-e-ne1
 shape_of-regs-then-e-ne1 c = omega (arith, c.loop-rest.invariant.1)
@@ -23,7 +23,7 @@ pub overflow_sub-page : goal.overflow_sub-page
 overflow_sub-page c = omega arith
 
 pub in_page-q-requires : goal.in_page-q-requires
-in_page-q-requires c = let i = c.loop-rest.invariant in record { fact_1 = i.1 ∙ c.requires.fact_1; fact_2 = subst (λ z. Placed c.args.frames.now c.args.pages z) (sym i.2) c.requires.fact_2; fact_3 = c.requires.fact_3; fact_4 = cached_here _ _ _ _ c.loop-rest.dpc _ _ _ c.seen-e.ensures (eq-eqb _ _ c.if-e-ne1.false) (omega arith) (simp c.wide-base.ensures); fact_5 = numbered_pair c.args.specials.now c.args.p c.args.t _ _ c.requires.fact_4 }
+in_page-q-requires c = let i = c.loop-rest.invariant in record { regs_length = i.1 ∙ c.requires.regs_length; placed = subst (λ z. Placed c.args.frames.now c.args.pages z) (sym i.2) c.requires.placed; shadowed = c.requires.shadowed; cached = cached_here _ _ _ _ c.loop-rest.dpc _ _ _ c.seen-e.ensures (eq-eqb _ _ c.if-e-ne1.false) (omega arith) (simp c.wide-base.ensures); numbered = numbered_pair c.args.specials.now c.args.p c.args.t _ _ c.requires.numbered }
 
 pub shape_of-regs-then-q-ne0 : goal.shape_of-regs-then-q-ne0
 shape_of-regs-then-q-ne0 c = omega (arith, c.in_page-q.ensures.1, c.loop-rest.invariant.1)

@@ -2,7 +2,7 @@ use mathlib.Core.Path.{refl, sym, ◌∙◌}
 use Rattle.readout.specs.Printed.{printed, refusal_of}
 use lib.Seq.{length-take-le}
 use Rattle.night_run.specs.Ran.{either_file, no_frames}
-use Rattle.night_run.proofs.Files.{told_answer}
+use Rattle.night_run.proofs.Files.{told_as}
 use Rattle.readout.proofs.readout.Goals as goal
 
 pub read_file-x-requires : goal.read_file-x-requires
@@ -16,4 +16,8 @@ pub slice_bounds-tell-end : goal.slice_bounds-tell-end
 slice_bounds-tell-end c = sym (length-take-le _ _ c.read_file-x.ensures.words_in_bounds)
 
 pub tell-requires : goal.tell-requires
-tell-requires c = record { fact_1 = told_answer either_file (printed c.args.w) c.read_file-x.result _ c.read_file-x.ensures.handed (sym c.failed.ensures ∙ c.if-failed.false); fact_2 = told_answer either_file (refusal_of c.args.w) c.read_file-x.result _ c.read_file-x.ensures.handed (sym c.failed.ensures ∙ c.if-failed.false) }
+tell-requires c =
+    let f = sym c.failed.ensures ∙ c.if-failed.false in record {
+      told = (_, told_as either_file (printed c.args.w) c.read_file-x.result _ c.read_file-x.ensures.handed f _ c.answer.ensures);
+      refusal_told = (_, told_as either_file (refusal_of c.args.w) c.read_file-x.result _ c.read_file-x.ensures.handed f _ c.answer.ensures);
+    }

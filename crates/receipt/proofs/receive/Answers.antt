@@ -4,10 +4,10 @@ use borrow.Author.Tests.{eq-eqb, ne_eqb}
 use Rattle.receipt.proofs.receive.Goals as goal
 
 pub take-reply-requires : goal.take-reply-requires
-take-reply-requires c = record { fact_1 = c.requires.fact_2; fact_2 = c.requires.fact_3 }
+take-reply-requires c = record { queued = c.requires.queued; i_bound = c.requires.i_bound }
 
 pub write-requires : goal.write-requires
-write-requires c = omega (arith, c.requires.fact_1)
+write-requires c = omega (arith, c.requires.regs_length)
 
 pub returns-then-reply-eq0 : goal.returns-then-reply-eq0
 unfolding received

@@ -3,8 +3,7 @@ use Rattle.report.specs.Printed.{printed}
 use Rattle.resume.specs.Resumed.{resumed_file}
 use Rattle.report.proofs.Texts.{put_there}
 use Rattle.night_run.specs.Ran.{Told}
-use borrow.Author.Rules.{rules}
 use Rattle.resume.proofs.tell.Goals as goal
 
 pub show-requires : goal.show-requires
-show-requires c = let p = c.requires in subst (Told (resumed_file c.args.steps) printed c.args.t) (sym (put_there _ _ _ _ (c.text_of-n.ensures.by_index p.0))) p.1
+show-requires c = let p = c.requires in subst (Told (resumed_file c.args.steps) printed c.args.t) (sym (put_there _ _ _ _ (c.text_of-n.ensures.by_index p.0 p.1))) p.2

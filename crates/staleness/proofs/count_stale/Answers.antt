@@ -20,5 +20,5 @@ loop-px-preserved c =
     ]
 
 pub returns : goal.returns
-returns c = let a = c.args in let l = c.loop-px in let e : l.px ≡ entries = omega (arith, c.requires.fact_2) in
+returns c = let a = c.args in let l = c.loop-px in let e : l.px ≡ entries = omega (arith, c.requires.shadow_length) in
     l.invariant.0 ∙ ap (count_of (stale_in a.frames.now a.pages a.t a.words.now a.shadow.now)) e

@@ -12,8 +12,8 @@ loop-px-init c = refl
 
 pub returns-then-is_stale : goal.returns-then-is_stale
 returns-then-is_stale c = let a = c.args in let l = c.loop-px in (
-  omega (arith, c.requires.fact_2),
-  first_is (stale_in a.frames.now a.pages a.t a.words.now a.shadow.now) entries l.px l.invariant (omega (arith, c.requires.fact_2)) (sym c.is_stale.ensures ∙ c.if-is_stale.true),
+  omega (arith, c.requires.shadow_length),
+  first_is (stale_in a.frames.now a.pages a.t a.words.now a.shadow.now) entries l.px l.invariant (omega (arith, c.requires.shadow_length)) (sym c.is_stale.ensures ∙ c.if-is_stale.true),
 )
 
 pub loop-px-preserved : goal.loop-px-preserved
@@ -21,5 +21,5 @@ loop-px-preserved c = let a = c.args in
     any_more (stale_in a.frames.now a.pages a.t a.words.now a.shadow.now) c.loop-px.px c.loop-px.invariant (sym c.is_stale.ensures ∙ c.if-is_stale.false)
 
 pub returns : goal.returns
-returns c = let a = c.args in let l = c.loop-px in let e : l.px ≡ entries = omega (arith, c.requires.fact_2) in
+returns c = let a = c.args in let l = c.loop-px in let e : l.px ≡ entries = omega (arith, c.requires.shadow_length) in
     first_none (stale_in a.frames.now a.pages a.t a.words.now a.shadow.now) entries (rw e at l.invariant)

@@ -8,8 +8,8 @@ pub loop-i-init : goal.loop-i-init
 unfolding mended_to
 loop-i-init c = refl
 
-pub mend_of-r-requires-clause-fact_2 : goal.mend_of-r-requires-clause-fact_2
-mend_of-r-requires-clause-fact_2 c = let a = c.args in let l = c.loop-i in mended_placed l.i l.i _ (world a.h a.memory.now) l.r a.memory.now l.invariant (c.requires.each l.i c.loop-i-test.true)
+pub mend_of-r-requires-clause-placed : goal.mend_of-r-requires-clause-placed
+mend_of-r-requires-clause-placed c = let a = c.args in let l = c.loop-i in mended_placed l.i l.i _ (world a.h a.memory.now) l.r a.memory.now l.invariant (c.requires.each l.i c.loop-i-test.true)
 
 pub loop-i-preserved : goal.loop-i-preserved
 unfolding mended_to

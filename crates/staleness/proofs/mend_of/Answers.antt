@@ -6,8 +6,8 @@ use Rattle.hypervisor.proofs.Read.{lent_placed}
 use Rattle.staleness.specs.Audit.{mended_one}
 use Rattle.staleness.proofs.mend_of.Goals as goal
 
-pub mend_shadow-requires-clause-fact_1 : goal.mend_shadow-requires-clause-fact_1
-mend_shadow-requires-clause-fact_1 c = let a = c.args in let e = c.wide-k.ensures in lent_placed a.h _ a.i _ _ e (ap (λ (k : ℕ). pages_of a.h k) e) c.requires.fact_2
+pub mend_shadow-requires-clause-placed : goal.mend_shadow-requires-clause-placed
+mend_shadow-requires-clause-placed c = let a = c.args in let e = c.wide-k.ensures in lent_placed a.h _ a.i _ _ e (ap (λ (k : ℕ). pages_of a.h k) e) c.requires.placed
 
 pub returns : goal.returns
 unfolding mended_one outer inner

@@ -6,13 +6,13 @@ use Rattle.staleness.proofs.mend_shadow.Goals as goal
 use Rattle.staleness.proofs.mend_shadow.Goals.{then-is_stale, else-is_stale}
 
 pub loop-px-init : goal.loop-px-init
-loop-px-init c = let a = c.args in sym (far_none (kept_in a.frames.now a.pages a.t a.words.now a.shadow.now) (λ k. get_or a.shadow.now k 0) entries ∙ list_from_self a.shadow.now entries c.requires.fact_2)
+loop-px-init c = let a = c.args in sym (far_none (kept_in a.frames.now a.pages a.t a.words.now a.shadow.now) (λ k. get_or a.shadow.now k 0) entries ∙ list_from_self a.shadow.now entries c.requires.shadow_length)
 
 pub loop-px-preserved : goal.loop-px-preserved
 loop-px-preserved c =
     let a = c.args in
     let l = c.loop-px in
-    let b : l.px < entries = omega (arith, c.requires.fact_2) in
+    let b : l.px < entries = omega (arith, c.requires.shadow_length) in
     elim c.if-is_stale.branch [
       | then-is_stale w ↦ w.shadow-is ∙ made_empty a.frames.now a.pages a.t a.words.now a.shadow.now l.shadow l.px l.invariant b (sym c.is_stale.ensures ∙ w.if-is_stale.true)
       | else-is_stale w ↦ w.shadow-is ∙ left_alone a.frames.now a.pages a.t a.words.now a.shadow.now l.shadow l.px l.invariant b (sym c.is_stale.ensures ∙ w.if-is_stale.false)
@@ -20,4 +20,4 @@ loop-px-preserved c =
 
 pub returns : goal.returns
 returns c = let a = c.args in let l = c.loop-px in
-    l.invariant ∙ far_all (kept_in a.frames.now a.pages a.t a.words.now a.shadow.now) (λ k. get_or a.shadow.now k 0) entries l.px (λ k b b'. absurd (omega (arith, c.loop-px-test.false, c.requires.fact_2)))
+    l.invariant ∙ far_all (kept_in a.frames.now a.pages a.t a.words.now a.shadow.now) (λ k. get_or a.shadow.now k 0) entries l.px (λ k b b'. absurd (omega (arith, c.loop-px-test.false, c.requires.shadow_length)))

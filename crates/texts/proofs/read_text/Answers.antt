@@ -3,7 +3,7 @@ use Rattle.texts.proofs.Pieces.{behind_none, behind_more, whole_of}
 use Rattle.texts.proofs.read_text.Goals as goal
 
 pub loop-bytes-init : goal.loop-bytes-init
-loop-bytes-init c = (behind_none c.args.decimals c.args.line.now c.args.words.now c.requires.fact_2, record { size = c.requires.fact_1; within = omega arith })
+loop-bytes-init c = (behind_none c.args.decimals c.args.line.now c.args.words.now c.requires.words_zeros, record { size = c.requires.line_length; within = omega arith })
 
 pub returns-then-n-eq0 : goal.returns-then-n-eq0
 returns-then-n-eq0 c = record { whole = whole_of c.args.decimals _ _ _ c.loop-bytes.invariant.0 (omega (arith, c.loop-bytes-test)) c.finished.ensures.words_after; fits = c.finished.ensures.fits }

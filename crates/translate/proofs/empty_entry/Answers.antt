@@ -16,4 +16,4 @@ returns-then-off-t c = simp (le-ltb _ _ c.if-off-t.true, eq-eqb _ _ (simp c.wide
 
 pub returns : goal.returns
 unfolding emptied
-returns c = simp (c.wide-2.ensures, lt-ltb _ _ c.if-off-t.false, eq-eqb _ _ (simp c.wide.ensures at c.if-frames-wide.false), lt-ltb _ _ c.if-pto-pages.false, lt-ltb _ _ c.requires.fact_3)
+returns c = simp (c.wide-2.ensures, lt-ltb _ _ c.if-off-t.false, eq-eqb _ _ (simp c.wide.ensures at c.if-frames-wide.false), lt-ltb _ _ c.if-pto-pages.false, lt-ltb _ _ c.requires.off_bound)

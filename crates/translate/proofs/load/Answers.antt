@@ -5,7 +5,7 @@ use borrow.Author.Tests.{eq-eqb, ne_eqb}
 use Rattle.translate.proofs.load.Goals as goal
 
 pub bounds-words-wide : goal.bounds-words-wide
-bounds-words-wide c = let i = served_inside _ _ _ _ _ _ c.requires.fact_1 c.requires.fact_2 c.serve-e.ensures (eq-eqb _ _ c.if-e-eq1.true) in
+bounds-words-wide c = let i = served_inside _ _ _ _ _ _ c.requires.placed c.requires.shadowed c.serve-e.ensures (eq-eqb _ _ c.if-e-eq1.true) in
     omega (arith, c.wide-then-e-eq1.ensures, c.wide.ensures)
 
 pub returns-then-e-eq1 : goal.returns-then-e-eq1

@@ -6,7 +6,7 @@ use Rattle.translate.proofs.look.Goals as goal
 
 pub returns-then-px-ge-LIMIT : goal.returns-then-px-ge-LIMIT
 unfolding looked filled
-returns-then-px-ge-LIMIT c = rw c.walk.ensures (sym (looked_none _ _ _ _ _ _ c.requires.fact_2.count c.if-px-ge-LIMIT.true))
+returns-then-px-ge-LIMIT c = rw c.walk.ensures (sym (looked_none _ _ _ _ _ _ c.requires.shadowed.count c.if-px-ge-LIMIT.true))
 
 pub returns-then-e-eq1 : goal.returns-then-e-eq1
 unfolding looked filled

@@ -7,7 +7,7 @@ unfolding served
 returns-then-user c = simp c.if-user.true c.look.ensures
 
 pub straight-requires : goal.straight-requires
-straight-requires c = placed_listed c.requires.fact_1
+straight-requires c = placed_listed c.requires.placed
 
 pub returns : goal.returns
 unfolding served

@@ -18,21 +18,21 @@ unfolding host_writes host_written
 returns-then-e-eq1 c = simp (← c.serve-e.ensures, eq-eqb _ _ c.if-e-ne1.false, eq-eqb _ _ c.if-e-eq1.true)
 
 pub slice_bounds-put-end : goal.slice_bounds-put-end
-slice_bounds-put-end c = let i = served_inside _ _ _ _ _ _ c.requires.fact_1 c.requires.fact_2 c.serve-e.ensures (eq-eqb _ _ c.if-e-ne1.false) in
+slice_bounds-put-end c = let i = served_inside _ _ _ _ _ _ c.requires.placed c.requires.shadowed c.serve-e.ensures (eq-eqb _ _ c.if-e-ne1.false) in
     omega (arith, c.wide-base.ensures)
 
 pub put-requires : goal.put-requires
-put-requires c = record { fact_1 = omega arith; fact_2 = c.requires.fact_3; fact_3 = c.requires.fact_4 }
+put-requires c = record { frame_room = omega arith; storing = c.requires.storing; aligned = c.requires.aligned }
 
 pub empty_entry-requires : goal.empty_entry-requires
-empty_entry-requires c = record { fact_1 = placed_listed c.requires.fact_1; fact_2 = omega (arith, c.requires.fact_2.count); fact_3 = omega arith }
+empty_entry-requires c = record { listed = placed_listed c.requires.placed; shadow_length = omega (arith, c.requires.shadowed.count); off_bound = omega arith }
 
 pub returns : goal.returns
 unfolding host_writes
 returns c = let f = c.wide-base in
     let b = f.result * 1024 in
     let m = c.args.words.now in
-    let i = served_inside _ _ _ _ _ _ c.requires.fact_1 c.requires.fact_2 c.serve-e.ensures (eq-eqb _ _ c.if-e-ne1.false) in
+    let i = served_inside _ _ _ _ _ _ c.requires.placed c.requires.shadowed c.serve-e.ensures (eq-eqb _ _ c.if-e-ne1.false) in
     simp (← c.serve-e.ensures)
     (written_is _ _ _ _ _ _ _ _ _ (placed c.args.o c.args.a c.args.v)
     (eq-eqb _ _ c.if-e-ne1.false)

@@ -10,7 +10,7 @@ returns-then-dpc-ne0 c = simp (ne_eqb _ _ c.if-dpc-ne0.true)
 
 -- src/lib.rt:114:28
 pub execute-requires : goal.execute-requires
-execute-requires c = record { fact_1 = c.requires.fact_1; fact_2 = rw c.read_instruction.ensures (instruction_formed _) }
+execute-requires c = record { regs_length = c.requires.regs_length; formed = rw c.read_instruction.ensures (instruction_formed _) }
 
 -- src/lib.rt:92:1
 pub returns-in-Err : goal.returns-in-Err

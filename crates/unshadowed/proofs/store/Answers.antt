@@ -17,19 +17,19 @@ returns-then-e-eq1 c = simp (← c.seek-e.ensures, eq-eqb _ _ c.if-e-ne1.false, 
 
 -- src/lib.rt:87:17
 pub slice_bounds-put-end : goal.slice_bounds-put-end
-slice_bounds-put-end c = let i = sought_inside _ _ _ _ _ c.requires.fact_1 c.seek-e.ensures (eq-eqb _ _ c.if-e-ne1.false) in
+slice_bounds-put-end c = let i = sought_inside _ _ _ _ _ c.requires.placed c.seek-e.ensures (eq-eqb _ _ c.if-e-ne1.false) in
     omega (arith, c.wide-base.ensures)
 
 -- src/lib.rt:87:5
 pub put-requires : goal.put-requires
-put-requires c = record { fact_1 = omega arith; fact_2 = c.requires.fact_2; fact_3 = c.requires.fact_3 }
+put-requires c = record { frame_room = omega arith; storing = c.requires.storing; aligned = c.requires.aligned }
 
 -- src/lib.rt:64:1
 pub returns : goal.returns
 returns c = let f = c.wide-base in
     let b = f.result * 1024 in
     let m = c.args.words.now in
-    let i = sought_inside _ _ _ _ _ c.requires.fact_1 c.seek-e.ensures (eq-eqb _ _ c.if-e-ne1.false) in
+    let i = sought_inside _ _ _ _ _ c.requires.placed c.seek-e.ensures (eq-eqb _ _ c.if-e-ne1.false) in
     simp (← c.seek-e.ensures)
     (written_is _ _ _ _ _ (placed c.args.o c.args.a c.args.v)
     (eq-eqb _ _ c.if-e-ne1.false)

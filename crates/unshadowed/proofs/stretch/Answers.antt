@@ -5,10 +5,10 @@ use native.Mathlib.Nat.{sub-zero}
 use Rattle.unshadowed.proofs.stretch.Goals as goal
 
 pub loop-made-init : goal.loop-made-init
-loop-made-init c = (simp sub-zero, refl, refl, c.requires.fact_3, c.requires.fact_3)
+loop-made-init c = (simp sub-zero, refl, refl, c.requires.seated, c.requires.seated)
 
 pub step-s-requires : goal.step-s-requires
-step-s-requires c = let i = c.loop-made.invariant in record { fact_1 = i.1 ∙ c.requires.fact_1; fact_2 = subst (λ z. Placed c.args.frames.now c.args.pages z) (sym i.2) c.requires.fact_2; fact_3 = i.3 }
+step-s-requires c = let i = c.loop-made.invariant in record { regs_length = i.1 ∙ c.requires.regs_length; placed = subst (λ z. Placed c.args.frames.now c.args.pages z) (sym i.2) c.requires.placed; seated = i.3 }
 
 pub returns-then-s : goal.returns-then-s
 returns-then-s c = stretch_called _ _ _ _ _ _ _ _ _ _ _ (omega arith) c.step-s.ensures c.if-s.true ∙ c.loop-made.invariant.0

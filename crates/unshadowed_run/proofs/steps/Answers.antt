@@ -73,7 +73,7 @@ slice_bounds-stretch-end c = ends _ 256 ((let inside' : c.wide-i.result < 8 = le
 
 -- src/lib.rt:51:13
 pub stretch-s-requires : goal.stretch-s-requires
-stretch-s-requires c = let q = asked_sound c.args.h _ _ _ _ c.args.h.shadows _ _ _ _ c.wide-i.ensures c.loop-made.invariant.1 in record { fact_1 = q.0; fact_2 = q.1.0; fact_3 = q.1.1 }
+stretch-s-requires c = let q = asked_sound c.args.h _ _ _ _ c.args.h.shadows _ _ _ _ c.wide-i.ensures c.loop-made.invariant.1 in record { regs_length = q.0; placed = q.1.0; seated = q.1.1 }
 
 -- src/lib.rt:73:59
 pub overflow_cast-s : goal.overflow_cast-s
@@ -90,9 +90,9 @@ bounds-parts-i-in-loop-made c = (let inside' : c.wide-i.result < 8 = let o = c.l
 -- src/lib.rt:75:13
 pub turn-t-requires : goal.turn-t-requires
 turn-t-requires c = record {
-  fact_1 = c.loop-made.invariant.1.sound.few;
-  fact_2 = c.loop-made.invariant.1.sound.here;
-  fact_3 = ((let made_some' : (0 < c.stretch-s.result.made) × (c.stretch-s.result.made ≤ c.loop-made.left) × (c.stretch-s.result.made ≤ c.args.k - c.loop-made.made) = let u = limited _ _ _ c.limit-n.ensures c.loop-made.invariant.1.sound.left (still_some _ _ c.loop-made-test.true) in
+  n_bound = c.loop-made.invariant.1.sound.few;
+  current_bound = c.loop-made.invariant.1.sound.here;
+  made_bound = ((let made_some' : (0 < c.stretch-s.result.made) × (c.stretch-s.result.made ≤ c.loop-made.left) × (c.stretch-s.result.made ≤ c.args.k - c.loop-made.made) = let u = limited _ _ _ c.limit-n.ensures c.loop-made.invariant.1.sound.left (still_some _ _ c.loop-made-test.true) in
       let d = asked_turned c.args.h _ _ _ _ c.args.h.shadows _ _ _ _ _ _ _ _ _ _ _ c.wide-i.ensures c.stretch-s.ensures c.loop-made.invariant.1 u.0 u.1 in
       (d.some, le_trans d.most u.1, le_trans d.most u.2) in made_some')).1;
 }

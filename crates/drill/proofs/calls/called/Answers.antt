@@ -5,7 +5,7 @@ use Rattle.drill.proofs.calls.called.Goals as goal
 
 pub booted-requires : goal.booted-requires
 booted-requires c =
-    let n : length c.args.pages.now ≡ 16 = search rules in record { fact_1 = c.requires.fact_1 c.in-Boot.is; fact_2 = omega (arith, n); fact_3 = c.requires.fact_2 }
+    let n : length c.args.pages.now ≡ 16 = search rules in record { boots = c.requires.boots c.in-Boot.is; pages_room = omega (arith, n); frames_room = c.requires.frames_room }
 
 pub returns-in-Boot : goal.returns-in-Boot
 unfolding called_of

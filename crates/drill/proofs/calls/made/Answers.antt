@@ -9,22 +9,22 @@ use Rattle.drill.proofs.Shown.{as_many}
 use Rattle.drill.proofs.calls.made.Goals as goal
 
 pub slice_bounds-read-end : goal.slice_bounds-read-end
-slice_bounds-read-end c = omega (arith, c.wide-n.ensures, (c.requires.fact_1 c.in-ReadOut.is).0, c.requires.fact_3)
+slice_bounds-read-end c = omega (arith, c.wide-n.ensures, (c.requires.read_fits c.in-ReadOut.is).0, c.requires.many_room)
 
 pub slice_bounds-read-end-in-ReadOut : goal.slice_bounds-read-end-in-ReadOut
-slice_bounds-read-end-in-ReadOut c = sym (length-take-le c.wide-n.result c.args.many.now (omega (arith, c.wide-n.ensures, (c.requires.fact_1 c.in-ReadOut.is).0, c.requires.fact_3)))
+slice_bounds-read-end-in-ReadOut c = sym (length-take-le c.wide-n.result c.args.many.now (omega (arith, c.wide-n.ensures, (c.requires.read_fits c.in-ReadOut.is).0, c.requires.many_room)))
 
 pub read-end-requires : goal.read-end-requires
 read-end-requires c =
-    let q = c.requires.fact_1 c.in-ReadOut.is in
-    let n : length (take c.wide-n.result c.args.many.now) ≡ c.wide-n.result = length-take-le _ _ (omega (arith, c.wide-n.ensures, q.0, c.requires.fact_3)) in record { fact_1 = q.1; fact_2 = omega (arith, n, c.wide-n.ensures, q.0) }
+    let q = c.requires.read_fits c.in-ReadOut.is in
+    let n : length (take c.wide-n.result c.args.many.now) ≡ c.wide-n.result = length-take-le _ _ (omega (arith, c.wide-n.ensures, q.0, c.requires.many_room)) in record { more_room = q.1; output_length = omega (arith, n, c.wide-n.ensures, q.0) }
 
 pub returns-in-ReadOut : goal.returns-in-ReadOut
 unfolding made_of made_text_of
 returns-in-ReadOut c =
     let d = is_yes _ _ c.in-ReadOut.is in
-    let q = c.requires.fact_1 c.in-ReadOut.is in
-    let n : length (take c.wide-n.result c.args.many.now) ≡ c.args.c.c = length-take-le _ _ (omega (arith, c.wide-n.ensures, q.0, c.requires.fact_3)) ∙ c.wide-n.ensures in
+    let q = c.requires.read_fits c.in-ReadOut.is in
+    let n : length (take c.wide-n.result c.args.many.now) ≡ c.args.c.c = length-take-le _ _ (omega (arith, c.wide-n.ensures, q.0, c.requires.many_room)) ∙ c.wide-n.ensures in
     (rw d refl, rw d (as_many _ _ _ _ n c.read-end.ensures))
 
 pub returns-in-Audit : goal.returns-in-Audit
@@ -35,7 +35,7 @@ returns-in-Audit c =
     (rw (d, e) refl, rw (d, e) c.audit-end.ensures)
 
 pub call-requires : goal.call-requires
-call-requires c = record { fact_1 = c.requires.fact_2; fact_2 = c.requires.fact_3 }
+call-requires c = record { boots = c.requires.boots; frames_room = c.requires.many_room }
 
 pub returns-in_default : goal.returns-in_default
 unfolding made_of made_text_of

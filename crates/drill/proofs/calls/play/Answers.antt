@@ -34,7 +34,7 @@ pub made-d-requires : goal.made-d-requires
 made-d-requires c =
     let p = c.requires in
     let m = more_length p c.args.input.now refl in
-    let n : length c.args.many.now ≡ 4096 = search rules in record { fact_1 = λ e. ((plays_read p e).0, omega (arith, m, (plays_read p e).1)); fact_2 = plays_boot p _ m; fact_3 = omega (arith, n) }
+    let n : length c.args.many.now ≡ 4096 = search rules in record { read_fits = λ e. ((plays_read p e).0, omega (arith, m, (plays_read p e).1)); boots = plays_boot p _ m; many_room = omega (arith, n) }
 
 pub returns-in_default : goal.returns-in_default
 unfolding played_of text_of made_of made_text_of

@@ -4,12 +4,12 @@ use Rattle.drill.proofs.Commands.{stands_still, lent_within}
 use Rattle.drill.proofs.reading.settle.Goals as goal
 
 pub next-r-requires : goal.next-r-requires
-next-r-requires c = c.requires.fact_1
+next-r-requires c = c.requires.stands
 
 pub loop-init : goal.loop-init
 loop-init c =
     let s = subst (λ (b : ℕ). Stands c.next-r.result b c.args.lent) (sym c.next-r.auto.input) c.next-r.ensures in
-    (refl, refl, stands_still s, omega (arith, s.lends, c.requires.fact_2))
+    (refl, refl, stands_still s, omega (arith, s.lends, c.requires.memory_room))
 
 pub returns-in_default : goal.returns-in_default
 returns-in_default c = (subst (λ (b : ℕ). Stands c.loop.r b c.loop.r.lent) c.next-r.auto.input c.loop.invariant.2, c.loop.invariant.3)

@@ -10,7 +10,7 @@ pub loop-i-init : goal.loop-i-init
 loop-i-init c = parts_begin _ longest
 
 pub nth-end-requires : goal.nth-end-requires
-nth-end-requires c = record { fact_1 = c.loop-i-test.true; fact_2 = c.requires.fact_1; fact_3 = c.requires.fact_2; fact_4 = c.requires.fact_3 }
+nth-end-requires c = record { i_bound = c.loop-i-test.true; registers_length = c.requires.registers_length; frames_length = c.requires.frames_length; shadows_length = c.requires.shadows_length }
 
 pub loop-i-preserved : goal.loop-i-preserved
 loop-i-preserved c =

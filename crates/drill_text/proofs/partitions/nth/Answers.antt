@@ -15,7 +15,7 @@ slice_bounds-partition-end-3 c = omega (arith, c.requires)
 pub partition-requires : goal.partition-requires
 partition-requires c =
     let a = c.args in
-    let p = c.requires in record { fact_1 = lent_length a.i 32 a.registers.now (omega (arith, p)); fact_2 = lent_length a.i 256 a.frames.now (omega (arith, p)); fact_3 = lent_length a.i entries a.shadows.now (omega (arith, p)) }
+    let p = c.requires in record { registers_length = lent_length a.i 32 a.registers.now (omega (arith, p)); frames_length = lent_length a.i 256 a.frames.now (omega (arith, p)); entries_length = lent_length a.i entries a.shadows.now (omega (arith, p)) }
 
 pub returns : goal.returns
 returns c =

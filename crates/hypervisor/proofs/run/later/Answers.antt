@@ -6,7 +6,7 @@ unfolding later_of
 returns-then-alone c = simp (c.if-alone.true, c.remains.ensures)
 
 pub turn-requires : goal.turn-requires
-turn-requires c = let p = c.requires in record { fact_1 = p.fact_1; fact_2 = p.fact_2; fact_3 = p.fact_4 c.if-alone.false }
+turn-requires c = let p = c.requires in record { n_bound = p.n_bound; current_bound = p.current_bound; made_bound = p.made_bound c.if-alone.false }
 
 pub returns : goal.returns
 unfolding later_of

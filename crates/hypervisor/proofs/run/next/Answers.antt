@@ -4,13 +4,13 @@ use native.Mathlib.Nat.{sub-zero}
 use Rattle.hypervisor.proofs.run.next.Goals as goal
 
 pub loop-init : goal.loop-init
-loop-init c = (rw sub-zero, c.requires.fact_2)
+loop-init c = (rw sub-zero, c.requires.i_bound)
 
 pub following-at-requires : goal.following-at-requires
 following-at-requires c = c.loop.invariant.1
 
 pub bounds-running-wide : goal.bounds-running-wide
-bounds-running-wide c = omega (arith, following_below _ _ c.loop.invariant.1, c.following-at.ensures, c.wide.ensures, c.requires.fact_1)
+bounds-running-wide c = omega (arith, following_below _ _ c.loop.invariant.1, c.following-at.ensures, c.wide.ensures, c.requires.n_bound)
 
 pub returns-then-running-wide : goal.returns-then-running-wide
 returns-then-running-wide c = c.following-at.ensures ∙ next_found _ _ _ _ (omega arith) (simp (c.wide.ensures, c.following-at.ensures) at c.if-running-wide.true) ∙ c.loop.invariant.0

@@ -8,7 +8,7 @@ use Rattle.house.specs.Turns.{world, host_steps}
 use Rattle.hypervisor.proofs.run.steps.Goals as goal
 
 pub next-requires : goal.next-requires
-next-requires c = record { fact_1 = c.requires.few; fact_2 = c.requires.here }
+next-requires c = record { n_bound = c.requires.few; i_bound = c.requires.here }
 
 pub loop-made-init : goal.loop-made-init
 unfolding host_steps
@@ -78,7 +78,7 @@ pub slice_bounds-shadows-end : goal.slice_bounds-shadows-end
 slice_bounds-shadows-end c = ends _ entries ((let inside' : c.wide-i.result < 8 = current_few _ _ _ c.wide-i.ensures c.loop-made.invariant.1.here c.loop-made.invariant.1.few in inside')) (omega arith) _ c.loop-made.invariant.1.shaped.shadows
 
 pub stretch-s-requires : goal.stretch-s-requires
-stretch-s-requires c = let q = asked_sound c.args.h _ _ _ _ _ _ _ _ _ c.wide-i.ensures c.loop-made.invariant.1 in record { fact_1 = q.0; fact_2 = q.1.0; fact_3 = q.1.1.0; fact_4 = q.1.1.1 }
+stretch-s-requires c = let q = asked_sound c.args.h _ _ _ _ _ _ _ _ _ c.wide-i.ensures c.loop-made.invariant.1 in record { regs_length = q.0; placed = q.1.0; shadowed = q.1.1.0; seated = q.1.1.1 }
 
 pub overflow_cast-s : goal.overflow_cast-s
 overflow_cast-s c = omega (arith, c.struct_known-1.given)
@@ -91,10 +91,10 @@ bounds-parts-i-in-loop-made c = (let inside' : c.wide-i.result < 8 = current_few
 
 pub later-t-requires : goal.later-t-requires
 later-t-requires c = let o = c.loop-made.invariant.1 in record {
-  fact_1 = o.few;
-  fact_2 = o.here;
-  fact_3 = o.turns;
-  fact_4 = ((let made_some' : Within (eqb c.next.result c.args.h.current) c.loop-made.left (c.args.k - c.loop-made.made) c.stretch-s.result.made = let u = (let asked_for' : Within (eqb c.next.result c.args.h.current) c.loop-made.left (c.args.k - c.loop-made.made) c.span-n.result = lent_for_lem _ _ _ _ c.span-n.ensures c.loop-made.invariant.1.left (still_some _ _ c.loop-made-test.true) in asked_for') in
+  n_bound = o.few;
+  current_bound = o.here;
+  q_positive = o.turns;
+  made_bound = ((let made_some' : Within (eqb c.next.result c.args.h.current) c.loop-made.left (c.args.k - c.loop-made.made) c.stretch-s.result.made = let u = (let asked_for' : Within (eqb c.next.result c.args.h.current) c.loop-made.left (c.args.k - c.loop-made.made) c.span-n.result = lent_for_lem _ _ _ _ c.span-n.ensures c.loop-made.invariant.1.left (still_some _ _ c.loop-made-test.true) in asked_for') in
       let d = asked_turned c.args.h _ _ _ _ _ _ _ _ _ _ _ _ _ _ _ _ _ _ c.wide-i.ensures c.stretch-s.ensures c.loop-made.invariant.1 u.some c.loop-made.invariant.4 u.turn in
       record { some = d.some; turn = λ e. le_trans d.most (u.turn e); most = le_trans d.most u.most } in made_some')).turn;
 }

@@ -16,4 +16,4 @@ loop-j-preserved c =
 pub returns : goal.returns
 returns c =
     ap (λ (l : List ℕ). l ++ drop c.args.count c.args.out.now)
-    (c.loop-j.invariant ∙ words_all (λ k. host_word c.args.frames.now c.args.words.now (c.args.from + k)) c.args.out.now c.args.count c.loop-j.j (omega (arith, length-take-le c.args.count c.args.out.now c.requires.fact_3)) c.requires.fact_3)
+    (c.loop-j.invariant ∙ words_all (λ k. host_word c.args.frames.now c.args.words.now (c.args.from + k)) c.args.out.now c.args.count c.loop-j.j (omega (arith, length-take-le c.args.count c.args.out.now c.requires.out_room)) c.requires.out_room)

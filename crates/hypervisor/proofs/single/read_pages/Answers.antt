@@ -20,7 +20,7 @@ pages_of-requires c = let a = c.args in
 pub read-requires : goal.read-requires
 read-requires c = let a = c.args in
     let d = read_done (world a.h a.memory.now) a.i a.address a.count a.out.now c.requires in
-    let s = sound_partition a.h d.whole a.memory.now (shaped a.h c.well_formed.0) d.size a.i d.there in record { fact_1 = lent_placed a.h _ a.i _ _ c.wide-a.ensures c.pages_of.ensures s.placed; fact_2 = within_pages a.h a.memory.now a.i a.address a.count a.out.now d _ _ c.pages_of.ensures c.wide.ensures; fact_3 = d.room }
+    let s = sound_partition a.h d.whole a.memory.now (shaped a.h c.well_formed.0) d.size a.i d.there in record { placed = lent_placed a.h _ a.i _ _ c.wide-a.ensures c.pages_of.ensures s.placed; count_bound = within_pages a.h a.memory.now a.i a.address a.count a.out.now d _ _ c.pages_of.ensures c.wide.ensures; out_room = d.room }
 
 pub returns : goal.returns
 returns c = let a = c.args in

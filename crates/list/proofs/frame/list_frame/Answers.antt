@@ -16,4 +16,4 @@ pub slice_bounds-tell-end : goal.slice_bounds-tell-end
 slice_bounds-tell-end c = sym (length-take-le _ _ c.hold_file-x.ensures.words_in_bounds)
 
 pub tell-requires : goal.tell-requires
-tell-requires c = record { fact_1 = c.requires; fact_2 = (_, told_answer either_held (frame_text c.args.frame) c.hold_file-x.result _ c.hold_file-x.ensures.handed (sym c.failed.ensures ∙ c.if-failed.false)) }
+tell-requires c = record { frame_bound = c.requires; told = (_, told_answer either_held (frame_text c.args.frame) c.hold_file-x.result _ c.hold_file-x.ensures.handed (sym c.failed.ensures ∙ c.if-failed.false)) }

@@ -5,4 +5,4 @@ use Rattle.list.specs.Frame.{frame_text}
 use Rattle.list.proofs.frame.tell.Goals as goal
 
 pub show-requires : goal.show-requires
-show-requires c = let p = c.requires.fact_2 in subst (Told either_held (frame_text c.args.frame) c.args.t) (sym (put_there _ _ _ _ (c.text_of-n.ensures.out_after p.0))) p.1
+show-requires c = let p = c.requires.told in subst (Told either_held (frame_text c.args.frame) c.args.t) (sym (put_there _ _ _ _ (c.text_of-n.ensures.out_after p.0))) p.1

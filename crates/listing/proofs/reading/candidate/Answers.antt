@@ -4,4 +4,4 @@ use Rattle.std.proofs.Common.{◌∙◌}
 use Rattle.listing.proofs.reading.candidate.Goals as goal
 
 pub returns : goal.returns
-returns c = candidate_is c.args.line.now (c.scan_of-s.ensures ∙ scan_fold start c.args.line.now) c.row_lettered-row.ensures.0 c.last.ensures c.made.ensures
+returns c = candidate_is c.args.line.now (c.scan_of-s.ensures ∙ scan_fold start c.args.line.now) c.row_lettered-row.ensures c.last.ensures c.made.ensures

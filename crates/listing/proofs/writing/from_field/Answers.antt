@@ -1,6 +1,6 @@
+use Rattle.std.proofs.Common.{arith}
 use Rattle.listing.proofs.Pieces.{from_is}
-use borrow.Author.Rules.{rules}
 use Rattle.listing.proofs.writing.from_field.Goals as goal
 
 pub returns : goal.returns
-returns c = from_is c.args.w _ c.args.kind (search rules) c.scale_of-scale.ensures.0
+returns c = from_is _ _ _ c.operand-o.ensures.value (omega arith)

@@ -2,7 +2,7 @@ use Rattle.night_run.proofs.Files.{house_start}
 use Rattle.night_run.proofs.booting.boot_from.Goals as goal
 
 pub read_house-x-requires : goal.read_house-x-requires
-read_house-x-requires c = record { fact_1 = c.requires.fact_1; fact_2 = house_start _ c.requires.fact_2 }
+read_house-x-requires c = record { going = c.requires.going; nothing_read = house_start _ c.requires.memory_zeros }
 
 pub returns : goal.returns
 returns c = record { handed_from = c.ran_house.ensures.by_index _ c.read_house-x.ensures; words_in_bounds = c.ran_house.ensures.words_in_bounds }

@@ -9,7 +9,7 @@ loop-source-init c = heads_none _ _ c.none-t.ensures c.requires
 
 -- src/input.rt:139:13
 pub head_piece-p-requires : goal.head_piece-p-requires
-head_piece-p-requires c = let t = c.loop-source.t in record { fact_1 = (head_begins t.ended t.bytes (sym c.begins.ensures ∙ c.loop-source-test.true)).1; fact_2 = c.loop-source.invariant.2 }
+head_piece-p-requires c = let t = c.loop-source.t in record { bytes_bound = (head_begins t.ended t.bytes (sym c.begins.ensures ∙ c.loop-source-test.true)).1; head_length = c.loop-source.invariant.2 }
 
 -- src/input.rt:138:5
 pub loop-source-smaller : goal.loop-source-smaller

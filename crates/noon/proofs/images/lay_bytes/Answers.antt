@@ -6,7 +6,7 @@ use Rattle.noon.proofs.images.lay_bytes.Goals as goal
 
 -- src/images.rt:49:9
 pub fault_of-requires : goal.fault_of-requires
-fault_of-requires c = let p = c.requires in record { fact_1 = p.fact_2; fact_2 = omega (arith, p.fact_3); fact_3 = p.fact_4; fact_4 = p.fact_5 }
+fault_of-requires c = let p = c.requires in record { k_bound = p.k_bound; size_bound = omega (arith, p.bytes_length); table_length = p.table_length; counts_length = p.counts_length }
 
 -- src/images.rt:52:9
 pub returns-in-Some : goal.returns-in-Some

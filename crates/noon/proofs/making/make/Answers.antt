@@ -15,8 +15,8 @@ make_listed-requires c =
     let m : length c.ask.new.table ≡ 192 = search rules in
     let e : c.in-Some.a.awaits ≡ ImageOrPartition = search rules in
     record {
-      fact_1 = omega (arith, c.min-count.ensures, length-take c.min-count.result c.ask.new.pages);
-      fact_2 = omega (arith, c.min-images.ensures);
-      fact_3 = m;
-      fact_4 = given_all c.in-Some.a c.ask.new.pages c.ask.new.frames c.ask.new.table c.args.given c.in-Some.ensures e _ _ _ _ _ c.wide.ensures c.wide-2.ensures c.min-count.ensures c.min-total.ensures c.min-images.ensures;
+      pages_room = omega (arith, c.min-count.ensures, length-take c.min-count.result c.ask.new.pages);
+      images_bound = omega (arith, c.min-images.ensures);
+      table_length = m;
+      given = given_all c.in-Some.a c.ask.new.pages c.ask.new.frames c.ask.new.table c.args.given c.in-Some.ensures e _ _ _ _ _ c.wide.ensures c.wide-2.ensures c.min-count.ensures c.min-total.ensures c.min-images.ensures;
     }

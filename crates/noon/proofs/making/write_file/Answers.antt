@@ -11,4 +11,4 @@ slice_bounds-put_file-end c = counts c.put_contents-n.result _ c.put_contents-n.
 
 -- src/making.rt:104:5
 pub put_file-requires : goal.put_file-requires
-put_file-requires c = let a = c.args in let p = c.requires in (record { given = p.fact_3; laid = p.fact_4; runs = night_runs (file a.q a.run a.pages.now a.frames.now a.memory.now) (record { q = search rules; run = search rules; listed = p.fact_1; frames = λ i. omega (arith, c.type_inv.frames i); size = p.fact_2; memory = λ i. omega (arith, c.type_inv.memory i) }) p.fact_5 }, c.put_contents-n.ensures.out_after)
+put_file-requires c = let a = c.args in let p = c.requires in (record { given = p.given; laid = p.laid_all; runs = night_runs (file a.q a.run a.pages.now a.frames.now a.memory.now) (record { q = search rules; run = search rules; listed = p.listed; frames = λ i. omega (arith, c.type_inv.frames i); size = p.memory_length; memory = λ i. omega (arith, c.type_inv.memory i) }) p.night_runs }, c.put_contents-n.ensures.out_after)

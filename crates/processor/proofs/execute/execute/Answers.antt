@@ -3,76 +3,76 @@ use Rattle.std.proofs.Common.{arith}
 use Rattle.processor.proofs.execute.execute.Goals as goal
 
 pub offset_bounds-regs-rs1 : goal.offset_bounds-regs-rs1
-offset_bounds-regs-rs1 c = let n = rw c.in-LoadBy.is at c.requires.fact_2 in omega (arith, c.requires.fact_1)
+offset_bounds-regs-rs1 c = let n = rw c.in-LoadBy.is at c.requires.formed in omega (arith, c.requires.regs_length)
 
 pub bounds-regs-rs1 : goal.bounds-regs-rs1
-bounds-regs-rs1 c = let n = rw c.in-LoadBy.is at c.requires.fact_2 in omega (arith, c.requires.fact_1)
+bounds-regs-rs1 c = let n = rw c.in-LoadBy.is at c.requires.formed in omega (arith, c.requires.regs_length)
 
 pub load-requires : goal.load-requires
-load-requires c = let n = rw c.in-LoadBy.is at c.requires.fact_2 in n.0
+load-requires c = let n = rw c.in-LoadBy.is at c.requires.formed in n.0
 
 pub offset_bounds-regs-rd : goal.offset_bounds-regs-rd
-offset_bounds-regs-rd c = let n = rw c.in-StoreBy.is at c.requires.fact_2 in omega (arith, c.requires.fact_1)
+offset_bounds-regs-rd c = let n = rw c.in-StoreBy.is at c.requires.formed in omega (arith, c.requires.regs_length)
 
 pub bounds-regs-rd : goal.bounds-regs-rd
-bounds-regs-rd c = let n = rw c.in-StoreBy.is at c.requires.fact_2 in omega (arith, c.requires.fact_1)
+bounds-regs-rd c = let n = rw c.in-StoreBy.is at c.requires.formed in omega (arith, c.requires.regs_length)
 
 pub offset_bounds-regs-rs1-in-StoreBy : goal.offset_bounds-regs-rs1-in-StoreBy
-offset_bounds-regs-rs1-in-StoreBy c = let n = rw c.in-StoreBy.is at c.requires.fact_2 in omega (arith, c.requires.fact_1)
+offset_bounds-regs-rs1-in-StoreBy c = let n = rw c.in-StoreBy.is at c.requires.formed in omega (arith, c.requires.regs_length)
 
 pub bounds-regs-rs1-in-StoreBy : goal.bounds-regs-rs1-in-StoreBy
-bounds-regs-rs1-in-StoreBy c = let n = rw c.in-StoreBy.is at c.requires.fact_2 in omega (arith, c.requires.fact_1)
+bounds-regs-rs1-in-StoreBy c = let n = rw c.in-StoreBy.is at c.requires.formed in omega (arith, c.requires.regs_length)
 
 pub store-requires : goal.store-requires
-store-requires c = let n = rw c.in-StoreBy.is at c.requires.fact_2 in n.0
+store-requires c = let n = rw c.in-StoreBy.is at c.requires.formed in n.0
 
 pub offset_bounds-regs-rs1-in-Immediate : goal.offset_bounds-regs-rs1-in-Immediate
-offset_bounds-regs-rs1-in-Immediate c = let n = rw c.in-Immediate.is at c.requires.fact_2 in omega (arith, c.requires.fact_1)
+offset_bounds-regs-rs1-in-Immediate c = let n = rw c.in-Immediate.is at c.requires.formed in omega (arith, c.requires.regs_length)
 
 pub bounds-regs-rs1-in-Immediate : goal.bounds-regs-rs1-in-Immediate
-bounds-regs-rs1-in-Immediate c = let n = rw c.in-Immediate.is at c.requires.fact_2 in omega (arith, c.requires.fact_1)
+bounds-regs-rs1-in-Immediate c = let n = rw c.in-Immediate.is at c.requires.formed in omega (arith, c.requires.regs_length)
 
 pub offset_bounds-regs-rs1-in-Beqz : goal.offset_bounds-regs-rs1-in-Beqz
-offset_bounds-regs-rs1-in-Beqz c = let n = rw c.in-Beqz.is at c.requires.fact_2 in omega (arith, c.requires.fact_1)
+offset_bounds-regs-rs1-in-Beqz c = let n = rw c.in-Beqz.is at c.requires.formed in omega (arith, c.requires.regs_length)
 
 pub bounds-regs-rs1-in-Beqz : goal.bounds-regs-rs1-in-Beqz
-bounds-regs-rs1-in-Beqz c = let n = rw c.in-Beqz.is at c.requires.fact_2 in omega (arith, c.requires.fact_1)
+bounds-regs-rs1-in-Beqz c = let n = rw c.in-Beqz.is at c.requires.formed in omega (arith, c.requires.regs_length)
 
 pub offset_bounds-regs-rs1-in-Bnez : goal.offset_bounds-regs-rs1-in-Bnez
-offset_bounds-regs-rs1-in-Bnez c = let n = rw c.in-Bnez.is at c.requires.fact_2 in omega (arith, c.requires.fact_1)
+offset_bounds-regs-rs1-in-Bnez c = let n = rw c.in-Bnez.is at c.requires.formed in omega (arith, c.requires.regs_length)
 
 pub bounds-regs-rs1-in-Bnez : goal.bounds-regs-rs1-in-Bnez
-bounds-regs-rs1-in-Bnez c = let n = rw c.in-Bnez.is at c.requires.fact_2 in omega (arith, c.requires.fact_1)
+bounds-regs-rs1-in-Bnez c = let n = rw c.in-Bnez.is at c.requires.formed in omega (arith, c.requires.regs_length)
 
 pub offset_bounds-regs-rs1-in-Jr : goal.offset_bounds-regs-rs1-in-Jr
-offset_bounds-regs-rs1-in-Jr c = let n = rw c.in-Jr.is at c.requires.fact_2 in omega (arith, c.requires.fact_1)
+offset_bounds-regs-rs1-in-Jr c = let n = rw c.in-Jr.is at c.requires.formed in omega (arith, c.requires.regs_length)
 
 pub bounds-regs-rs1-in-Jr : goal.bounds-regs-rs1-in-Jr
-bounds-regs-rs1-in-Jr c = let n = rw c.in-Jr.is at c.requires.fact_2 in omega (arith, c.requires.fact_1)
+bounds-regs-rs1-in-Jr c = let n = rw c.in-Jr.is at c.requires.formed in omega (arith, c.requires.regs_length)
 
 pub offset_bounds-regs-rs1-in-Jalr : goal.offset_bounds-regs-rs1-in-Jalr
-offset_bounds-regs-rs1-in-Jalr c = let n = rw c.in-Jalr.is at c.requires.fact_2 in omega (arith, c.requires.fact_1)
+offset_bounds-regs-rs1-in-Jalr c = let n = rw c.in-Jalr.is at c.requires.formed in omega (arith, c.requires.regs_length)
 
 pub bounds-regs-rs1-in-Jalr : goal.bounds-regs-rs1-in-Jalr
-bounds-regs-rs1-in-Jalr c = let n = rw c.in-Jalr.is at c.requires.fact_2 in omega (arith, c.requires.fact_1)
+bounds-regs-rs1-in-Jalr c = let n = rw c.in-Jalr.is at c.requires.formed in omega (arith, c.requires.regs_length)
 
 pub offset_bounds-regs-rs1-in-Register : goal.offset_bounds-regs-rs1-in-Register
-offset_bounds-regs-rs1-in-Register c = let n = rw c.in-Register.is at c.requires.fact_2 in omega (arith, c.requires.fact_1)
+offset_bounds-regs-rs1-in-Register c = let n = rw c.in-Register.is at c.requires.formed in omega (arith, c.requires.regs_length)
 
 pub bounds-regs-rs1-in-Register : goal.bounds-regs-rs1-in-Register
-bounds-regs-rs1-in-Register c = let n = rw c.in-Register.is at c.requires.fact_2 in omega (arith, c.requires.fact_1)
+bounds-regs-rs1-in-Register c = let n = rw c.in-Register.is at c.requires.formed in omega (arith, c.requires.regs_length)
 
 pub offset_bounds-regs-rs2 : goal.offset_bounds-regs-rs2
-offset_bounds-regs-rs2 c = let n = rw c.in-Register.is at c.requires.fact_2 in omega (arith, c.requires.fact_1)
+offset_bounds-regs-rs2 c = let n = rw c.in-Register.is at c.requires.formed in omega (arith, c.requires.regs_length)
 
 pub bounds-regs-rs2 : goal.bounds-regs-rs2
-bounds-regs-rs2 c = let n = rw c.in-Register.is at c.requires.fact_2 in omega (arith, c.requires.fact_1)
+bounds-regs-rs2 c = let n = rw c.in-Register.is at c.requires.formed in omega (arith, c.requires.regs_length)
 
 pub offset_bounds-regs-rs1-in-Movi2s : goal.offset_bounds-regs-rs1-in-Movi2s
-offset_bounds-regs-rs1-in-Movi2s c = let n = rw c.in-Movi2s.is at c.requires.fact_2 in omega (arith, c.requires.fact_1)
+offset_bounds-regs-rs1-in-Movi2s c = let n = rw c.in-Movi2s.is at c.requires.formed in omega (arith, c.requires.regs_length)
 
 pub bounds-regs-rs1-in-Movi2s : goal.bounds-regs-rs1-in-Movi2s
-bounds-regs-rs1-in-Movi2s c = let n = rw c.in-Movi2s.is at c.requires.fact_2 in omega (arith, c.requires.fact_1)
+bounds-regs-rs1-in-Movi2s c = let n = rw c.in-Movi2s.is at c.requires.formed in omega (arith, c.requires.regs_length)
 
 pub returns-in-LoadBy : goal.returns-in-LoadBy
 unfolding effect_of

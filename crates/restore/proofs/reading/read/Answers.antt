@@ -5,7 +5,7 @@ use Rattle.restore.proofs.reading.read.Goals as goal
 
 -- src/reading.rt:134:5
 pub read_bytes-requires : goal.read_bytes-requires
-read_bytes-requires c = let a = c.args in record { fact_1 = search (rules, c.read_bytes-arg-1); fact_2 = (c.lend-x.ensures a.held.now a.memory.now refl).1 }
+read_bytes-requires c = let a = c.args in record { held_length = search (rules, c.read_bytes-arg-1); standing = (c.lend-x.ensures a.held.now a.memory.now refl).1 }
 
 -- src/reading.rt:130:1
 pub returns : goal.returns

@@ -1,6 +1,6 @@
 use Rattle.std.proofs.Common.{drop, refl, sym, ap, ◌∙◌, arith}
 use Rattle.save.specs.Reading.{Reading, fed}
-use Rattle.restore.specs.Standing.{is_opened, reading_at}
+use Rattle.restore.specs.Standing.{reading_at}
 use Rattle.restore.proofs.Whole.{open_there, whole_there, fed_all}
 use Rattle.restore.proofs.reading.read_bytes.Goals as goal
 
@@ -15,7 +15,7 @@ loop-i-preserved-in-Open c =
           ∙ n.piece_after l.house l.memory refl refl
           ∙ l.invariant.same;
       within = n.stepped_to.2;
-      standing = record { short = (rw c.in-Open.is at n.stepped_to.0).0 refl; sized = λ z o. let k = rw c.in-Open.is at n.kept in l.invariant.standing.sized (k.1 z) (ap is_opened (sym k.0) ∙ o) };
+      standing = record { short = (rw c.in-Open.is at n.stepped_to.0).0 refl; sized = λ z o. let k = rw c.in-Open.is at n.kept in l.invariant.standing.sized (k.1 z) (sym k.0 ∙ o) };
     }
 
 pub loop-i-preserved : goal.loop-i-preserved

@@ -6,4 +6,4 @@ use Rattle.restore.proofs.records.put_part.Goals as goal
 -- src/records.rt:52:1
 pub returns : goal.returns
 unfolding outer
-returns c = let a = c.args in simp (c.pad.ensures, add-sub_cancel_left, length-take-le a.s (drop a.b a.list.now) (omega (arith, length-drop a.b a.list.now, c.requires.fact_1)))
+returns c = let a = c.args in simp (c.pad.ensures, add-sub_cancel_left, length-take-le a.s (drop a.b a.list.now) (omega (arith, length-drop a.b a.list.now, c.requires.list_room)))

@@ -10,5 +10,5 @@ loop-i-init c = refl
 pub loop-i-preserved : goal.loop-i-preserved
 loop-i-preserved c =
     let a = c.args in
-    let n = length-take-le a.n a.words.now c.requires.fact_2 in
-    words_step a.held.now c.loop-i.w-items c.loop-i.i _ (omega (arith, c.requires.fact_1)) (omega arith) c.loop-i.invariant c.word.ensures
+    let n = length-take-le a.n a.words.now c.requires.words_room in
+    words_step a.held.now c.loop-i.w-items c.loop-i.i _ (omega (arith, c.requires.held_room)) (omega arith) c.loop-i.invariant c.word.ensures

@@ -1,28 +1,24 @@
-use mathlib.Core.Path.{◌≡◌, refl, sym, ◌∙◌}
-use lib.ListN.{length}
-use Rattle.house.specs.Turns.{world}
+use mathlib.Core.Path.{refl, ◌∙◌}
 use native.Mathlib.Omega.{arith}
-use borrow.Author.Rules.{rules}
-use Rattle.resume.proofs.Laws.{on, on_more, on_refused, on_last}
+use Rattle.std.proofs.lemmas.Result.{err_from_is_err_and}
+use Rattle.resume.proofs.Laws.{on_more, on_refused, on_last}
 use Rattle.resume.proofs.runs.run_on.Goals as goal
 
 pub loop-left-init : goal.loop-left-init
 loop-left-init c = (refl, refl)
 
-pub shape_of-memory-then-a-ne0 : goal.shape_of-memory-then-a-ne0
-shape_of-memory-then-a-ne0 c = omega (arith, c.loop-left.invariant.1, c.run-a.auto)
-
-pub returns-then-a-ne0 : goal.returns-then-a-ne0
-returns-then-a-ne0 c = on_refused _ _ _ _ _ c.loop-left-test.true c.run-a.ensures c.if-a-ne0.true ∙ c.loop-left.invariant.0
-
-pub loop-left-smaller : goal.loop-left-smaller
-loop-left-smaller c = omega arith
+pub returns-in_err-done : goal.returns-in_err-done
+returns-in_err-done c =
+    let p = err_from_is_err_and c.from_residual.result c.from_residual.ensures.1 in
+    rw (p.1, p.2) (on_refused _ _ _ _ c.loop-left-test.true c.in_err-done.ensures ∙ c.loop-left.invariant.0)
 
 pub loop-left-preserved : goal.loop-left-preserved
-loop-left-preserved c = (on_more _ _ _ _ _ c.loop-left-test.true c.run-a.ensures c.if-a-ne0.false ∙ c.loop-left.invariant.0, omega (arith, c.loop-left.invariant.1, c.run-a.auto))
+loop-left-preserved c = (on_more _ _ _ _ c.loop-left-test.true c.in_ok-done.ensures ∙ c.loop-left.invariant.0, omega (arith, c.loop-left.invariant.1, c.run.auto))
 
-pub shape_of-memory : goal.shape_of-memory
-shape_of-memory c = omega (arith, c.loop-left.invariant.1, c.run.auto)
+pub returns-in_err-done-2 : goal.returns-in_err-done-2
+returns-in_err-done-2 c =
+    let p = err_from_is_err_and c.from_residual-in_err-done-2.result c.from_residual-in_err-done-2.ensures.1 in
+    rw (p.1, p.2) (c.in_err-done-2.ensures ∙ on_last _ _ c.loop-left-test.false ∙ c.loop-left.invariant.0)
 
 pub returns : goal.returns
-returns c = c.run.ensures ∙ on_last _ _ c.loop-left-test.false ∙ c.loop-left.invariant.0
+returns c = c.in_ok-done-2.ensures ∙ on_last _ _ c.loop-left-test.false ∙ c.loop-left.invariant.0

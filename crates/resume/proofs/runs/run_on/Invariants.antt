@@ -1,13 +1,11 @@
-use mathlib.Core.Path.{◌≡◌, refl, sym, ◌∙◌}
+use mathlib.Core.Path.{◌≡◌}
 use lib.ListN.{length}
 use Rattle.house.specs.Turns.{world}
-use native.Mathlib.Omega.{arith}
-use borrow.Author.Rules.{rules}
-use Rattle.resume.proofs.Laws.{on, on_more, on_refused, on_last}
+use Rattle.resume.proofs.Laws.{on}
 use Rattle.resume.proofs.runs.run_on.Given as goal
 
 abbrev pub invariant-loop-left : goal.invariant-loop-left
-invariant-loop-left l = (on (world l.h l.memory) l.left ≡ on (world l.initial.h l.initial.memory) l.initial.left) × (length l.memory ≡ length l.initial.memory)
+invariant-loop-left l = (on (world l.house l.memory) l.left ≡ on (world l.initial.house l.initial.memory) l.initial.left) × (length l.memory ≡ length l.initial.memory)
 
 abbrev pub decreases-loop-left : goal.decreases-loop-left
 decreases-loop-left l = l.left

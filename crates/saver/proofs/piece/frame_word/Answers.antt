@@ -7,4 +7,4 @@ unfolding frame_words
 returns-then-j-eq0 c = rw c.if-j-eq0.true
 
 pub returns-else-j-eq0 : goal.returns-else-j-eq0
-returns-else-j-eq0 c = frame_word_at c.args.memory.now c.args.f c.requires.fact_1 c.args.j c.if-j-eq0.false c.requires.fact_2
+returns-else-j-eq0 c = frame_word_at c.args.memory.now c.args.f c.requires.memory_room c.args.j c.if-j-eq0.false c.requires.j_bound

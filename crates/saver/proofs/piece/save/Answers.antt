@@ -14,7 +14,7 @@ pub slice_bounds-put_piece-end : goal.slice_bounds-put_piece-end
 slice_bounds-put_piece-end c = search (rules, c.put_head-n.ensures.3)
 
 pub put_piece-requires : goal.put_piece-requires
-put_piece-requires c = let a = c.args in let h = c.put_head-n.ensures in record { fact_1 = piece_fits a.house a.memory.now a.at a.out.now (sym c.damaged.ensures ∙ c.if-damaged.false) (c.if-memory-wide.false ∙ c.wide.ensures) _ c.put_head-n.result h.3 h.0 h.1 h.2; fact_2 = omega (arith, c.piece_length-count.ensures); fact_3 = omega (arith, c.piece_length-count.ensures, c.if-count-eq0.false) }
+put_piece-requires c = let a = c.args in let h = c.put_head-n.ensures in record { piece_fits = piece_fits a.house a.memory.now a.at a.out.now (sym c.damaged.ensures ∙ c.if-damaged.false) (c.if-memory-wide.false ∙ c.wide.ensures) _ c.put_head-n.result h.3 h.0 h.1 h.2; out_room = omega (arith, c.piece_length-count.ensures); count_bound = omega (arith, c.piece_length-count.ensures, c.if-count-eq0.false) }
 
 pub returns : goal.returns
 returns c = let a = c.args in let h = c.put_head-n.ensures in save_some a.house a.memory.now a.at a.out.now (sym c.damaged.ensures ∙ c.if-damaged.false) (c.if-memory-wide.false ∙ c.wide.ensures) _ c.put_head-n.result h.3 h.0 h.1 h.2 _ c.piece_length-count.ensures _ c.put_piece.ensures

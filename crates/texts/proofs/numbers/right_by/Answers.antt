@@ -1,3 +1,4 @@
+use Rattle.std.proofs.Common.{◌∙◌}
 use Rattle.texts.proofs.Said.{right_listed, right_long, right_said}
 use Rattle.texts.proofs.numbers.right_by.Goals as goal
 
@@ -8,4 +9,4 @@ pub returns-then-line-gt80 : goal.returns-then-line-gt80
 returns-then-line-gt80 c = right_long c.args.decimals c.args.line.now c.if-not-decimals.false c.if-line-gt80.true
 
 pub returns : goal.returns
-returns c = right_said c.args.decimals c.args.line.now c.word_in-n.result c.if-not-decimals.false c.if-line-gt80.false c.word_in-n.ensures.value
+returns c = c.is_some.ensures ∙ right_said c.args.decimals c.args.line.now c.word_in.result c.if-not-decimals.false c.if-line-gt80.false c.word_in.ensures

@@ -1,12 +1,23 @@
-use Rattle.std.proofs.Common.{arith}
-use Rattle.texts.proofs.Said.{said_none, said_minus, said_plain}
+use Rattle.std.proofs.Common.{◌≡◌, ℕ, ◌-◌, ◌%◌, ◌^◌, None, Some, ap, ◌∙◌, arith}
+use Rattle.texts.specs.Numbers.{negated}
+use Rattle.texts.proofs.Said.{said_negated, said_plain}
 use Rattle.texts.proofs.numbers.word_in.Goals as goal
 
-pub returns-then-n-eq0 : goal.returns-then-n-eq0
-returns-then-n-eq0 c = record { value = said_none c.args.line.now c.if-n-eq0.true; value_bound = omega arith }
+pub returns-in_err-n-in-Some : goal.returns-in_err-n-in-Some
+unfolding negated
+returns-in_err-n-in-Some c =
+    let d = (c.in-Some.ensures {u = tt}).cases in
+    c.from_residual.ensures ∙ said_negated c.args.line.now c.in-Some.digits.now None d.0 d.1 (c.in_err-n-in-Some.ensures {u = tt}).value
 
-pub returns-then-line-eq45 : goal.returns-then-line-eq45
-returns-then-line-eq45 c = record { value = said_minus c.args.line.now c.number_in.result _ c.if-n-eq0.false c.if-line-eq45.true c.number_in.ensures.value c.negated.ensures.value; value_bound = c.negated.ensures.value_bound }
+pub returns-in_err-n-in-None : goal.returns-in_err-n-in-None
+returns-in_err-n-in-None c = c.from_residual-in_err-n-in-None.ensures ∙ (c.in_err-n-in-None.ensures {u = tt}).value ∙ said_plain c.args.line.now (c.in-None.ensures {u = tt}).cases
 
-pub returns : goal.returns
-returns c = record { value = said_plain c.args.line.now _ c.if-n-eq0.false c.if-line-eq45.false c.number_in-2.ensures.value; value_bound = omega (arith, c.number_in-2.ensures.value_le_most) }
+pub returns-in_ok-n-in-Some : goal.returns-in_ok-n-in-Some
+unfolding negated
+returns-in_ok-n-in-Some c =
+    let d = (c.in-Some.ensures {u = tt}).cases in
+    let e : c.wrapping_neg.result ≡ (2 ^ 32 - c.in_ok-n-in-Some.n) % 2 ^ 32 = omega (arith, c.wrapping_neg.ensures, (c.in_ok-n-in-Some.ensures {u = tt}).value_le_most) in
+    ap (λ (x : ℕ). Some x) e ∙ said_negated c.args.line.now c.in-Some.digits.now (Some c.in_ok-n-in-Some.n) d.0 d.1 (c.in_ok-n-in-Some.ensures {u = tt}).value
+
+pub returns-in_ok-n-in-None : goal.returns-in_ok-n-in-None
+returns-in_ok-n-in-None c = (c.in_ok-n-in-None.ensures {u = tt}).value ∙ said_plain c.args.line.now (c.in-None.ensures {u = tt}).cases
