@@ -8,7 +8,7 @@ use Rattle.house.specs.Damage.{damaged}
 use Rattle.house.specs.Boot.{Verdict, verdict, first_of}
 use Rattle.house.specs.Turns.{World, world}
 use Rattle.house.specs.declared.House.{House}
-use Rattle.house.specs.Calls.{Answered, Read, beyond_of, read_verdict, read_call}
+use Rattle.house.specs.Calls.{Answered, answered, Read, beyond_of, read_verdict, read_call}
 use Rattle.house.specs.Refusals.{refusal, answer_of}
 use Rattle.house.specs.declared.Done.{Done}
 use Rattle.house.specs.declared.refusal.Refusal.{Refusal}
@@ -21,7 +21,8 @@ use Rattle.drill_script.specs.Words.{marked_of}
 use Rattle.drill_text.specs.Lines.{stale_of}
 use Rattle.staleness.specs.Audit.{finding, found, audit_call}
 use Rattle.staleness.specs.declared.Stale.{Stale}
-use Rattle.drill.specs.Told.{most_told, most_read, told_of, shown_of, shown_by}
+use Rattle.staleness.proofs.Verdicts.{audit_detail}
+use Rattle.drill.specs.Told.{most_told, most_read, told_of, answer_told, shown_of, shown_by}
 use Rattle.decimal.specs.Texts.{Puts}
 use Rattle.decimal.proofs.Texts.{◌then◌, roomy}
 use Rattle.drill.specs.Player.{read_left, read_out_of, read_text_of, audit_text_of}
@@ -81,9 +82,11 @@ pair_is (Some s) None P e f = elim e [ ]
 pair_is (Some s) (Some p) P e f = ap (λ (x : ℕ × ℕ). Some x) (f s p e)
 
 module _ {s t : List ℕ} {u v : ℕ} (c : Command) (h : House) (m : List ℕ) where
-  pub audit_refused : (r : Refusal) → finding (refusal r).number false 0 0 ≡ audit_call (world h m) → Puts s u t v (told_of (number_of c.op) (refusal r).number 0 h m) most_told → Puts s u t v (audit_text_of c h m) most_read
+  pub audit_refused : (r : Refusal) → finding (refusal r).number false 0 0 ≡ audit_call (world h m) → Puts s u t v (answer_told c.op (answered (refusal r) (world h m)) m) most_told → Puts s u t v (audit_text_of c h m) most_read
   unfolding audit_text_of
-  audit_refused r e p = rw (← e, not_0 r, append-nil (told_of (number_of c.op) (refusal r).number 0 h m)) (roomy most_read p (omega arith))
+  audit_refused r e p =
+      let z = audit_detail (world h m) r e in
+      rw (← e, not_0 r, append-nil (told_of c.op (refusal r).number 0 h m)) (roomy most_read (rw z at p) (omega arith))
 
   pub audit_told : {x : List ℕ} {w : ℕ} (first : Option Stale) → found first ≡ audit_call (world h m) → Puts s u t v (told_of (number_of c.op) 0 0 h m) most_told → Puts t v x w (stale_of (pair_of first)) 48
       → Puts s u x w (audit_text_of c h m) most_read

@@ -144,7 +144,7 @@ fn audit(h: House, c: Command, memory: &[u32], text: &mut [u8; ROOM], used: usiz
             let called = told::call(text, used, c.op, 0, 0, h, memory);
             lines::stale(text, called, first.map(|s| (s.partition, s.page)))
         }
-        Err(refusal) => told::call(text, used, c.op, refusal.number(), 0, h, memory),
+        Err(refusal) => told::answer(text, used, c.op, h, Err(refusal), memory),
     }
 }
 

@@ -16,7 +16,7 @@ use Rattle.demands.proofs.Histories.Grown.{standing}
 use Rattle.staleness.specs.Audit.{Finding, has_stale, first_stale}
 use Rattle.staleness.specs.Promises.{Passes}
 use Rattle.staleness.proofs.Promises.{passes_right}
-use Rattle.staleness.proofs.Verdicts.{AuditDone, done_audit, audit_found}
+use Rattle.staleness.proofs.Verdicts.{AuditDone, done_audit, audit_found, found_plain}
 use Rattle.unshadowed.specs.Turns.{all_empty}
 use Rattle.unshadowed_run.specs.Calls.{unshadowed_call, run_by}
 use Rattle.engines.specs.Promises.{emptied_by, BootedRuns}
@@ -30,10 +30,6 @@ module _ (b : Boot) where
   whole : AuditDone (booted b)
   unfolding booted_house
   whole = record { whole = booted_whole b; size = refl }
-
-  found_plain : (w : World) → (first_stale w).number ≡ 0
-  unfolding first_stale
-  found_plain w = either (λ (f : Finding). f.number ≡ 0) (ltb (first_from (has_stale w) 0 w.house.count) w.house.count) (λ _. refl) (λ _. refl)
 
   -- whatever the memory's words
   booted_passes : Passes (booted b)

@@ -9,7 +9,4 @@ returns-in-Ok c =
     audit_told a.c a.h a.memory.now c.in-Ok.first c.in-Ok.ensures c.call-called.ensures (rw m at c.stale.ensures)
 
 pub returns-in-Err : goal.returns-in-Err
-returns-in-Err c =
-    let a = c.args in
-    let n = c.number.ensures in
-    audit_refused a.c a.h a.memory.now c.in-Err.refusal c.in-Err.ensures (rw n at c.call.ensures)
+returns-in-Err c = let a = c.args in audit_refused a.c a.h a.memory.now c.in-Err.refusal c.in-Err.ensures c.answer.ensures
