@@ -12,8 +12,8 @@ const NONE_WAITING: u32 = 3;
 
 // v sent to one of so many partitions; the answer's code.
 pub fn send(count: u32, tickets: &mut [u32], waiting: &mut [u32], v: u32, to: u32) -> u32
-    requires fact_1 { Queued (queues tickets.old waiting.old) }
-    requires fact_2 { count ≤ 8 }
+    requires queued { Queued (queues tickets.old waiting.old) }
+    requires count_bound { count ≤ 8 }
     ensures { (result, queues tickets.new waiting.new) ≡ sent_of (sending count (queues tickets.old waiting.old) v to) }
 {
     match tickets::send(count, tickets, waiting, v, to) {
