@@ -82,11 +82,11 @@ pair_is (Some s) None P e f = elim e [ ]
 pair_is (Some s) (Some p) P e f = ap (λ (x : ℕ × ℕ). Some x) (f s p e)
 
 module _ {s t : List ℕ} {u v : ℕ} (c : Command) (h : House) (m : List ℕ) where
-  pub audit_refused : (r : Refusal) → finding (refusal r).number false 0 0 ≡ audit_call (world h m) → Puts s u t v (answer_told c.op (answered (refusal r) (world h m)) m) most_told → Puts s u t v (audit_text_of c h m) most_read
+  pub audit_refused : (r : Refusal) → finding (refusal r).number false 0 0 ≡ audit_call (world h m) → Puts s u t v (answer_told (number_of c.op) (answered (refusal r) (world h m)) m) most_told → Puts s u t v (audit_text_of c h m) most_read
   unfolding audit_text_of
   audit_refused r e p =
       let z = audit_detail (world h m) r e in
-      rw (← e, not_0 r, append-nil (told_of c.op (refusal r).number 0 h m)) (roomy most_read (rw z at p) (omega arith))
+      rw (← e, not_0 r, append-nil (told_of (number_of c.op) (refusal r).number 0 h m)) (roomy most_read (rw z at p) (omega arith))
 
   pub audit_told : {x : List ℕ} {w : ℕ} (first : Option Stale) → found first ≡ audit_call (world h m) → Puts s u t v (told_of (number_of c.op) 0 0 h m) most_told → Puts t v x w (stale_of (pair_of first)) 48
       → Puts s u x w (audit_text_of c h m) most_read

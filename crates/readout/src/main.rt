@@ -188,7 +188,7 @@ fn tell_read(
 {
     match read_out(house, memory, w.partition, w.address, w.count, words) {
         Ok(_) => {
-            tell_words(rt, t, w, words, w.count as usize);
+            let _ = tell_words(rt, t, w, words, w.count as usize);
         }
         Err(refusal) => {
             tell_refusal(rt, t, w, refusal);
