@@ -25,6 +25,14 @@ nothing = record { awaits = Partition; owner = 0; total = 0; images = 0 }
 abbrev pub wrong_word : Going → Going
 wrong_word g = going None g.pages g.frames g.table
 
+-- what the next word has to be, by number
+abbrev pub awaits_of : ℕ → Awaits
+awaits_of n =
+    when n == 0 then Partition else
+    when n == 1 then Frames else
+    when n == 3 then ImageOrPartition else
+    Image
+
 -- the next word has to be the frames of this partition
 abbrev pub awaiting_frames : Asked → ℕ → Asked
 awaiting_frames a owner = record { awaits = Frames; owner = owner; total = a.total; images = a.images }

@@ -14,6 +14,22 @@ pub enum Awaits {
     ImageOrPartition,
 }
 
+impl From<u32> for Awaits {
+    ghost use Rattle.asked.specs.Asked.{awaits_of};
+
+    ghost from_gives = { λ number awaits. awaits ≡ awaits_of number };
+
+    // By the numbers that the rules of the words once had: any but 0, 1 and 3 is an image's.
+    fn from(number: u32) -> Awaits {
+        match number {
+            0 => Awaits::Partition,
+            1 => Awaits::Frames,
+            3 => Awaits::ImageOrPartition,
+            _ => Awaits::Image,
+        }
+    }
+}
+
 // Where the words stand: what the next one has to be, the partition at hand, and the frames and the images so far.
 #[derive(Clone, Copy)]
 pub struct Asked {

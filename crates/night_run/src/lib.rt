@@ -30,7 +30,7 @@ pub const WORDS: usize = 1048576;
 pub type Outcome = Result<u64, Refusal>;
 
 // What was read, and what it came to: how many words of the lent memory are the house's, the house that is left, and the outcome. A refused run leaves the house
-// that boot made; all other refusals leave none.
+// as boot, or the run before, made it; all other refusals leave none.
 #[derive(Clone, Copy)]
 pub struct Ran {
     pub taken: Taken,

@@ -5,6 +5,9 @@
 ghost use Rattle.std.specs.Prelude.{◌≡◌, List, [], ◌∷◌, ◌++◌, ℕ, min, length, take, drop};
 ghost use Rattle.decimal.specs.Texts.{Puts};
 ghost use Rattle.house.specs.declared.House.{House};
+ghost use Rattle.house.specs.Boot.{verdict};
+ghost use Rattle.house.specs.Turns.{world};
+ghost use Rattle.house.specs.Calls.{answered};
 ghost use Rattle.house.specs.Refusals.{refusal as verdict_of, answer_of};
 ghost use Rattle.report.specs.Put.{Counts, put};
 ghost use Rattle.report.specs.Printed.{printed};
@@ -108,12 +111,31 @@ pub fn put_refusal(out: &mut [u8], at: usize, refusal: Refusal) -> usize
     put_refused(out, at, refusal.number(), refusal.detail())
 }
 
-// The same as a whole text. Answers its length.
+// The same as a whole text, of any number and detail. Answers its length.
+pub fn refused_as(number: u32, detail: u64, out: &mut [u8; 1024]) -> usize
+    ensures value { (result ≡ length (refused_text number detail)) × (out.new ≡ refused_text number detail ++ drop (length (refused_text number detail)) out.old) }
+    ensures counts { Counts result out.new }
+{
+    put_refused(out, 0, number, detail)
+}
+
+// The same of a refusal.
 pub fn refused(refusal: Refusal, out: &mut [u8; 1024]) -> usize
     ensures value { (result, out.new) ≡ put (refusal_text (verdict_of refusal)) out.old }
     ensures counts { Counts result out.new }
 {
     put_refusal(out, 0, refusal)
+}
+
+// The text for a house number and its detail, whatever they are: the report where the number is 0, or the refusal. Answers its length.
+pub fn text_as(number: u32, detail: u64, house: House, out: &mut [u8; 1024]) -> usize
+    ensures by_index { (m : List ℕ) → (result, out.new) ≡ put (printed (answered (verdict number detail) (world house m))) out.old }
+    ensures counts { Counts result out.new }
+{
+    if number != 0 {
+        return refused_as(number, detail, out);
+    }
+    report(house, out)
 }
 
 // The text for an answer: the report, or the refusal. Answers its length.

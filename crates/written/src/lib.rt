@@ -94,7 +94,7 @@ pub fn begin(rt: &HostRuntime, path: &[u8]) -> Option<Writing>
     made(rt, path, &name[..n])
 }
 
-// The file beside goes away, and nothing takes the name.
+// The file beside goes away, and nothing takes the name. Of a path that is too long none is there.
 pub fn discard(rt: &HostRuntime, w: Writing, path: &[u8]) {
     if path.len() <= 4091 {
         let mut name = files::buffer();
@@ -104,7 +104,7 @@ pub fn discard(rt: &HostRuntime, w: Writing, path: &[u8]) {
     drop(w);
 }
 
-// Writes a piece behind the others. Where that cannot be, why is told, and the file goes away.
+// Writes a piece behind the others. Where that fails, why is told, and the file goes away; so it does where 2^64 bytes would have gone to it.
 pub fn put(rt: &HostRuntime, w: Option<Writing>, path: &[u8], piece: &[u8]) -> Option<Writing>
     ensures { IfSome result (λ x. IsSomeAnd w (λ before. x.bytes ≡ before.bytes + length piece.now)) }
 {
