@@ -245,7 +245,7 @@ pub fn stretch(
     let mut processor = p;
     let mut table = t;
     let mut timer = k;
-    for made in 0..n {
+    for left in (0..n).rev() {
         let s = step(
             processor, table, timer, pages, regs, frames, words, count, i, tickets, waiting, latest,
         );
@@ -257,7 +257,7 @@ pub fn stretch(
                 processor,
                 table,
                 timer,
-                made: made + 1,
+                made: n - left,
                 called: true,
             };
         }
