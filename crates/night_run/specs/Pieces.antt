@@ -1,5 +1,5 @@
 -- A file read in pieces: what each read adds, and what all of them come to.
-use Rattle.std.specs.Prelude.{◌≡◌, Bool, true, false, ◌&&◌, ◌||◌, List, [], ◌++◌, ℕ, ◌+◌, ◌<◌, ◌≤◌, ◌^◌, ltb, leb, eqb, length, get_or, take, Option, Some, None, IfSome, is_none}
+use Rattle.std.specs.Prelude.{◌≡◌, Bool, true, false, ◌&&◌, ◌||◌, List, [], ◌++◌, ℕ, ◌+◌, ◌<◌, ◌≤◌, ◌^◌, ltb, leb, eqb, length, get_or, take, min, Option, Some, None, IfSome, is_none, ℤ, pos, negsuc}
 use Rattle.dlx.specs.Choice.{when◌then◌else◌}
 use Rattle.night_run.specs.declared.input.Taken.{Taken}
 
@@ -19,6 +19,11 @@ over t failed = record { bytes = t.bytes; ended = true; failed = failed }
 -- it brought so many bytes
 abbrev pub onward : Taken → ℕ → Taken
 onward t n = record { bytes = t.bytes + n; ended = false; failed = false }
+
+-- what the system's number says of a read into a buffer of so many bytes: below 0 that it failed, else how many bytes it brought
+abbrev pub answered : ℤ → ℕ → Option ℕ
+answered (pos k) most = Some (min k most)
+answered (negsuc k) most = None
 
 -- the bytes of a read that answered this and left this buffer
 abbrev pub came : Option ℕ → List ℕ → List ℕ

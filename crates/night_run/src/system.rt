@@ -2,6 +2,7 @@
 ghost use Rattle.std.specs.Prelude.{◌≡◌, length, IfSome, is_none};
 ghost use Rattle.std.specs.Option.{unwrap_or};
 ghost use Rattle.files.specs.Counts.{IsPrefixLen};
+ghost use Rattle.night_run.specs.Pieces.{answered};
 
 use files::{Source, count};
 
@@ -11,17 +12,25 @@ pub struct Answer {
     brought: Option<usize>,
 }
 
-// One read.
-pub fn read(source: &mut Source, buffer: &mut [u8]) -> Answer
-    ensures { IfSome result.brought (λ n. IsPrefixLen n buffer.new) }
+// What the system's number says of a read into this buffer.
+fn answered(got: isize, buffer: &[u8]) -> Answer
+    ensures value { result.brought ≡ answered got (length buffer.now) }
+    ensures prefix_len { IfSome result.brought (λ n. IsPrefixLen n buffer.now) }
 {
-    let got = source.read(buffer);
     if got < 0 {
         return Answer { brought: None };
     }
     Answer {
         brought: Some(count(got, buffer)),
     }
+}
+
+// One read.
+pub fn read(source: &mut Source, buffer: &mut [u8]) -> Answer
+    ensures { IfSome result.brought (λ n. IsPrefixLen n buffer.new) }
+{
+    let got = source.read(buffer);
+    answered(got, buffer)
 }
 
 impl Answer {
