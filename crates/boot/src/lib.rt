@@ -154,16 +154,16 @@ fn booted(pages: &[u32], q: u32, frames: &[u32], words: usize) -> House
     requires words_bound { words ≤ 1048576 }
     ensures { result ≡ booted_house pages.now q frames.now words }
 {
-    House {
-        count: pages.len() as u32,
-        q,
-        words: words as u32,
-        left: q,
-        running: all_running(pages.len()),
-        parts: fresh_parts(pages),
-        frames: lay(pages, frames),
-        ..House::none()
-    }
+    // Not `..House::none()`: with that, a house more stands on the stack (docs/DESIGN-PASS.md).
+    let mut house = House::none();
+    house.count = pages.len() as u32;
+    house.q = q;
+    house.words = words as u32;
+    house.left = q;
+    house.running = all_running(pages.len());
+    house.parts = fresh_parts(pages);
+    house.frames = lay(pages, frames);
+    house
 }
 
 // The house of these partitions, all running, with turns of q steps, their frames in a memory of so many words; or what refuses it.
