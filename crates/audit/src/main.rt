@@ -18,7 +18,7 @@ use dlx::words::wide;
 use files::{Source, is_not_given, print, say, try_word};
 use house::Answer;
 use night_run::{Taken, WORDS, read_file};
-use report::{put_word, refused};
+use report::{put_word, text_of_refusal};
 use staleness::{Stale, stale_counts};
 use std::io;
 
@@ -58,11 +58,11 @@ fn text_of(answer: Answer, memory: &[u32], out: &mut [u8; 1024]) -> usize
 {
     let done = match answer {
         Ok(done) => done,
-        Err(refusal) => return refused(refusal, out),
+        Err(refusal) => return text_of_refusal(refusal, out),
     };
     match stale_counts(done.house, memory) {
         Ok(each) => lines(each, done.house.count, out),
-        Err(refusal) => refused(refusal, out),
+        Err(refusal) => text_of_refusal(refusal, out),
     }
 }
 

@@ -17,7 +17,7 @@ use files::{Source, is_not_given, print, try_word};
 use house::{Answer, House};
 use keep::keep;
 use night_run::{Taken, WORDS, run_file};
-use report::text_of;
+use report::text_of_answer;
 use std::io;
 
 // ---- after the run
@@ -65,7 +65,7 @@ fn tell(rt: &HostRuntime, t: Taken, answer: Answer)
     requires { (given : House) × (m : List ℕ) × Told house_file printed t (printed (answer_of given answer m)) }
 {
     let mut out = [0u8; 1024];
-    let n = text_of(answer, &mut out);
+    let n = text_of_answer(answer, &mut out);
     show(rt, t, &out[..n]);
 }
 

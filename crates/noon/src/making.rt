@@ -17,7 +17,7 @@ use contents::{MOST, put_contents};
 use dlx::words::wide;
 use house::Refusal;
 use hypervisor::calls::check_run;
-use report::refused;
+use report::text_of_refusal;
 use written::{begin, end, put};
 
 // ---- what the night would refuse
@@ -44,7 +44,7 @@ fn tell_refusal(rt: &HostRuntime, refusal: Refusal, q: u32, run: u32, pages: &[u
     requires { (m : List ℕ) → length m ≡ 16384 → verdict_of_refusal refusal ≡ night_refusal (ran_of (right (file q run pages.now frames.now m))) }
 {
     let mut out = [0u8; 1024];
-    let n = refused(refusal, &mut out);
+    let n = text_of_refusal(refusal, &mut out);
     show(rt, q, run, pages, frames, &out[..n]);
 }
 

@@ -6,7 +6,7 @@
 mod shown;
 mod words;
 
-ghost use Rattle.std.specs.Prelude.{◌≡◌, ◌+◌, ◌%◌, ◌<◌, ◌≤◌, IfSome};
+ghost use Rattle.std.specs.Prelude.{◌≡◌, ◌+◌, ◌%◌, ◌<◌, ◌≤◌, IfSome, IfOk, MatchResult};
 ghost use Rattle.house.specs.House.{pages_of};
 ghost use Rattle.house.specs.declared.House.{House};
 ghost use Rattle.house.specs.Turns.{world};
@@ -21,8 +21,8 @@ use files::{Source, print};
 use house::{Answer, House, Refusal};
 use hypervisor::calls::read_out;
 use night_run::{Taken, read_file};
-use report::refused;
-use shown::{Shown, show};
+use report::text_of_refusal;
+use shown::{Shown, Unwritten, show};
 use words::{PIECE, ROOM, WORDS, put_words};
 
 // How words are written: in decimals, without their sign or with it, or raw.
@@ -83,7 +83,7 @@ fn tell_refusal(rt: &HostRuntime, t: Taken, w: Want, refusal: Refusal)
         return;
     }
     let mut out = [0u8; 1024];
-    let n = refused(refusal, &mut out);
+    let n = text_of_refusal(refusal, &mut out);
     show_refusal(rt, t, w, &out[..n]);
 }
 
@@ -141,12 +141,12 @@ fn show_words(
     s: Shown,
     n: usize,
     count: usize,
-) -> Option<Shown>
+) -> Result<Shown, Unwritten>
     requires n_bound { s.words + n ≤ count }
     requires piece_bound { n ≤ 4096 }
     requires count_bound { count ≤ 262144 }
     requires told { Told either_file (printed w) t (words_text w words.now count) }
-    ensures { IfSome result (λ x. x.words ≡ s.words + n) }
+    ensures { MatchResult result (λ x. x.words ≡ s.words + n) (λ x. x.words ≡ s.words + n) }
 {
     let mut out = [0u8; ROOM];
     let k = put_words(words, s.words(), n, w, &mut out);
@@ -160,10 +160,10 @@ fn tell_words(
     w: Want,
     words: &[u32; WORDS],
     count: usize,
-) -> Option<Shown>
+) -> Result<Shown, Unwritten>
     requires count_bound { count ≤ 262144 }
     requires told { Told either_file (printed w) t (words_text w words.now count) }
-    ensures { IfSome result (λ s. s.words ≡ count) }
+    ensures { IfOk result (λ s. s.words ≡ count) }
 {
     let mut s = Shown::none();
     // Not a `for`: the words that are printed say how many the next piece has.
@@ -171,7 +171,7 @@ fn tell_words(
         let n = PIECE.min(count - s.words());
         s = show_words(rt, t, w, words, s, n, count)?;
     }
-    Some(s)
+    Ok(s)
 }
 
 // Reads the words of the house out over these zeros, and prints them.

@@ -1,5 +1,5 @@
 // Words that are printed one piece behind the other.
-ghost use Rattle.std.specs.Prelude.{◌≡◌, ◌+◌, IfSome};
+ghost use Rattle.std.specs.Prelude.{◌≡◌, ◌+◌, MatchResult};
 ghost use Rattle.readout.specs.Printed.{none_shown, ToldBehind};
 
 use crate::Want;
@@ -26,13 +26,27 @@ impl Shown {
     }
 }
 
+// A piece could not be written: where it ends. Other modules get one from `show` alone, so none says so without having tried.
+#[derive(Clone, Copy)]
+pub struct Unwritten {
+    words: usize,
+}
+
 // Prints n words, those behind the ones that are printed. Where that cannot be written, it is told.
-pub fn show(rt: &HostRuntime, s: Shown, t: Taken, w: Want, n: usize, piece: &[u8]) -> Option<Shown>
+pub fn show(
+    rt: &HostRuntime,
+    s: Shown,
+    t: Taken,
+    w: Want,
+    n: usize,
+    piece: &[u8],
+) -> Result<Shown, Unwritten>
     requires { ToldBehind w t s.words n piece.now }
-    ensures { IfSome result (λ x. x.words ≡ s.words + n) }
+    ensures { MatchResult result (λ x. x.words ≡ s.words + n) (λ x. x.words ≡ s.words + n) }
 {
+    let words = s.words + n;
     if !put_out(rt, piece) {
-        return None;
+        return Err(Unwritten { words });
     }
-    Some(Shown { words: s.words + n })
+    Ok(Shown { words })
 }

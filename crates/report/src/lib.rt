@@ -112,7 +112,7 @@ pub fn put_refusal(out: &mut [u8], at: usize, refusal: Refusal) -> usize
 }
 
 // The same as a whole text, of any number and detail. Answers its length.
-pub fn refused_as(number: u32, detail: u64, out: &mut [u8; 1024]) -> usize
+pub fn refused(number: u32, detail: u64, out: &mut [u8; 1024]) -> usize
     ensures value { (result ≡ length (refused_text number detail)) × (out.new ≡ refused_text number detail ++ drop (length (refused_text number detail)) out.old) }
     ensures counts { Counts result out.new }
 {
@@ -120,7 +120,7 @@ pub fn refused_as(number: u32, detail: u64, out: &mut [u8; 1024]) -> usize
 }
 
 // The same of a refusal.
-pub fn refused(refusal: Refusal, out: &mut [u8; 1024]) -> usize
+pub fn text_of_refusal(refusal: Refusal, out: &mut [u8; 1024]) -> usize
     ensures value { (result, out.new) ≡ put (refusal_text (verdict_of refusal)) out.old }
     ensures counts { Counts result out.new }
 {
@@ -128,23 +128,23 @@ pub fn refused(refusal: Refusal, out: &mut [u8; 1024]) -> usize
 }
 
 // The text for a house number and its detail, whatever they are: the report where the number is 0, or the refusal. Answers its length.
-pub fn text_as(number: u32, detail: u64, house: House, out: &mut [u8; 1024]) -> usize
+pub fn text_of(number: u32, detail: u64, house: House, out: &mut [u8; 1024]) -> usize
     ensures by_index { (m : List ℕ) → (result, out.new) ≡ put (printed (answered (verdict number detail) (world house m))) out.old }
     ensures counts { Counts result out.new }
 {
     if number != 0 {
-        return refused_as(number, detail, out);
+        return refused(number, detail, out);
     }
     report(house, out)
 }
 
 // The text for an answer: the report, or the refusal. Answers its length.
-pub fn text_of(answer: Answer, out: &mut [u8; 1024]) -> usize
+pub fn text_of_answer(answer: Answer, out: &mut [u8; 1024]) -> usize
     ensures by_index { (given : House) (m : List ℕ) → (result, out.new) ≡ put (printed (answer_of given answer m)) out.old }
     ensures counts { Counts result out.new }
 {
     match answer {
         Ok(done) => report(done.house, out),
-        Err(refusal) => refused(refusal, out),
+        Err(refusal) => text_of_refusal(refusal, out),
     }
 }

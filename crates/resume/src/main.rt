@@ -19,7 +19,7 @@ use files::{Source, print, try_word};
 use house::{Answer, House};
 use keep::keep;
 use night_run::{Taken, WORDS};
-use report::text_of;
+use report::text_of_answer;
 use runs::resume_file;
 
 // ---- after the run
@@ -67,7 +67,7 @@ fn tell(rt: &HostRuntime, t: Taken, steps: u64, answer: Answer)
     requires { (given : House) × (m : List ℕ) × Told (resumed_file steps) printed t (printed (answer_of given answer m)) }
 {
     let mut out = [0u8; 1024];
-    let n = text_of(answer, &mut out);
+    let n = text_of_answer(answer, &mut out);
     show(rt, t, steps, &out[..n]);
 }
 

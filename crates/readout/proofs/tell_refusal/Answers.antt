@@ -9,4 +9,4 @@ pub say-requires : goal.say-requires
 say-requires c = c.requires.refusal_told
 
 pub show_refusal-requires : goal.show_refusal-requires
-show_refusal-requires c = let a = c.args in subst (Told either_file (printed a.w) a.t) (text_shown a.w _ (sym c.is_raw.ensures ∙ c.if-is_raw.false) ∙ sym (put_there _ _ _ _ c.refused-n.ensures.value)) c.requires.told
+show_refusal-requires c = let a = c.args in subst (Told either_file (printed a.w) a.t) (text_shown a.w _ (sym c.is_raw.ensures ∙ c.if-is_raw.false) ∙ sym (put_there _ _ _ _ c.text_of_refusal-n.ensures.value)) c.requires.told

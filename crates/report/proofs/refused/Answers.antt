@@ -1,10 +1,9 @@
-use mathlib.Core.Path.{refl}
 use native.Mathlib.Omega.{arith}
-use Rattle.report.proofs.Texts.{whole_is, put_as}
+use Rattle.report.proofs.Texts.{whole_is}
 use Rattle.report.proofs.refused.Goals as goal
 
 pub returns-clause-value : goal.returns-clause-value
-returns-clause-value c = let w = whole_is c.put_refusal.ensures (omega (arith, c.told-out)) in put_as _ _ _ _ _ w.0.0 w.0.1 refl
+returns-clause-value c = (whole_is c.put_refused.ensures (omega (arith, c.told-out))).0
 
 pub returns-clause-counts : goal.returns-clause-counts
-returns-clause-counts c = (whole_is c.put_refusal.ensures (omega (arith, c.told-out))).1
+returns-clause-counts c = (whole_is c.put_refused.ensures (omega (arith, c.told-out))).1

@@ -1,13 +1,9 @@
-use mathlib.Core.Path.{refl}
-use Rattle.house.proofs.Refusals.{not_0}
-use Rattle.report.specs.Printed.{printed}
 use Rattle.report.proofs.Texts.{put_as}
+use Rattle.report.proofs.Answers.{text_refused, text_done}
 use Rattle.report.proofs.text_of.Goals as goal
 
-pub returns-in-Ok-clause-by_index : goal.returns-in-Ok-clause-by_index
-unfolding printed
-returns-in-Ok-clause-by_index c given m = let v = c.report.ensures.value in rw c.in-Ok.is (put_as _ _ _ _ _ v.0 v.1 refl)
+pub returns-then-number-ne0 : goal.returns-then-number-ne0
+returns-then-number-ne0 c = record { by_index = λ m. put_as _ _ _ _ _ c.refused.ensures.value.0 c.refused.ensures.value.1 (text_refused _ _ _ c.if-number-ne0.true); counts = c.refused.ensures.counts }
 
-pub returns-in-Err-clause-by_index : goal.returns-in-Err-clause-by_index
-unfolding printed
-returns-in-Err-clause-by_index c given m = rw (c.in-Err.is, not_0 c.in-Err.refusal) c.refused.ensures.value
+pub returns : goal.returns
+returns c = record { by_index = λ m. put_as _ _ _ _ _ c.report.ensures.value.0 c.report.ensures.value.1 (text_done _ _ _ c.if-number-ne0.false); counts = c.report.ensures.counts }
