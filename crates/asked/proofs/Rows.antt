@@ -1,5 +1,5 @@
 -- A frame list read byte by byte, and the last @ of a word.
-use Rattle.std.proofs.Common.{◌≡◌, ◌≢◌, ℕ, zero, suc, ◌+◌, ◌<◌, ◌≤◌, Option, None, Some, List, [], ◌∷◌, length, get_or, drop, sym, refl, ap, ◌∙◌, add-one, arith, drop_of_length-le, drop-cons, eq-eqb, ne_eqb}
+use Rattle.std.proofs.Common.{◌≡◌, ◌≢◌, ℕ, zero, suc, ◌+◌, ◌<◌, ◌≤◌, Option, Some, Result, Ok, Err, ok_or, List, [], ◌∷◌, length, get_or, drop, sym, refl, ap, ◌∙◌, add-one, arith, drop_of_length-le, drop-cons, eq-eqb, ne_eqb}
 use Rattle.std.specs.Prelude.{option_map, unwrap_or}
 use borrow.Author.Tests.{eqb-true, eqb-false}
 use lib.Dec.{eqb}
@@ -9,17 +9,17 @@ use Rattle.asked.specs.Words.{Rowed, rowed, no_row, row_ended, row_took, row_fed
 use Rattle.asked.specs.declared.words.Row.{Row}
 
 pub row_digit : (at : ℕ) (r : Row) (frames : List ℕ) (b so_far : ℕ) (d : Option ℕ) → b ≢ 44 → so_far ≡ unwrap_or r.number 0 → d ≡ with_digit 4294967295 (Some so_far) b
-    → rowed (option_map (λ n. record { number = Some n; count = r.count }) d) frames ≡ row_took at r frames b
+    → rowed (ok_or (option_map (λ n. record { number = Some n; count = r.count }) d) r.count) frames ≡ row_took at r frames b
 unfolding row_took
 row_digit at r frames b so_far d n u e = rw (e, u, ne_eqb b 44 n)
 
-pub fed_on : (at : ℕ) (r : Row) (frames : List ℕ) {g x : Rowed} (word : List ℕ) (i : ℕ) → i < length word → row_fed at (rowed (Some r) frames) (drop i word) ≡ x → g ≡ row_took at r frames (get_or word i 0)
+pub fed_on : (at : ℕ) (r : Row) (frames : List ℕ) {g x : Rowed} (word : List ℕ) (i : ℕ) → i < length word → row_fed at (rowed (Ok r) frames) (drop i word) ≡ x → g ≡ row_took at r frames (get_or word i 0)
     → row_fed at g (drop (i + 1) word) ≡ x
 unfolding row_fed
 fed_on at r frames {g} {x} word i l e t =
     ap (λ (y : Rowed). row_fed at y (drop (i + 1) word)) t
     ∙ ap (λ (n : ℕ). row_fed at (row_took at r frames (get_or word i 0)) (drop n word)) (add-one i)
-    ∙ ap (row_fed at (rowed (Some r) frames)) (sym (drop-cons word i 0 l))
+    ∙ ap (row_fed at (rowed (Ok r) frames)) (sym (drop-cons word i 0 l))
     ∙ e
 
 pub fed_done : (at : ℕ) (g : Rowed) {x : Rowed} (word : List ℕ) (i : ℕ) → length word ≤ i → row_fed at g (drop i word) ≡ x → g ≡ x
@@ -27,10 +27,10 @@ unfolding row_fed
 fed_done at g {x} word i l e = ap (row_fed at g) (sym (drop_of_length-le word {i = i} l)) ∙ e
 
 -- behind a wrong byte nothing is looked at
-pub fed_wrong : (at : ℕ) (frames word : List ℕ) → row_fed at (rowed None frames) word ≡ rowed None frames
+pub fed_wrong : (at n : ℕ) (frames word : List ℕ) → row_fed at (rowed (Err n) frames) word ≡ rowed (Err n) frames
 unfolding row_fed
-fed_wrong at frames [] = refl
-fed_wrong at frames (b ∷ bs) = refl
+fed_wrong at n frames [] = refl
+fed_wrong at n frames (b ∷ bs) = refl
 
 -- ---- the last @, from the end
 
@@ -49,27 +49,31 @@ last_none word (suc m) r a = last_none word m (omega arith) a ∙ sym (simp (ne_
 
 -- ---- the whole word
 
-pub row_empty : (at : ℕ) (frames word : List ℕ) → length word ≡ 0 → rowed (Some no_row) frames ≡ row_of at frames word
+pub row_empty : (at : ℕ) (frames word : List ℕ) → length word ≡ 0 → rowed (Ok no_row) frames ≡ row_of at frames word
 unfolding row_of
 row_empty at frames [] e = refl
 row_empty at frames (b ∷ bs) e = absurd (omega arith)
 
-pub row_whole : (at : ℕ) (frames word : List ℕ) (r : Row) (frames' : List ℕ) → (length word ≡ 0 → ⊥) → rowed (Some r) frames' ≡ row_fed at (rowed (Some no_row) frames) word → row_ended at r frames' ≡ row_of at frames word
+pub row_whole : (at : ℕ) (frames word : List ℕ) (r : Row) (frames' : List ℕ) → (length word ≡ 0 → ⊥) → rowed (Ok r) frames' ≡ row_fed at (rowed (Ok no_row) frames) word → row_ended at r frames' ≡ row_of at frames word
 unfolding row_of
 row_whole at frames [] r frames' n e = absurd (n refl)
 row_whole at frames (b ∷ bs) r frames' n e = ap (row_finished at) e
 
-pub row_wrong : (at : ℕ) (frames word frames' : List ℕ) → (length word ≡ 0 → ⊥) → rowed None frames' ≡ row_fed at (rowed (Some no_row) frames) word → rowed None frames' ≡ row_of at frames word
+pub row_wrong : (at k : ℕ) (frames word frames' : List ℕ) → (length word ≡ 0 → ⊥) → rowed (Err k) frames' ≡ row_fed at (rowed (Ok no_row) frames) word → rowed (Err k) frames' ≡ row_of at frames word
 unfolding row_of
-row_wrong at frames [] frames' n e = absurd (n refl)
-row_wrong at frames (b ∷ bs) frames' n e = ap (row_finished at) e
+row_wrong at k frames [] frames' n e = absurd (n refl)
+row_wrong at k frames (b ∷ bs) frames' n e = ap (row_finished at) e
 
 -- ---- what row_of answers
 
-module _ {x : Rowed} {r : Option Row} {frames : List ℕ} (e : rowed r frames ≡ x) where
-  pub count_is : option_map (λ (r : Row). r.count) r ≡ counted x
+module _ {x : Rowed} {frames : List ℕ} where
+  pub count_is : {r : Row} → rowed (Ok r) frames ≡ x → Ok r.count ≡ counted x
   unfolding counted
-  count_is = ap counted e
+  count_is e = ap counted e
 
-  pub frames_are : frames ≡ x.frames
-  frames_are = ap (λ (y : Rowed). y.frames) e
+  pub count_wrong : {n : ℕ} → rowed (Err n) frames ≡ x → Err n ≡ counted x
+  unfolding counted
+  count_wrong e = ap counted e
+
+  pub frames_are : {r : Result Row ℕ} → rowed r frames ≡ x → frames ≡ x.frames
+  frames_are e = ap (λ (y : Rowed). y.frames) e

@@ -1,9 +1,10 @@
 -- Worked examples. proofs/Checked.antt checks them by a single claim.
-use Rattle.std.specs.Prelude.{ℕ, Bool, true, false, not, Some, ◌&&◌, List, [], ◌∷◌, replicate, ◌==◌}
+use Rattle.std.specs.Prelude.{ℕ, Bool, true, false, not, Ok, Err, is_err, ◌&&◌, List, [], ◌∷◌, replicate, ◌==◌}
 use Rattle.std.specs.Option.{is_none, option_map_or}
 use Prim.Native.String.{String}
 use Rattle.decimal.specs.Texts.{ascii, same}
 use Rattle.asked.specs.Words.{row_of, counted, name_length, address_of}
+use Rattle.asked.specs.declared.asked.Asked.{Asked}
 use Rattle.asked.specs.declared.asked.Awaits.{Awaits}
 use Rattle.asked.specs.declared.asked.Awaits.TheVariants.{Partition, Frames, Image, ImageOrPartition}
 use Rattle.asked.specs.Asked.{Going, going, nothing, took_words}
@@ -13,10 +14,14 @@ use Rattle.asked.specs.Asked.{Going, going, nothing, took_words}
 unfoldable pub lists : String → ℕ → List ℕ → Bool
 lists word n frames =
     let r = row_of 2 (replicate 7 9) (ascii word) in
-    option_map_or (λ count. count == n) (counted r) false && same r.frames frames
+    elim (counted r) [ Ok count ↦ count == n | Err so_far ↦ false ] && same r.frames frames
 
 unfoldable pub no_list : String → Bool
-no_list word = is_none (counted (row_of 2 (replicate 7 9) (ascii word)))
+no_list word = is_err (counted (row_of 2 (replicate 7 9) (ascii word)))
+
+-- the same, with how many numbers had ended
+unfoldable pub no_list_behind : String → ℕ → Bool
+no_list_behind word n = elim (counted (row_of 2 (replicate 7 9) (ascii word))) [ Ok count ↦ false | Err so_far ↦ so_far == n ]
 
 -- ---- images
 
@@ -34,7 +39,7 @@ texts [] = []
 texts (word ∷ words) = ascii word ∷ texts words
 
 unfoldable pub asked : List String → Going
-asked words = took_words (going (Some nothing) (replicate 4 0) (replicate 8 0) (replicate 12 0)) 4 (texts words)
+asked words = took_words (going (Ok nothing) (replicate 4 0) (replicate 8 0) (replicate 12 0)) 4 (texts words)
 
 -- 0 `partition`; 1 its frames; 2 its first image; 3 another one, or `partition`
 abbrev pub index : Awaits → ℕ
@@ -43,15 +48,23 @@ index Frames = 1
 index Image = 2
 index ImageOrPartition = 3
 
--- what the next word has to be, the partition at hand, the frames and images so far, and the lists
+-- what the next word has to be, the partition at hand, and the frames and images so far
+unfoldable pub stands : Asked → ℕ → ℕ → ℕ → ℕ → Bool
+stands a next owner total images = index a.awaits == next && a.owner == owner && a.total == total && a.images == images
+
+-- where the words stand, and the lists
 unfoldable pub comes : List String → ℕ → ℕ → ℕ → ℕ → List ℕ → List ℕ → List ℕ → Bool
 comes words next owner total images pages frames table =
     let g = asked words in
-    option_map_or (λ a. index a.awaits == next && a.owner == owner && a.total == total && a.images == images) g.asked false
+    elim g.asked [ Ok a ↦ stands a next owner total images | Err a ↦ false ]
     && same g.pages pages && same g.frames frames && same g.table table
 
 unfoldable pub wrong_words : List String → Bool
-wrong_words words = is_none (asked words).asked
+wrong_words words = is_err (asked words).asked
+
+-- the same, with where the words stood
+unfoldable pub wrong_where : List String → ℕ → ℕ → ℕ → ℕ → Bool
+wrong_where words next owner total images = elim (asked words).asked [ Ok a ↦ false | Err a ↦ stands a next owner total images ]
 
 unfoldable pub words : List Bool
 words =
@@ -73,6 +86,10 @@ words =
     ∷ no_list "1,b"
     ∷ no_list "-1"
     ∷ no_list "1.2"
+    -- how many numbers had ended: before a wrong byte; none where one has no digit
+    ∷ no_list_behind "7,8,4b,6" 2
+    ∷ no_list_behind "7,8,4,,6" 0
+    ∷ no_list_behind "7,8,4," 0
     -- [noon: image words] no address; one; behind the last @; no name; none behind the @, no number, one too large
     ∷ image "bridge" 6 0
     ∷ image "bridge@8" 6 8
@@ -107,6 +124,9 @@ words =
     ∷ not (wrong_words ("partition" ∷ "3" ∷ "./partition" ∷ []))
     -- a wrong word stays wrong
     ∷ wrong_words ("partition" ∷ "3" ∷ "a@2" ∷ "a" ∷ [])
+    -- where the words stood, whatever comes behind the wrong one: at a list, and at an image
+    ∷ wrong_where ("partition" ∷ "3,1,4,5" ∷ "a" ∷ "b" ∷ "partition" ∷ "9" ∷ "c" ∷ "partition" ∷ "2,b" ∷ "7" ∷ []) 1 2 5 3
+    ∷ wrong_where ("partition" ∷ "3,1" ∷ "a" ∷ "partition" ∷ "2,5,4,6" ∷ "b@20" ∷ "c@8" ∷ "d@40" ∷ "e@2" ∷ "partition" ∷ []) 3 1 6 4
     -- 64 images, and one more
     ∷ not (wrong_words ("partition" ∷ "3" ∷ replicate 64 "a"))
     ∷ wrong_words ("partition" ∷ "3" ∷ replicate 65 "a")

@@ -1,5 +1,5 @@
 // What noon's words from the first `partition` on ask for.
-ghost use Rattle.std.specs.Prelude.{◌≡◌, ℕ, List, Some};
+ghost use Rattle.std.specs.Prelude.{◌≡◌, ℕ, List, Ok};
 ghost use Rattle.asked.specs.Asked.{going, awaiting_frames, framed, imaged, took_word};
 
 use crate::words::{address_of, put_at, row_of};
@@ -51,12 +51,15 @@ fn awaiting_frames(a: Asked, owner: u32) -> Asked
 }
 
 // A partition's frames.
-fn framed(a: Asked, word: &[u8], pages: &mut [u32], frames: &mut [u32]) -> Option<Asked>
-    ensures { (table : List ℕ) → going result pages.new frames.new table ≡ framed a (going (Some a) pages.old frames.old table) word.now }
+fn framed(a: Asked, word: &[u8], pages: &mut [u32], frames: &mut [u32]) -> Result<Asked, Asked>
+    ensures { (table : List ℕ) → going result pages.new frames.new table ≡ framed a (going (Ok a) pages.old frames.old table) word.now }
 {
-    let count = row_of(word, frames, a.total)?;
+    let count = match row_of(word, frames, a.total) {
+        Ok(count) => count,
+        Err(_) => return Err(a),
+    };
     put_at(pages, a.owner, 0, count);
-    Some(Asked {
+    Ok(Asked {
         awaits: Awaits::Image,
         total: a.total.wrapping_add(count),
         ..a
@@ -64,18 +67,21 @@ fn framed(a: Asked, word: &[u8], pages: &mut [u32], frames: &mut [u32]) -> Optio
 }
 
 // An image, which word n names.
-fn imaged(a: Asked, n: u32, word: &[u8], table: &mut [u32]) -> Option<Asked>
-    ensures { (pages frames : List ℕ) → going result pages frames table.new ≡ imaged a (going (Some a) pages frames table.old) n word.now }
+fn imaged(a: Asked, n: u32, word: &[u8], table: &mut [u32]) -> Result<Asked, Asked>
+    ensures { (pages frames : List ℕ) → going result pages frames table.new ≡ imaged a (going (Ok a) pages frames table.old) n word.now }
 {
-    let address = address_of(word)? as u32;
+    let Some(address) = address_of(word) else {
+        return Err(a);
+    };
+    let address = address as u32;
     if address % 4 != 0 || a.images >= 64 {
-        return None;
+        return Err(a);
     }
     let at = 3 * a.images;
     put_at(table, at, 0, a.owner);
     put_at(table, at, 1, address);
     put_at(table, at, 2, n);
-    Some(Asked {
+    Ok(Asked {
         awaits: Awaits::ImageOrPartition,
         images: a.images + 1,
         ..a
@@ -90,29 +96,29 @@ fn took_next(
     pages: &mut [u32],
     frames: &mut [u32],
     table: &mut [u32],
-) -> Option<Asked>
-    ensures { going result pages.new frames.new table.new ≡ took_word (going (Some a) pages.old frames.old table.old) n word.now }
+) -> Result<Asked, Asked>
+    ensures { going result pages.new frames.new table.new ≡ took_word (going (Ok a) pages.old frames.old table.old) n word.now }
 {
     let named = is(word, b"partition");
     match a.awaits {
         Awaits::Partition => {
             if named {
-                Some(awaiting_frames(a, 0))
+                Ok(awaiting_frames(a, 0))
             } else {
-                None
+                Err(a)
             }
         }
         Awaits::Frames => framed(a, word, pages, frames),
         Awaits::Image => {
             if named {
-                None
+                Err(a)
             } else {
                 imaged(a, n, word, table)
             }
         }
         Awaits::ImageOrPartition => {
             if named {
-                Some(awaiting_frames(a, a.owner.wrapping_add(1)))
+                Ok(awaiting_frames(a, a.owner.wrapping_add(1)))
             } else {
                 imaged(a, n, word, table)
             }
@@ -120,15 +126,15 @@ fn took_next(
     }
 }
 
-// One word more, word n; none where it is wrong, or one before it was.
+// One word more, word n; an error says where the words stood when one was wrong, this one or one before it.
 pub fn took_word(
-    a: Option<Asked>,
+    a: Result<Asked, Asked>,
     n: u32,
     word: &[u8],
     pages: &mut [u32],
     frames: &mut [u32],
     table: &mut [u32],
-) -> Option<Asked>
+) -> Result<Asked, Asked>
     ensures { going result pages.new frames.new table.new ≡ took_word (going a pages.old frames.old table.old) n word.now }
 {
     took_next(a?, n, word, pages, frames, table)

@@ -7,9 +7,9 @@ use dlx::words::wide;
 
 // A frame list as far as it was read: the number that is begun, and how many have ended.
 #[derive(Clone, Copy)]
-struct Row {
-    number: Option<u32>,
-    count: u32,
+pub struct Row {
+    pub number: Option<u32>,
+    pub count: u32,
 }
 
 // A number at its place; none where the list ends before it.
@@ -23,39 +23,43 @@ pub fn put_at(list: &mut [u32], at: u32, k: u32, n: u32)
 }
 
 // A number has ended.
-fn row_ended(r: Row, frames: &mut [u32], at: u32) -> Option<Row>
+fn row_ended(r: Row, frames: &mut [u32], at: u32) -> Result<Row, u32>
     ensures { rowed result frames.new ≡ row_ended at r frames.old }
 {
-    let number = r.number?;
+    let Some(number) = r.number else {
+        return Err(0);
+    };
     put_at(frames, at, r.count, number);
-    Some(Row {
+    Ok(Row {
         number: None,
         count: r.count.wrapping_add(1),
     })
 }
 
 // One byte more.
-fn row_took(r: Row, frames: &mut [u32], at: u32, b: u8) -> Option<Row>
+fn row_took(r: Row, frames: &mut [u32], at: u32, b: u8) -> Result<Row, u32>
     ensures { rowed result frames.new ≡ row_took at r frames.old b }
 {
     if b == b',' {
         return row_ended(r, frames, at);
     }
     let so_far = u64::from(r.number.unwrap_or(0));
-    let number = with_digit(4294967295, Some(so_far), b)? as u32;
-    Some(Row {
-        number: Some(number),
+    let Some(number) = with_digit(4294967295, Some(so_far), b) else {
+        return Err(r.count);
+    };
+    Ok(Row {
+        number: Some(number as u32),
         count: r.count,
     })
 }
 
-// The list that a word says, put into a list from a place on. Answers how many numbers it has.
-pub fn row_of(word: &[u8], frames: &mut [u32], at: u32) -> Option<u32>
+// The list that a word says, put into a list from a place on. Answers how many numbers it has; an error says how many had ended before a wrong byte, 0 where a number has no digit.
+pub fn row_of(word: &[u8], frames: &mut [u32], at: u32) -> Result<u32, u32>
     ensures value { result ≡ counted (row_of at frames.old word.now) }
     ensures frames_after { frames.new ≡ (row_of at frames.old word.now).frames }
 {
     if word.is_empty() {
-        return Some(0);
+        return Ok(0);
     }
     let mut r = Row {
         number: None,
@@ -64,7 +68,7 @@ pub fn row_of(word: &[u8], frames: &mut [u32], at: u32) -> Option<u32>
     for b in word {
         r = row_took(r, frames, at, *b)?;
     }
-    Some(row_ended(r, frames, at)?.count)
+    Ok(row_ended(r, frames, at)?.count)
 }
 
 // How long an image's name is: the bytes before the last @.

@@ -16,7 +16,7 @@ use Rattle.contents.specs.Contents.{list_words}
 use Rattle.asked.specs.Asked.{Going, going, took_word, took_words, nothing, at_first}
 use Rattle.asked.specs.declared.asked.Asked.{Asked}
 use Rattle.asked.specs.declared.asked.Awaits.TheVariants.{ImageOrPartition}
-use Rattle.std.specs.Prelude.{Some}
+use Rattle.std.specs.Prelude.{Ok}
 use Rattle.laying.specs.Laid.{count_of, sum_words, laid_words, laid_image, memory_of}
 use Rattle.noon.specs.Noon.{Asks, AsksNext, Given, Laid, LaidNext}
 
@@ -30,7 +30,7 @@ words_on g n (w ∷ words) word =
     ap (λ (x : ℕ). took_word (took_words (took_word g n w) (n + 1) words) x word) e ∙ words_on (took_word g n w) (n + 1) words word
 
 pub asks_on : (a a' : Asked) (pages frames table pages' frames' table' : List ℕ) (i : ℕ) → Asks a pages frames table i
-    → AsksNext (going (Some a) pages frames table) (going (Some a') pages' frames' table') i → Asks a' pages' frames' table' (i + 1)
+    → AsksNext (going (Ok a) pages frames table) (going (Ok a') pages' frames' table') i → Asks a' pages' frames' table' (i + 1)
 asks_on a a' pages frames table pages' frames' table' i s y =
     let words = s.0 in (
       words ++ (y.0 ∷ []),

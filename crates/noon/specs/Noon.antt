@@ -1,5 +1,5 @@
 -- What noon refuses, and what it may write and tell: from its words and from what it read of the images.
-use Rattle.std.specs.Prelude.{◌≡◌, Some, OnSome, List, ℕ, ◌+◌, ◌<◌, min, eqb, length, get_or, take, set}
+use Rattle.std.specs.Prelude.{◌≡◌, Ok, OnOk, List, ℕ, ◌+◌, ◌<◌, min, eqb, length, get_or, take, set}
 use Rattle.dlx.specs.Choice.{when◌then◌else◌}
 use Rattle.house.specs.Boot.{Verdict, verdict}
 use Rattle.house.specs.Calls.{Answered}
@@ -23,7 +23,7 @@ Runs f = (ran_of (reading_of (contents_file f))).verdict.number ≡ 0
 
 -- this is what n words ask for, the first of which is word 4
 abbrev pub Asks : Asked → List ℕ → List ℕ → List ℕ → ℕ → Type 0
-Asks a pages frames table n = (words : List (List ℕ)) × (length words + 4 ≡ n) × (going (Some a) pages frames table ≡ took_words at_first 4 words)
+Asks a pages frames table n = (words : List (List ℕ)) × (length words + 4 ≡ n) × (going (Ok a) pages frames table ≡ took_words at_first 4 words)
 
 -- these lists and this table are what all the words ask for; of pages, frames and images as many are kept as there is room for
 pub record Given (pages frames table : List ℕ) (images : ℕ) : Type 0 where
@@ -39,7 +39,7 @@ pub record Given (pages frames table : List ℕ) (images : ℕ) : Type 0 where
 
 -- word n is the next
 abbrev pub AsksNext : Going → Going → ℕ → Type 0
-AsksNext g g' n = OnSome g'.asked ((word : List ℕ) × (g' ≡ took_word g n word))
+AsksNext g g' n = OnOk g'.asked ((word : List ℕ) × (g' ≡ took_word g n word))
 
 -- ---- its images
 

@@ -1,5 +1,5 @@
 // Noon's words from the first `partition` on.
-ghost use Rattle.std.specs.Prelude.{◌≡◌, ◌≤◌, Some, IfSome, replicate};
+ghost use Rattle.std.specs.Prelude.{◌≡◌, ◌≤◌, Ok, IfSome, replicate};
 ghost use Rattle.asked.specs.Asked.{going};
 ghost use Rattle.noon.specs.Noon.{Asks, AsksNext};
 
@@ -35,7 +35,7 @@ fn ask_next(
     frames: &mut [u32],
     table: &mut [u32],
 ) -> Option<Asked>
-    ensures { AsksNext (going (Some a) pages.old frames.old table.old) (going result pages.new frames.new table.new) i }
+    ensures { IfSome result (λ next. AsksNext (going (Ok a) pages.old frames.old table.old) (going (Ok next) pages.new frames.new table.new) i) }
 {
     let mut word = files::buffer();
     let n = match files::try_word(rt, wide(i), &mut word) {
@@ -45,11 +45,13 @@ fn ask_next(
             return None;
         }
     };
-    let next = took_word(Some(a), i, &word[..n], pages, frames, table);
-    if next.is_none() {
-        tell_word(rt, a, &word[..n]);
+    match took_word(Ok(a), i, &word[..n], pages, frames, table) {
+        Ok(next) => Some(next),
+        Err(stood) => {
+            tell_word(rt, stood, &word[..n]);
+            None
+        }
     }
-    next
 }
 
 // The words from the fourth on.
