@@ -38,7 +38,7 @@ fn found(input: &[u8], at: usize, end: usize, offset: u64, lent: usize) -> Readi
     requires input_room { end ≤ length input.now }
     ensures { Stands result (length input.now) lent }
 {
-    let command = commands::read(&input[at..end]);
+    let command = commands::read(&input[at..end]).ok();
     Reading {
         at,
         end,

@@ -1,8 +1,10 @@
 -- Commands of a script.
-use Rattle.std.specs.Prelude.{Bool, List, [], ◌∷◌, ℕ, zero, suc, ◌+◌, ◌*◌, ◌/◌, ◌&&◌, Option, None, Some, leb, ltb, length, slice_get, nat_eq}
+use Rattle.std.specs.Prelude.{Bool, List, [], ◌∷◌, ℕ, zero, suc, ◌+◌, ◌*◌, ◌/◌, ◌&&◌, Option, None, Some, Result, ok_or, option_and_then, leb, ltb, length, slice_get, nat_eq}
 use Rattle.std.specs.Bool.{then_some}
 use Rattle.dlx.specs.Choice.{when◌then◌else◌}
 use Rattle.drill_script.specs.declared.commands.Command.{Command}
+use Rattle.drill_script.specs.declared.commands.NoCommand.{NoCommand}
+use Rattle.drill_script.specs.declared.commands.NoCommand.TheVariants.{Short, Wrong}
 use Rattle.drill_script.specs.declared.commands.Op.{Op}
 use Rattle.drill_script.specs.declared.commands.Op.TheVariants.{Boot, Run, Start, Stop, Empty, ReadOut, PokeMemory, SetLength, PokeHouse, FillMemory, Clear, Audit, Mend, Save, Piece, Finish, Unshadowed}
 use Rattle.drill_script.specs.Words.{word_at}
@@ -63,3 +65,16 @@ named bytes (Some op) = sized bytes op (size_of op (word_at bytes 4) (word_at by
 -- what stands at the start of the bytes; no command where they end before its end
 unfoldable pub command_of : List ℕ → Option Command
 command_of bytes = when ltb (length bytes) 16 then None else named bytes (op_of (word_at bytes 0))
+
+-- why no command stands there, by what its size would be: the bytes end before its end, or it has no size, since its op or a word is wrong, and its four
+-- words are told
+unfoldable pub why_none : List ℕ → Option ℕ → NoCommand
+why_none bytes (Some n) = Short
+why_none bytes None = Wrong (word_at bytes 0) (word_at bytes 4) (word_at bytes 8) (word_at bytes 12)
+
+-- the command at the start of the bytes, or why there is none
+unfoldable pub read_of : List ℕ → Result Command NoCommand
+read_of bytes =
+    ok_or (command_of bytes)
+    (when ltb (length bytes) 16 then Short
+    else why_none bytes (option_and_then (λ op. size_of op (word_at bytes 4) (word_at bytes 12)) (op_of (word_at bytes 0))))

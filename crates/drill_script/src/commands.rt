@@ -1,6 +1,7 @@
 // Commands of a script.
 ghost use Rattle.std.specs.Prelude.{◌≡◌};
-ghost use Rattle.drill_script.specs.Commands.{number_of, size_of, command_of};
+ghost use Rattle.std.specs.Result.{result_ok};
+ghost use Rattle.drill_script.specs.Commands.{number_of, size_of, command_of, read_of};
 
 use crate::words::word;
 use dlx::words::wide;
@@ -83,6 +84,13 @@ pub struct Command {
     pub size: usize,
 }
 
+// Why there is no command: the bytes end before its end, or its four words are wrong.
+#[derive(Clone, Copy)]
+pub enum NoCommand {
+    Short,
+    Wrong { op: u32, a: u32, b: u32, c: u32 },
+}
+
 // The size by the op and the two words that can say more: none where one of them is wrong.
 #[tactic(auto, unfolding(crate::specs::Commands::size_of))]
 fn size(op: Op, a: u32, c: u32) -> Option<usize>
@@ -97,18 +105,23 @@ fn size(op: Op, a: u32, c: u32) -> Option<usize>
     }
 }
 
-// The command at the start of the bytes: none where it is wrong, or they end before its end.
-#[tactic(auto, unfolding(crate::specs::Commands::command_of, crate::specs::Commands::named, crate::specs::Commands::sized))]
-pub fn read(bytes: &[u8]) -> Option<Command>
-    ensures { result ≡ command_of bytes.now }
+// The command at the start of the bytes, or why there is none.
+#[tactic(auto, unfolding(crate::specs::Commands::read_of, crate::specs::Commands::why_none, crate::specs::Commands::command_of, crate::specs::Commands::named, crate::specs::Commands::sized))]
+pub fn read(bytes: &[u8]) -> Result<Command, NoCommand>
+    ensures value { result ≡ read_of bytes.now }
+    ensures command { result_ok result ≡ command_of bytes.now }
 {
     if bytes.len() < 16 {
-        return None;
+        return Err(NoCommand::Short);
     }
-    let op = Op::try_from(word(bytes, 0)).ok()?;
+    let op = word(bytes, 0);
     let a = word(bytes, 4);
     let b = word(bytes, 8);
     let c = word(bytes, 12);
-    let size = size(op, a, c)?;
-    (size <= bytes.len()).then_some(Command { op, a, b, c, size })
+    let wrong = NoCommand::Wrong { op, a, b, c };
+    let op = Op::try_from(op).ok().ok_or(wrong)?;
+    let size = size(op, a, c).ok_or(wrong)?;
+    (size <= bytes.len())
+        .then_some(Command { op, a, b, c, size })
+        .ok_or(NoCommand::Short)
 }
