@@ -9,7 +9,7 @@ use Rattle.asked.specs.Words.{Rowed, rowed, no_row, row_ended, row_took, row_fed
 use Rattle.asked.specs.declared.words.Row.{Row}
 
 pub row_digit : (at : ℕ) (r : Row) (frames : List ℕ) (b so_far : ℕ) (d : Option ℕ) → b ≢ 44 → so_far ≡ unwrap_or r.number 0 → d ≡ with_digit 4294967295 (Some so_far) b
-    → rowed (ok_or (option_map (λ n. record { number = Some n; count = r.count }) d) r.count) frames ≡ row_took at r frames b
+    → rowed (ok_or (option_map (λ n. record { number = Some n; count = r.count }) d) (Some r.count)) frames ≡ row_took at r frames b
 unfolding row_took
 row_digit at r frames b so_far d n u e = rw (e, u, ne_eqb b 44 n)
 
@@ -27,7 +27,7 @@ unfolding row_fed
 fed_done at g {x} word i l e = ap (row_fed at g) (sym (drop_of_length-le word {i = i} l)) ∙ e
 
 -- behind a wrong byte nothing is looked at
-pub fed_wrong : (at n : ℕ) (frames word : List ℕ) → row_fed at (rowed (Err n) frames) word ≡ rowed (Err n) frames
+pub fed_wrong : (at : ℕ) (n : Option ℕ) (frames word : List ℕ) → row_fed at (rowed (Err n) frames) word ≡ rowed (Err n) frames
 unfolding row_fed
 fed_wrong at n frames [] = refl
 fed_wrong at n frames (b ∷ bs) = refl
@@ -59,7 +59,7 @@ unfolding row_of
 row_whole at frames [] r frames' n e = absurd (n refl)
 row_whole at frames (b ∷ bs) r frames' n e = ap (row_finished at) e
 
-pub row_wrong : (at k : ℕ) (frames word frames' : List ℕ) → (length word ≡ 0 → ⊥) → rowed (Err k) frames' ≡ row_fed at (rowed (Ok no_row) frames) word → rowed (Err k) frames' ≡ row_of at frames word
+pub row_wrong : (at : ℕ) (k : Option ℕ) (frames word frames' : List ℕ) → (length word ≡ 0 → ⊥) → rowed (Err k) frames' ≡ row_fed at (rowed (Ok no_row) frames) word → rowed (Err k) frames' ≡ row_of at frames word
 unfolding row_of
 row_wrong at k frames [] frames' n e = absurd (n refl)
 row_wrong at k frames (b ∷ bs) frames' n e = ap (row_finished at) e
@@ -71,9 +71,9 @@ module _ {x : Rowed} {frames : List ℕ} where
   unfolding counted
   count_is e = ap counted e
 
-  pub count_wrong : {n : ℕ} → rowed (Err n) frames ≡ x → Err n ≡ counted x
+  pub count_wrong : {n : Option ℕ} → rowed (Err n) frames ≡ x → Err n ≡ counted x
   unfolding counted
   count_wrong e = ap counted e
 
-  pub frames_are : {r : Result Row ℕ} → rowed r frames ≡ x → frames ≡ x.frames
+  pub frames_are : {r : Result Row (Option ℕ)} → rowed r frames ≡ x → frames ≡ x.frames
   frames_are e = ap (λ (y : Rowed). y.frames) e

@@ -13,7 +13,7 @@ use Rattle.asked.specs.declared.asked.Awaits.TheVariants.{Image, ImageOrPartitio
 -- ---- frames
 
 module _ (a : Asked) (pages frames table word frames' : List ℕ) (e : frames' ≡ (row_of a.total frames word).frames) where
-  pub framed_wrong : (n : ℕ) → Err n ≡ counted (row_of a.total frames word) → going (Err a) pages frames' table ≡ framed a (going (Ok a) pages frames table) word
+  pub framed_wrong : (n : Option ℕ) → Err n ≡ counted (row_of a.total frames word) → going (Err a) pages frames' table ≡ framed a (going (Ok a) pages frames table) word
   unfolding framed
   framed_wrong n q = rw (← q, framed, e)
 

@@ -19,9 +19,13 @@ lists word n frames =
 unfoldable pub no_list : String → Bool
 no_list word = is_err (counted (row_of 2 (replicate 7 9) (ascii word)))
 
--- the same, with how many numbers had ended
+-- the same, with how many numbers had ended before a wrong byte
 unfoldable pub no_list_behind : String → ℕ → Bool
-no_list_behind word n = elim (counted (row_of 2 (replicate 7 9) (ascii word))) [ Ok count ↦ false | Err so_far ↦ so_far == n ]
+no_list_behind word n = elim (counted (row_of 2 (replicate 7 9) (ascii word))) [ Ok count ↦ false | Err so_far ↦ option_map_or (λ k. k == n) so_far false ]
+
+-- the same, where a number has no digit
+unfoldable pub no_digit : String → Bool
+no_digit word = elim (counted (row_of 2 (replicate 7 9) (ascii word))) [ Ok count ↦ false | Err so_far ↦ is_none so_far ]
 
 -- ---- images
 
@@ -86,10 +90,11 @@ words =
     ∷ no_list "1,b"
     ∷ no_list "-1"
     ∷ no_list "1.2"
-    -- how many numbers had ended: before a wrong byte; none where one has no digit
+    -- how many numbers had ended before a wrong byte, and numbers with no digit
     ∷ no_list_behind "7,8,4b,6" 2
-    ∷ no_list_behind "7,8,4,,6" 0
-    ∷ no_list_behind "7,8,4," 0
+    ∷ no_list_behind "b" 0
+    ∷ no_digit "7,8,4,,6"
+    ∷ no_digit "7,8,4,"
     -- [noon: image words] no address; one; behind the last @; no name; none behind the @, no number, one too large
     ∷ image "bridge" 6 0
     ∷ image "bridge@8" 6 8

@@ -7,12 +7,12 @@ use Rattle.asked.specs.declared.words.Row.{Row}
 
 -- ---- a frame list, byte by byte; its numbers go to a list, from a place on
 
--- where it stands, or, where it is wrong, how many numbers had ended, 0 where one has no digit; and the list
+-- where it stands, or, where it is wrong, how many numbers had ended before a wrong byte, none where one has no digit; and the list
 pub record Rowed : Type 0 where
-  pub row : Result Row ℕ
+  pub row : Result Row (Option ℕ)
   pub frames : List ℕ
 
-abbrev pub rowed : Result Row ℕ → List ℕ → Rowed
+abbrev pub rowed : Result Row (Option ℕ) → List ℕ → Rowed
 rowed r frames = record { row = r; frames = frames }
 
 abbrev pub no_row : Row
@@ -20,13 +20,13 @@ no_row = record { number = None; count = 0 }
 
 -- a number has ended: it has a digit, and stands behind those before it, as far as there is room
 unfoldable pub row_ended : ℕ → Row → List ℕ → Rowed
-row_ended at r frames = elim r.number [ None ↦ rowed (Err 0) frames | Some n ↦ rowed (Ok (record { number = None; count = plus r.count 1 })) (slice_set frames (at + r.count) n) ]
+row_ended at r frames = elim r.number [ None ↦ rowed (Err None) frames | Some n ↦ rowed (Ok (record { number = None; count = plus r.count 1 })) (slice_set frames (at + r.count) n) ]
 
 -- a comma ends a number; any other byte is its next digit
 unfoldable pub row_took : ℕ → Row → List ℕ → ℕ → Rowed
 row_took at r frames b =
     when b == 44 then row_ended at r frames else
-    rowed (ok_or (option_map (λ n. record { number = Some n; count = r.count }) (with_digit 4294967295 (Some (unwrap_or r.number 0)) b)) r.count) frames
+    rowed (ok_or (option_map (λ n. record { number = Some n; count = r.count }) (with_digit 4294967295 (Some (unwrap_or r.number 0)) b)) (Some r.count)) frames
 
 -- behind a wrong byte nothing is looked at
 unfoldable pub row_fed : ℕ → Rowed → List ℕ → Rowed
@@ -42,8 +42,8 @@ unfoldable pub row_of : ℕ → List ℕ → List ℕ → Rowed
 row_of at frames [] = rowed (Ok no_row) frames
 row_of at frames (b ∷ bs) = row_finished at (row_fed at (rowed (Ok no_row) frames) (b ∷ bs))
 
--- how many numbers the word has, or had before it was wrong
-unfoldable pub counted : Rowed → Result ℕ ℕ
+-- how many numbers the word has, or had before a wrong byte
+unfoldable pub counted : Rowed → Result ℕ (Option ℕ)
 counted g = elim g.row [ Ok r ↦ Ok r.count | Err n ↦ Err n ]
 
 -- ---- an image: its name, and behind the last @ its address, 0 where there is none

@@ -23,11 +23,11 @@ pub fn put_at(list: &mut [u32], at: u32, k: u32, n: u32)
 }
 
 // A number has ended.
-fn row_ended(r: Row, frames: &mut [u32], at: u32) -> Result<Row, u32>
+fn row_ended(r: Row, frames: &mut [u32], at: u32) -> Result<Row, Option<u32>>
     ensures { rowed result frames.new ≡ row_ended at r frames.old }
 {
     let Some(number) = r.number else {
-        return Err(0);
+        return Err(None);
     };
     put_at(frames, at, r.count, number);
     Ok(Row {
@@ -37,7 +37,7 @@ fn row_ended(r: Row, frames: &mut [u32], at: u32) -> Result<Row, u32>
 }
 
 // One byte more.
-fn row_took(r: Row, frames: &mut [u32], at: u32, b: u8) -> Result<Row, u32>
+fn row_took(r: Row, frames: &mut [u32], at: u32, b: u8) -> Result<Row, Option<u32>>
     ensures { rowed result frames.new ≡ row_took at r frames.old b }
 {
     if b == b',' {
@@ -45,7 +45,7 @@ fn row_took(r: Row, frames: &mut [u32], at: u32, b: u8) -> Result<Row, u32>
     }
     let so_far = u64::from(r.number.unwrap_or(0));
     let Some(number) = with_digit(4294967295, Some(so_far), b) else {
-        return Err(r.count);
+        return Err(Some(r.count));
     };
     Ok(Row {
         number: Some(number as u32),
@@ -53,8 +53,8 @@ fn row_took(r: Row, frames: &mut [u32], at: u32, b: u8) -> Result<Row, u32>
     })
 }
 
-// The list that a word says, put into a list from a place on. Answers how many numbers it has; an error says how many had ended before a wrong byte, 0 where a number has no digit.
-pub fn row_of(word: &[u8], frames: &mut [u32], at: u32) -> Result<u32, u32>
+// The list that a word says, put into a list from a place on. Answers how many numbers it has; an error says how many had ended before a wrong byte, none where a number has no digit.
+pub fn row_of(word: &[u8], frames: &mut [u32], at: u32) -> Result<u32, Option<u32>>
     ensures value { result ≡ counted (row_of at frames.old word.now) }
     ensures frames_after { frames.new ≡ (row_of at frames.old word.now).frames }
 {
