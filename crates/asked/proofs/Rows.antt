@@ -67,13 +67,15 @@ row_wrong at k frames (b ∷ bs) frames' n e = ap (row_finished at) e
 -- ---- what row_of answers
 
 module _ {x : Rowed} {frames : List ℕ} where
-  pub count_is : {r : Row} → rowed (Ok r) frames ≡ x → Ok r.count ≡ counted x
+  pub count_either : {r : Result Row (Option ℕ)} → rowed r frames ≡ x → (elim r [ Ok r ↦ Ok r.count | Err n ↦ Err n ]) ≡ counted x
   unfolding counted
-  count_is e = ap counted e
+  count_either e = ap counted e
+
+  pub count_is : {r : Row} → rowed (Ok r) frames ≡ x → Ok r.count ≡ counted x
+  count_is = count_either
 
   pub count_wrong : {n : Option ℕ} → rowed (Err n) frames ≡ x → Err n ≡ counted x
-  unfolding counted
-  count_wrong e = ap counted e
+  count_wrong = count_either
 
   pub frames_are : {r : Result Row (Option ℕ)} → rowed r frames ≡ x → frames ≡ x.frames
   frames_are e = ap (λ (y : Rowed). y.frames) e
